@@ -1,0 +1,5 @@
+pub mod ContentText
+pub mod HexText
+pub mod Judged
+pub mod KnownReads
+pub mod SessionLemmas

@@ -1,0 +1,6 @@
+pub mod Block
+pub mod Content
+pub mod Lines
+pub mod Replay
+pub mod Served
+pub mod Session

@@ -1,0 +1,31 @@
+-- The hexadecimal text that is read, and the three lines that are printed.
+use Rattle.std.specs.Prelude.{ℕ, List, [], ◌∷◌, ◌++◌, Bool, not, ◌||◌, ◌==◌, Option, codes, decimal, filter}
+use Rattle.std.specs.Result.{result_ok}
+use Rattle.hex.specs.Hex.{decode_of, encode_lower}
+use Rattle.zmtp_wire.specs.Fault.{fault_number}
+use Rattle.jkernel.specs.declared.ending.Ending.{Ending}
+use Rattle.jkernel.specs.declared.ending.Ending.TheVariants.{Eof, Fault}
+
+-- Whether an octet is ASCII white space: a tab, a line feed, a form feed, a carriage return or a space.
+abbrev pub is_white_space : ℕ → Bool
+is_white_space octet = octet == 9 || octet == 10 || octet == 12 || octet == 13 || octet == 32
+
+-- A text with its white space taken out.
+abbrev pub without_white_space : List ℕ → List ℕ
+without_white_space text = filter (λ octet. not (is_white_space octet)) text
+
+-- The octets that a text spells, if all but its white space is an even number of hexadecimal digits.
+abbrev pub hex_octets : List ℕ → Option (List ℕ)
+hex_octets text = result_ok (decode_of (without_white_space text))
+
+-- The words for how a session ended: the peer sent its last octet, or broke the protocol, with the fault's number.
+abbrev pub ending_text : Ending → List ℕ
+ending_text Eof = codes "eof"
+ending_text (Fault fault) = codes "fault " ++ decimal (fault_number fault)
+
+-- The printed lines of a session: what the shell wrote and what was published, in lower-case digits, and how it ended.
+abbrev pub printed_lines : List ℕ → List ℕ → Ending → List ℕ
+printed_lines shell iopub ending =
+    codes "shell " ++ (encode_lower shell ++ 10 ∷
+    (codes "iopub " ++ (encode_lower iopub ++ 10 ∷
+    (codes "end " ++ (ending_text ending ++ 10 ∷ [])))))

@@ -1,0 +1,27 @@
+-- What a replay says of its input and output by its status.
+use Rattle.std.specs.Prelude.{◌≡◌, ℕ, List, [], Option, Some, None, IfSome, ⊤}
+use Rattle.std.specs.Io.KnownBytes.{Appends}
+use Rattle.jkernel.specs.declared.replay.Status.{Status}
+use Rattle.jkernel.specs.declared.replay.Status.TheVariants.{Done, Failed, InputRefused}
+use Rattle.jkernel.specs.Lines.{hex_octets}
+use Rattle.jkernel.specs.Session.{IsLines}
+
+-- the exit status of the program
+abbrev pub status_code : Status → ℕ
+status_code Done = 0
+status_code Failed = 1
+status_code InputRefused = 6
+
+-- All of the input was read, and its lines were added to the output.
+abbrev pub IsReplayed : List ℕ → Option (List ℕ) → Option (List ℕ) → Option (List ℕ) → Option (List ℕ) → Type 0
+IsReplayed key input left before after = IfSome input (λ octets. (left ≡ Some []) × ((output : List ℕ) × IsLines key octets output × Appends before after output))
+
+-- The input spells no octets.
+abbrev pub IsNotHex : Option (List ℕ) → Type 0
+IsNotHex input = IfSome input (λ octets. hex_octets octets ≡ None)
+
+-- what each status says, with what the reader and the writer hold before and after
+abbrev pub Replays : List ℕ → Option (List ℕ) → Option (List ℕ) → Option (List ℕ) → Option (List ℕ) → Status → Type 0
+Replays key input left before after Done = IsReplayed key input left before after
+Replays key input left before after Failed = ⊤
+Replays key input left before after InputRefused = IsNotHex input

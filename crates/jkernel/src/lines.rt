@@ -1,0 +1,118 @@
+//! The three lines that a session prints, and writing them out.
+
+ghost use Rattle.std.specs.Prelude.{◌≡◌, ◌++◌, IfOk, OnOk};
+ghost use Rattle.std.specs.Io.KnownBytes.{Appends};
+ghost use Rattle.hex.specs.Hex.{encode_lower};
+ghost use Rattle.jkernel.specs.Lines.{ending_text, printed_lines};
+
+use crate::ending::Ending;
+use std::alloc::{AllocError, Global};
+use std::io::{self, Write};
+
+/// Room for the words of the three lines: `shell `, `iopub `, `end fault 255` and three ends.
+const WORDS: usize = 28;
+
+/// Adds octets to a text, as lower-case digits.
+fn append_hex(text: &mut Vec<u8>, octets: &[u8]) -> Result<(), AllocError>
+    ensures { OnOk result (text.new.items ≡ text.old.items ++ encode_lower octets.now) }
+{
+    let start = text.len();
+    text.resize(start.saturating_add(octets.len().saturating_mul(2)), 0)?;
+    match hex::encode_to_slice(octets, &mut text[start..]) {
+        Ok(()) => Ok(()),
+        Err(_) => Err(AllocError),
+    }
+}
+
+/// Adds how a session ended to a text.
+fn append_ending(alloc: Global, text: &mut Vec<u8>, ending: Ending) -> Result<(), AllocError>
+    ensures { OnOk result (text.new.items ≡ text.old.items ++ ending_text ending) }
+{
+    match ending {
+        Ending::Eof => text.extend_from_slice(b"eof"),
+        Ending::Fault(fault) => {
+            text.extend_from_slice(b"fault ")?;
+            text.extend_from_slice(fault.number().to_string(alloc)?.as_bytes())
+        }
+    }
+}
+
+/// The lines of a session: what it wrote to the shell, what it published, and how it ended.
+pub fn lines_text(
+    alloc: Global,
+    shell: &[u8],
+    iopub: &[u8],
+    ending: Ending,
+) -> Result<Vec<u8>, AllocError>
+    ensures { IfOk result (λ text. text.items ≡ printed_lines shell.now iopub.now ending) }
+{
+    let octets = shell.len().saturating_add(iopub.len());
+    let room = octets.saturating_mul(2).saturating_add(WORDS);
+    let mut text = Vec::with_capacity(alloc, room)?;
+    text.extend_from_slice(b"shell ")?;
+    append_hex(&mut text, shell)?;
+    text.extend_from_slice(b"\niopub ")?;
+    append_hex(&mut text, iopub)?;
+    text.extend_from_slice(b"\nend ")?;
+    append_ending(alloc, &mut text, ending)?;
+    text.extend_from_slice(b"\n")?;
+    Ok(text)
+}
+
+/// Writes a text, all of it and nothing else, and flushes. Where it fails, a part may be written.
+pub fn write_out<W: Write>(writer: &mut W, text: &[u8]) -> io::Result<()>
+    ensures { OnOk result (Appends (W.contents writer.old) (W.contents writer.new) text.now) }
+{
+    writer.write_all(text)?;
+    writer.flush()
+}
+
+#[cfg(test)]
+mod tests {
+    use super::*;
+    use std::io::ErrorKind;
+    use std::test::Fail;
+    use zmtp_wire::WireFault;
+
+    /// Refuses each write.
+    #[derive(Drop)]
+    struct Closed;
+
+    impl Write for Closed {
+        fn write(&mut self, _buf: &[u8]) -> io::Result<usize> {
+            Err(io::Error::from(ErrorKind::BrokenPipe))
+        }
+
+        fn flush(&mut self) -> io::Result<()> {
+            Ok(())
+        }
+    }
+
+    #[test]
+    fn prints_a_session_that_broke_the_protocol(rt: HostRuntime) -> Result<(), Fail> {
+        let text = lines_text(rt.alloc(), b"\xab", b"", Ending::Fault(WireFault::Version))?;
+        assert!(rt; text.as_slice() == b"shell ab\niopub \nend fault 2\n".as_slice());
+        Ok(())
+    }
+
+    #[test]
+    fn prints_a_session_that_ended(rt: HostRuntime) -> Result<(), Fail> {
+        let text = lines_text(rt.alloc(), b"", b"\x00\xff", Ending::Eof)?;
+        assert!(rt; text.as_slice() == b"shell \niopub 00ff\nend eof\n".as_slice());
+        Ok(())
+    }
+
+    #[test]
+    fn writes_after_what_was_written(rt: HostRuntime) -> Result<(), Fail> {
+        let mut written = Vec::new(rt.alloc());
+        write_out(&mut written, b"end ")?;
+        write_out(&mut written, b"eof\n")?;
+        assert!(rt; written.as_slice() == b"end eof\n".as_slice());
+        Ok(())
+    }
+
+    #[test]
+    fn fails_where_a_write_fails(rt: HostRuntime) {
+        assert!(rt; write_out(&mut Closed, b"end eof\n").is_err());
+    }
+}

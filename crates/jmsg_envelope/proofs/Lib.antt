@@ -1,0 +1,5 @@
+pub mod Delimiters
+pub mod Cuts
+pub mod HexCase
+pub mod Uniqueness
+pub mod Names

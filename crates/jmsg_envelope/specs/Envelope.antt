@@ -1,0 +1,119 @@
+-- The frames of a message on the wire ('Messaging in Jupyter' 5.3, "The Wire Protocol").
+use Rattle.std.specs.Prelude.{◌≡◌, ◌≢◌, ◌⊎◌, ◌<◌, ℕ, List, [], ◌∷◌, ◌++◌, length, map, codes, Contains, Some, None}
+use Rattle.std.specs.Char.{to_ascii_lowercase}
+use Rattle.hex.specs.Hex.{encode_lower}
+use Rattle.jmsg_envelope.specs.Hmac.{hmac}
+use Rattle.jmsg_envelope.specs.Header.{header_names}
+use Rattle.jmsg_envelope.specs.declared.envelope.Envelope.{Envelope}
+use Rattle.jmsg_envelope.specs.declared.fault.EnvelopeFault.{EnvelopeFault}
+use Rattle.jmsg_envelope.specs.declared.fault.EnvelopeFault.TheVariants.{NoDelimiter, TooFewParts, BadSignature, BadHeader, OutOfMemory}
+
+-- the frame between the identities and the signature
+abbrev pub delimiter : List ℕ
+delimiter = codes "<IDS|MSG>"
+
+-- the parts of a message, in the order of its frames; the delimiter stands after the identities
+pub record Parts : Type 0 where
+  pub identities : List (List ℕ)
+  pub signature : List ℕ
+  pub header : List ℕ
+  pub parent : List ℕ
+  pub metadata : List ℕ
+  pub content : List ℕ
+  pub buffers : List (List ℕ)
+
+-- the frames that parts are sent as
+abbrev pub joined : Parts → List (List ℕ)
+joined p = p.identities ++ delimiter ∷ p.signature ∷ p.header ∷ p.parent ∷ p.metadata ∷ p.content ∷ p.buffers
+
+-- the octets that the signature is over: the four parts as they stand, and no buffer
+abbrev pub signed_octets : Parts → List ℕ
+signed_octets p = p.header ++ p.parent ++ p.metadata ++ p.content
+
+-- the signature of octets under a key: none under an empty key, and else their authentication code in lower case hex
+abbrev pub signature : List ℕ → List ℕ → List ℕ
+signature [] octets = []
+signature (first ∷ rest) octets = encode_lower (hmac (first ∷ rest) octets)
+
+-- the parts of a message that is signed under a key
+abbrev pub sealed_parts : List ℕ → List (List ℕ) → List ℕ → List ℕ → List ℕ → List ℕ → List (List ℕ) → Parts
+sealed_parts key prefix header parent metadata content buffers = record {
+  identities = prefix;
+  signature = signature key (header ++ parent ++ metadata ++ content);
+  header = header;
+  parent = parent;
+  metadata = metadata;
+  content = content;
+  buffers = buffers;
+}
+
+-- the frames of a message that is signed under a key, behind a prefix
+abbrev pub sealed : List ℕ → List (List ℕ) → List ℕ → List ℕ → List ℕ → List ℕ → List (List ℕ) → List (List ℕ)
+sealed key prefix header parent metadata content buffers =
+    joined (sealed_parts key prefix header parent metadata content buffers)
+
+-- the frames are these parts, cut at the first frame that equals the delimiter
+pub record IsSplit (frames : List (List ℕ)) (parts : Parts) : Type 0 where
+  pub whole : frames ≡ joined parts
+  pub first : ¬ Contains parts.identities delimiter
+
+-- hex digits in lower case
+abbrev pub lower_case : List ℕ → List ℕ
+lower_case digits = map to_ascii_lowercase digits
+
+-- the signature is right under the key, in either case of hex digits; under an empty key any is
+abbrev pub IsSigned : List ℕ → Parts → Type 0
+IsSigned key parts = (key ≡ []) ⊎ (lower_case parts.signature ≡ encode_lower (hmac key (signed_octets parts)))
+
+-- the signature is wrong under the key, which isn't empty
+pub record IsMissigned (key : List ℕ) (parts : Parts) : Type 0 where
+  pub keyed : key ≢ []
+  pub differs : lower_case parts.signature ≢ encode_lower (hmac key (signed_octets parts))
+
+-- the parts of which an envelope keeps all but the signature
+abbrev pub parts_with : List ℕ → Envelope → Parts
+parts_with digits e = record {
+  identities = e.identities;
+  signature = digits;
+  header = e.header;
+  parent = e.parent;
+  metadata = e.metadata;
+  content = e.content;
+  buffers = e.buffers;
+}
+
+-- the frames are a message, rightly signed under the key, and the envelope has its parts and the id and type that its header names
+pub record Opened (key : List ℕ) (frames : List (List ℕ)) (e : Envelope) : Type 0 where
+  pub digits : List ℕ
+  pub split : IsSplit frames (parts_with digits e)
+  pub signed : IsSigned key (parts_with digits e)
+  pub named : header_names e.header ≡ Some (e.msg_id, e.msg_type)
+
+-- fewer than five frames follow the first delimiter
+pub record IsTooShort (frames : List (List ℕ)) : Type 0 where
+  pub identities : List (List ℕ)
+  pub after : List (List ℕ)
+  pub whole : frames ≡ identities ++ delimiter ∷ after
+  pub first : ¬ Contains identities delimiter
+  pub few : length after < 5
+
+-- the frames are a message with a wrong signature
+pub record HasBadSignature (key : List ℕ) (frames : List (List ℕ)) : Type 0 where
+  pub parts : Parts
+  pub split : IsSplit frames parts
+  pub missigned : IsMissigned key parts
+
+-- the frames are a message with a right signature, whose header names no id or no type
+pub record HasBadHeader (key : List ℕ) (frames : List (List ℕ)) : Type 0 where
+  pub parts : Parts
+  pub split : IsSplit frames parts
+  pub signed : IsSigned key parts
+  pub nameless : header_names parts.header ≡ None
+
+-- what each fault says of the frames; want of memory is no fault of theirs
+abbrev pub IsRefused : List ℕ → List (List ℕ) → EnvelopeFault → Type 0
+IsRefused key frames NoDelimiter = ¬ Contains frames delimiter
+IsRefused key frames TooFewParts = IsTooShort frames
+IsRefused key frames BadSignature = HasBadSignature key frames
+IsRefused key frames BadHeader = HasBadHeader key frames
+IsRefused key frames OutOfMemory = ⊥

@@ -1,0 +1,34 @@
+-- The header of a message ('Messaging in Jupyter' 5.3, "General Message Format"): what is read of it, and the one that is written.
+use Rattle.std.specs.Prelude.{ℕ, List, codes, Option, None, option_map, option_and_then, if◌then◌else◌}
+use Rattle.std.specs.Str.{is_utf8}
+use Rattle.serde_json.specs.Data.{Data, string, object, member, no_members}
+use Rattle.serde_json.specs.Read.{read}
+use Rattle.serde_json.specs.Find.{get, as_str}
+use Rattle.serde_json.specs.Written.{compact_text}
+
+-- the text under a key, where the value is an object that has a text there
+abbrev pub text_at : List ℕ → Data → Option (List ℕ)
+text_at key value = option_and_then as_str (get key value)
+
+-- the message's id and its type, where the value is an object that has both as texts
+abbrev pub names_of : Data → Option (List ℕ × List ℕ)
+names_of value = option_and_then (λ id. option_map (λ kind. (id, kind)) (text_at (codes "msg_type") value)) (text_at (codes "msg_id") value)
+
+-- the message's id and its type in a header's octets, where these are JSON in UTF-8 (RFC 8259, section 8.1)
+-- that is an object and has both as texts
+abbrev pub header_names : List ℕ → Option (List ℕ × List ℕ)
+header_names octets = if is_utf8 octets then option_and_then names_of (read octets) else None
+
+-- a header as an object: when and by which session which message was made, and that the kernel made it
+abbrev pub header_data : List ℕ → List ℕ → List ℕ → List ℕ → Data
+header_data session id date msg_type =
+    object (member (codes "date") (string date)
+    (member (codes "msg_id") (string id)
+    (member (codes "msg_type") (string msg_type)
+    (member (codes "session") (string session)
+    (member (codes "username") (string (codes "kernel"))
+    (member (codes "version") (string (codes "5.3")) no_members))))))
+
+-- the header's octets, with no space between its parts
+abbrev pub header_octets : List ℕ → List ℕ → List ℕ → List ℕ → List ℕ
+header_octets session id date msg_type = compact_text (header_data session id date msg_type)

@@ -1,0 +1,40 @@
+-- What follows from the definitions of opening and sealing.
+use Rattle.std.specs.Prelude.{◌≡◌, ℕ, List, Contains, Some}
+use Rattle.jmsg_envelope.specs.Envelope.{Opened, IsRefused, delimiter, sealed}
+use Rattle.jmsg_envelope.specs.Header.{header_names}
+use Rattle.jmsg_envelope.specs.declared.envelope.Envelope.{Envelope}
+use Rattle.jmsg_envelope.specs.declared.fault.EnvelopeFault.{EnvelopeFault}
+
+-- no frames are refused under a key and opened under it
+abbrev pub RefusedIsNotOpened : Type 0
+RefusedIsNotOpened =
+    (key : List ℕ) (frames : List (List ℕ)) (e : Envelope) (fault : EnvelopeFault)
+    → IsRefused key frames fault → Opened key frames e → ⊥
+
+-- frames are refused for one reason
+abbrev pub RefusedOnce : Type 0
+RefusedOnce =
+    (key : List ℕ) (frames : List (List ℕ)) (fault other : EnvelopeFault)
+    → IsRefused key frames fault → IsRefused key frames other → fault ≡ other
+
+-- frames are opened as one envelope
+abbrev pub OpenedOnce : Type 0
+OpenedOnce =
+    (key : List ℕ) (frames : List (List ℕ)) (e other : Envelope)
+    → Opened key frames e → Opened key frames other → e ≡ other
+
+-- what is sealed behind identities, with a header that names an id and a type, is opened under the same key as what it was made of
+abbrev pub SealedIsOpened : Type 0
+SealedIsOpened =
+    (key : List ℕ) (prefix : List (List ℕ)) (header parent metadata content : List ℕ) (buffers : List (List ℕ)) (id kind : List ℕ)
+    → ¬ Contains prefix delimiter → header_names header ≡ Some (id, kind)
+    → Opened key (sealed key prefix header parent metadata content buffers) record {
+      identities = prefix;
+      header = header;
+      msg_id = id;
+      msg_type = kind;
+      parent = parent;
+      metadata = metadata;
+      content = content;
+      buffers = buffers;
+    }

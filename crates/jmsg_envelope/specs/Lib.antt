@@ -1,0 +1,15 @@
+pub use Rattle.hex.specs.Hex
+pub use Rattle.listed.specs.Bodies
+pub use Rattle.serde_json.specs.Data
+pub use Rattle.serde_json.specs.Find
+pub use Rattle.serde_json.specs.Read
+pub use Rattle.serde_json.specs.View
+pub use Rattle.serde_json.specs.Written
+pub use Rattle.sha2.specs.Sha256
+pub mod Hmac
+pub mod Fault
+pub mod Header
+pub mod Envelope
+pub mod Stamp
+pub mod Laws
+pub mod Split

@@ -1,0 +1,22 @@
+-- What a source of message ids and dates stands for.
+use Rattle.std.specs.Prelude.{◌≡◌, ◌<◌, ◌^◌, ◌++◌, ℕ, List, decimal}
+use Rattle.std.proofs.lemmas.Fmt.{decimal_injective}
+use Rattle.std.proofs.lemmas.List.{append_cancel_left}
+
+-- the data of a stamp that no call changes: the session's text, and the text that its ids are made of
+pub record StampMeaning : Type 0 where
+  pub session : List ℕ
+  pub label : List ℕ
+
+-- ids of one stamp differ: two numbers below 2 ^ 64 with the same id are the same number
+abbrev pub IdsDiffer : (StampMeaning → ℕ → List ℕ) → Type 0
+IdsDiffer id_text = (m : StampMeaning) (i j : ℕ) → i < 2 ^ 64 → j < 2 ^ 64 → id_text m i ≡ id_text m j → i ≡ j
+
+-- ids that are the label and then the number in decimal digits
+abbrev pub numbered : StampMeaning → ℕ → List ℕ
+numbered m n = m.label ++ decimal n
+
+-- such ids differ
+pub numbered-differ : IdsDiffer numbered
+numbered-differ m i j below_i below_j same =
+    decimal_injective i j below_i below_j (append_cancel_left m.label (decimal i) (decimal j) same)

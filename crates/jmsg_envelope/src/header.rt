@@ -1,0 +1,85 @@
+ghost use Rattle.std.specs.Prelude.{◌≡◌, ◌⊎◌, Some, None, IfOk, IfErr, option_map};
+ghost use Rattle.jmsg_envelope.specs.Header.{header_data, header_names, header_octets, names_of, text_at};
+ghost use Rattle.serde_json.specs.View.{view};
+
+use crate::EnvelopeFault;
+use listed::Text;
+use serde_json::{Value, json};
+use std::alloc::{AllocError, Global};
+
+/// The octets of a header that the kernel writes ('Messaging in Jupyter' 5.3, "General Message
+/// Format"): a JSON object with its keys in the order of their octets and no space.
+///
+/// # Errors
+///
+/// `OutOfMemory` alone.
+pub fn header_text(
+    alloc: Global,
+    session: &str,
+    id: &str,
+    date: &str,
+    msg_type: &str,
+) -> Result<Vec<u8>, EnvelopeFault>
+    ensures text { IfOk result
+        (λ text. text.items ≡ header_octets session.now id.now date.now msg_type.now) }
+    ensures memory { IfErr result (λ fault. fault ≡ EnvelopeFault.OutOfMemory) }
+{
+    let text = header_value(alloc, session, id, date, msg_type)?.to_string(alloc)?;
+    Ok(text.into_bytes())
+}
+
+fn header_value(
+    alloc: Global,
+    session: &str,
+    id: &str,
+    date: &str,
+    msg_type: &str,
+) -> Result<Value, AllocError>
+    ensures { IfOk result
+        (λ header. view header ≡ header_data session.now id.now date.now msg_type.now) }
+{
+    json!(in alloc; {
+        "date": date,
+        "msg_id": id,
+        "msg_type": msg_type,
+        "session": session,
+        "username": "kernel",
+        "version": "5.3"
+    })
+}
+
+/// The id and the type that a header names.
+pub(crate) fn read_names(alloc: Global, octets: &[u8]) -> Result<(Text, Text), EnvelopeFault>
+    ensures ok { IfOk result (λ names. header_names octets.now ≡ Some names) }
+    ensures err { IfErr result (λ fault. (fault ≡ EnvelopeFault.OutOfMemory)
+        ⊎ ((fault ≡ EnvelopeFault.BadHeader) × (header_names octets.now ≡ None))) }
+{
+    let header = read_header(alloc, octets)?;
+    let Some(id) = text_under(&header, "msg_id") else {
+        return Err(EnvelopeFault::BadHeader);
+    };
+    let Some(kind) = text_under(&header, "msg_type") else {
+        return Err(EnvelopeFault::BadHeader);
+    };
+    let id = String::from_str(alloc, id)?;
+    let kind = String::from_str(alloc, kind)?;
+    Ok((Text::new(id), Text::new(kind)))
+}
+
+fn read_header(alloc: Global, octets: &[u8]) -> Result<Value, EnvelopeFault>
+    ensures ok { IfOk result (λ header. header_names octets.now ≡ names_of (view header)) }
+    ensures err { IfErr result (λ fault. (fault ≡ EnvelopeFault.OutOfMemory)
+        ⊎ ((fault ≡ EnvelopeFault.BadHeader) × (header_names octets.now ≡ None))) }
+{
+    match Value::from_slice(alloc, octets) {
+        Ok(header) => Ok(header),
+        Err(refusal) if refusal.is_memory() => Err(EnvelopeFault::OutOfMemory),
+        Err(_) => Err(EnvelopeFault::BadHeader),
+    }
+}
+
+fn text_under<'v>(header: &'v Value, key: &str) -> Option<&'v str>
+    ensures { option_map (λ text. text.now) result ≡ text_at key.now (view header.now) }
+{
+    header.get(key).and_then(Value::as_str)
+}

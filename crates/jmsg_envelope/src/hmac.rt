@@ -1,0 +1,57 @@
+ghost use Rattle.std.specs.Prelude.{◌≡◌, ◌≤◌, length, flat_map};
+ghost use Rattle.jmsg_envelope.specs.Hmac.{hmac, key_block, zero_padded, xored, block_length};
+
+use sha2::{Digest, Sha256};
+
+const BLOCK_LENGTH: usize = 64;
+
+const INNER_PAD: u8 = 0x36;
+
+const OUTER_PAD: u8 = 0x5C;
+
+/// The HMAC-SHA256 of the parts, joined in their order, under `key` (RFC 2104, section 2).
+///
+/// It takes no memory.
+pub fn hmac_sha256(key: &[u8], parts: &[&[u8]]) -> [u8; 32]
+    ensures { result ≡ hmac key.now (flat_map (λ part. part.now) parts.now) }
+{
+    let block = block_of_key(key);
+    let mut inner = Sha256::new();
+    inner.update(masked(&block, INNER_PAD));
+    for part in parts {
+        inner.update(*part);
+    }
+    let mut outer = Sha256::new();
+    outer.update(masked(&block, OUTER_PAD));
+    outer.update(inner.finalize());
+    outer.finalize()
+}
+
+fn block_of_key(key: &[u8]) -> [u8; BLOCK_LENGTH]
+    ensures { result ≡ key_block key.now }
+{
+    if key.len() > BLOCK_LENGTH {
+        padded(&Sha256::digest(key))
+    } else {
+        padded(key)
+    }
+}
+
+fn padded(key: &[u8]) -> [u8; BLOCK_LENGTH]
+    requires { length key.now ≤ block_length }
+    ensures { result ≡ zero_padded key.now }
+{
+    let mut block = [0; BLOCK_LENGTH];
+    block[..key.len()].copy_from_slice(key);
+    block
+}
+
+fn masked(block: &[u8; BLOCK_LENGTH], pad: u8) -> [u8; BLOCK_LENGTH]
+    ensures { result ≡ xored pad block.now }
+{
+    let mut keyed = *block;
+    for octet in keyed.iter_mut() {
+        *octet ^= pad;
+    }
+    keyed
+}

@@ -1,0 +1,53 @@
+ghost use Rattle.std.specs.Prelude.{◌≡◌, ◌++◌, ◌↔◌, [], IsTrue};
+ghost use Rattle.hex.specs.Hex.{encode_lower};
+ghost use Rattle.jmsg_envelope.specs.Hmac.{hmac};
+
+use crate::hmac::hmac_sha256;
+use std::marker::Model;
+
+/// What messages are signed with and signatures are tested with: a contract sees the octets of its key.
+///
+/// Under an empty key nothing is signed and no signature is looked at.
+#[derive(Drop)]
+pub struct Signer {
+    key: Vec<u8>,
+}
+
+impl Model for Signer {
+    ghost use Rattle.std.specs.Prelude.{ℕ, List};
+
+    ghost Value = { List ℕ };
+
+    ghost view = { λ signer. signer.key.items };
+}
+
+impl Signer {
+    /// A signer with this key, without a copy.
+    pub fn new(key: Vec<u8>) -> Signer
+        ensures { result ≡ key.items }
+    {
+        Signer { key }
+    }
+
+    pub(crate) fn is_keyless(&self) -> bool
+        ensures { IsTrue result ↔ (self.now ≡ []) }
+    {
+        self.key.is_empty()
+    }
+
+    // The hex digits of the authentication code of the four parts, joined.
+    pub(crate) fn digits_of(
+        &self,
+        header: &[u8],
+        parent: &[u8],
+        metadata: &[u8],
+        content: &[u8],
+    ) -> [u8; 64]
+        ensures { result ≡ encode_lower (hmac self.now (header.now ++ parent.now ++ metadata.now ++ content.now)) }
+    {
+        let code = hmac_sha256(&self.key, &[header, parent, metadata, content]);
+        let mut digits = [0; 64];
+        hex::encode_to_slice(code, &mut digits).unwrap();
+        digits
+    }
+}

@@ -1,0 +1,200 @@
+use super::*;
+use std::alloc::{AllocError, Global};
+use std::test::Fail;
+
+const WANTED: &[u8] = b"what do ya want for nothing?";
+
+const HEADER: &[u8] = b"{\"msg_id\":\"a1\",\"msg_type\":\"kernel_info_request\"}";
+
+// The code of `HEADER` and three times `{}` under the key `secret`.
+const DIGITS: &[u8] = b"0d95933f4e109d19e2d8a8a169142cdd5cc6564ee7ef081b5ccc30ba04258a90";
+
+const UPPER_DIGITS: &[u8] = b"0D95933F4E109D19E2D8A8A169142CDD5CC6564EE7EF081B5CCC30BA04258A90";
+
+const WRONG_DIGITS: &[u8] = b"1d95933f4e109d19e2d8a8a169142cdd5cc6564ee7ef081b5ccc30ba04258a90";
+
+// RFC 4231, sections 4.2 and 4.3, and keys of one block and of one octet more.
+#[test]
+fn codes_of_known_texts(rt: HostRuntime) {
+    let short: [u8; 4] = *b"Jefe";
+    let mut long = [0u8; 65];
+    long[..4].copy_from_slice(&short);
+    let known: [(&[u8], &[&[u8]], &[u8]); 5] = [
+        (
+            &[0x0b; 20],
+            &[b"Hi There"],
+            b"b0344c61d8db38535ca8afceaf0bf12b881dc200c9833da726e9376c2e32cff7",
+        ),
+        (
+            &short,
+            &[WANTED],
+            b"5bdcc146bf60754e6a042426089575c75a003f089d2739839dec58b964ec3843",
+        ),
+        (
+            &short,
+            &[b"what do ya ", b"", b"want for", b" nothing?"],
+            b"5bdcc146bf60754e6a042426089575c75a003f089d2739839dec58b964ec3843",
+        ),
+        (
+            &long[..64],
+            &[WANTED],
+            b"5bdcc146bf60754e6a042426089575c75a003f089d2739839dec58b964ec3843",
+        ),
+        (
+            &long,
+            &[WANTED],
+            b"e085788c5089beb9c57df5e0fc56cfd327c917ffb5bb245b94a8e64730f695b5",
+        ),
+    ];
+    for (key, parts, digits) in known {
+        let mut written = [0u8; 64];
+        let fits = hex::encode_to_slice(hmac_sha256(key, parts), &mut written).is_ok();
+        assert!(rt; fits);
+        assert_eq!(rt; written.as_slice(), digits);
+    }
+}
+
+fn frames_of(alloc: Global, bodies: &[&[u8]]) -> Result<Vec<Vec<u8>>, AllocError> {
+    let mut frames = Vec::new(alloc);
+    for body in bodies {
+        frames.push(body.to_vec(alloc)?)?;
+    }
+    Ok(frames)
+}
+
+#[test]
+fn what_is_sealed_is_opened(rt: HostRuntime) -> Result<(), Fail> {
+    let alloc = rt.alloc();
+    let signer = Signer::new(b"secret".to_vec(alloc)?);
+    let frames = seal(
+        alloc,
+        &signer,
+        frames_of(alloc, &[b"peer"])?,
+        HEADER.to_vec(alloc)?,
+        b"{}".to_vec(alloc)?,
+        b"{}".to_vec(alloc)?,
+        b"{}".to_vec(alloc)?,
+        frames_of(alloc, &[b"<IDS|MSG>"])?,
+    )?;
+    let wanted: [&[u8]; 8] = [
+        b"peer",
+        b"<IDS|MSG>",
+        DIGITS,
+        HEADER,
+        b"{}",
+        b"{}",
+        b"{}",
+        b"<IDS|MSG>",
+    ];
+    assert_eq!(rt; frames.len(), wanted.len());
+    for (frame, body) in frames.iter().zip(wanted) {
+        assert_eq!(rt; frame.as_slice(), body);
+    }
+    let envelope = open_envelope(alloc, &signer, frames)?;
+    assert_eq!(rt; envelope.identities.len(), 1);
+    assert_eq!(rt; envelope.msg_id.as_str(), "a1");
+    assert_eq!(rt; envelope.msg_type.as_str(), "kernel_info_request");
+    assert_eq!(rt; envelope.header.as_slice(), HEADER);
+    assert_eq!(rt; envelope.content.as_slice(), b"{}".as_slice());
+    assert_eq!(rt; envelope.buffers.len(), 1);
+    Ok(())
+}
+
+#[test]
+fn frames_are_judged(rt: HostRuntime) -> Result<(), Fail> {
+    let alloc = rt.alloc();
+    let signer = Signer::new(b"secret".to_vec(alloc)?);
+    let keyless = Signer::new(Vec::new(alloc));
+    let judged: [(&Signer, &[&[u8]], u8); 8] = [
+        (
+            &signer,
+            &[b"<IDS|MSG>", DIGITS, HEADER, b"{}", b"{}", b"{}"],
+            0,
+        ),
+        (
+            &signer,
+            &[b"<IDS|MSG>", UPPER_DIGITS, HEADER, b"{}", b"{}", b"{}"],
+            0,
+        ),
+        (&keyless, &[b"<IDS|MSG>", b"any", HEADER, b"", b"", b""], 0),
+        (&signer, &[DIGITS, HEADER, b"{}", b"{}", b"{}"], 20),
+        (&signer, &[b"<IDS|MSG>", DIGITS, HEADER, b"{}", b"{}"], 21),
+        (
+            &signer,
+            &[b"<IDS|MSG>", WRONG_DIGITS, HEADER, b"{}", b"{}", b"{}"],
+            22,
+        ),
+        (
+            &keyless,
+            &[b"<IDS|MSG>", b"", b"[]", b"{}", b"{}", b"{}"],
+            23,
+        ),
+        (
+            &keyless,
+            &[
+                b"<IDS|MSG>",
+                b"",
+                b"{\"msg_id\":\"a1\",\"msg_type\":1}",
+                b"{}",
+                b"{}",
+                b"{}",
+            ],
+            23,
+        ),
+    ];
+    for (signer, bodies, number) in judged {
+        let found = match open_envelope(alloc, signer, frames_of(alloc, bodies)?) {
+            Ok(_) => 0,
+            Err(fault) => fault.number(),
+        };
+        assert_eq!(rt; found, number);
+    }
+    assert_eq!(rt; EnvelopeFault::OutOfMemory.number(), 24);
+    Ok(())
+}
+
+#[test]
+fn the_laws_hold() {
+    refused_is_not_opened();
+    refused_once();
+    opened_once();
+    sealed_is_opened();
+}
+
+#[derive(Drop)]
+struct Replay;
+
+impl Stamp for Replay {
+    ghost use Rattle.std.specs.Prelude.{bytes_eq, codes};
+    ghost use Rattle.jmsg_envelope.specs.Stamp.{numbered, numbered-differ};
+
+    ghost meaning = { λ _. record { session = codes "replay"; label = codes "replay_s" } };
+
+    ghost id_text = { numbered };
+
+    ghost is_date = { λ _ date. bytes_eq date (codes "2000-01-01T00:00:00.000000Z") };
+
+    ghost ids_differ = { numbered-differ };
+
+    fn session(&self) -> &str {
+        "replay"
+    }
+
+    fn id(&self, alloc: Global, n: u64) -> Result<String, AllocError> {
+        format!(in alloc; "replay_s{n}")
+    }
+
+    fn date(&mut self, alloc: Global) -> Result<String, AllocError> {
+        String::from_str(alloc, "2000-01-01T00:00:00.000000Z")
+    }
+}
+
+#[test]
+fn header_by_a_stamp(rt: HostRuntime) -> Result<(), Fail> {
+    let text = stamped_header(rt.alloc(), &mut Replay, 4, "kernel_info_reply")?;
+    assert_eq!(rt;
+        text.as_slice(),
+        b"{\"date\":\"2000-01-01T00:00:00.000000Z\",\"msg_id\":\"replay_s4\",\"msg_type\":\"kernel_info_reply\",\"session\":\"replay\",\"username\":\"kernel\",\"version\":\"5.3\"}".as_slice()
+    );
+    Ok(())
+}

@@ -1,0 +1,7 @@
+-- The bodies of frames, without where they lie in memory.
+use Rattle.std.specs.Prelude.{ℕ, List, map}
+use Rattle.std.specs.Global.{Vec}
+
+-- the octets of each frame, in order
+abbrev pub bodies : List (Vec ℕ) → List (List ℕ)
+bodies frames = map (λ frame. frame.items) frames

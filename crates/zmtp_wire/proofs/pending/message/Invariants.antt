@@ -1,0 +1,8 @@
+use Rattle.std.proofs.Common.{◌≡◌, ◌++◌}
+use Rattle.std.specs.Vec.Iter.{into_iter_items}
+use Rattle.listed.specs.Bodies.{bodies}
+use Rattle.zmtp_wire.specs.Frame.{bodies_of}
+use Rattle.zmtp_wire.proofs.pending.message.Given as goal
+
+abbrev pub invariant-loop-frame : goal.invariant-loop-frame
+invariant-loop-frame l = bodies l.bodies.items ++ bodies_of (into_iter_items l.frame-iterator) ≡ bodies_of l.fn.frames.items

@@ -1,0 +1,9 @@
+pub mod Decoding
+pub mod Fault
+pub mod Frame
+pub mod Grammar
+pub mod Greeting
+pub mod Lengths
+pub mod Pending
+pub mod Ready
+pub mod SocketType

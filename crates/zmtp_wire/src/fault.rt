@@ -1,0 +1,85 @@
+ghost use Rattle.std.specs.Prelude.{◌≡◌};
+ghost use Rattle.zmtp_wire.specs.Fault.{fault_number};
+ghost use Rattle.zmtp_wire.specs.declared.fault.WireFault.TheVariants.{OutOfMemory};
+
+use std::alloc::{AllocError, AllocFailed};
+use thiserror::Error;
+
+/// Why a peer's octets are refused, or why the wire can't go on.
+#[derive(Clone, Copy, Debug, PartialEq, Eq, Error)]
+pub enum WireFault {
+    /// The greeting's signature isn't `FF`, eight octets of padding, `7F`.
+    #[error("the greeting has no ZMTP signature")]
+    Signature,
+    /// The greeting's major version is below 3.
+    #[error("the peer speaks a version of ZMTP before 3.0")]
+    Version,
+    /// The greeting's mechanism isn't NULL.
+    #[error("the peer's security mechanism is not NULL")]
+    Mechanism,
+    /// A flags octet has a reserved bit, MORE with COMMAND, or COMMAND inside a message.
+    #[error("a frame's flags are refused")]
+    Flags,
+    /// A frame is longer than the limit.
+    #[error("a frame is too long")]
+    FrameTooLong,
+    /// A message has more frames than the limit.
+    #[error("a message has too many frames")]
+    TooManyFrames,
+    /// The bodies of a message's frames are together longer than the limit.
+    #[error("a message is too long")]
+    MessageTooLong,
+    /// A command's body is malformed, or it isn't the command that is due.
+    #[error("a command is malformed or out of place")]
+    Command,
+    /// The peer's socket type doesn't pair with ours.
+    #[error("the peer's socket type does not pair")]
+    Pairing,
+    /// The peer sent the command ERROR.
+    #[error("the peer reported an error")]
+    PeerError,
+    /// An earlier fault ended the reading.
+    #[error("the connection was refused before")]
+    Spent,
+    /// No memory was left.
+    #[error("out of memory")]
+    OutOfMemory,
+}
+
+impl WireFault {
+    /// The number of the fault, from 1 on in the order of the variants.
+    pub fn number(self) -> u8
+        ensures { result ≡ fault_number self }
+    {
+        match self {
+            WireFault::Signature => 1,
+            WireFault::Version => 2,
+            WireFault::Mechanism => 3,
+            WireFault::Flags => 4,
+            WireFault::FrameTooLong => 5,
+            WireFault::TooManyFrames => 6,
+            WireFault::MessageTooLong => 7,
+            WireFault::Command => 8,
+            WireFault::Pairing => 9,
+            WireFault::PeerError => 10,
+            WireFault::Spent => 11,
+            WireFault::OutOfMemory => 12,
+        }
+    }
+}
+
+impl From<AllocError> for WireFault {
+    ghost from_gives = { λ _ e. e ≡ OutOfMemory };
+
+    fn from(_e: AllocError) -> WireFault {
+        WireFault::OutOfMemory
+    }
+}
+
+impl<T: Drop> From<AllocFailed<T>> for WireFault {
+    ghost from_gives = { λ _ e. e ≡ OutOfMemory };
+
+    fn from(_e: AllocFailed<T>) -> WireFault {
+        WireFault::OutOfMemory
+    }
+}

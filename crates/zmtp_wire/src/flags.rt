@@ -1,0 +1,45 @@
+ghost use Rattle.std.specs.Prelude.{◌≡◌, ◌≤◌, IfSome, IfNone};
+ghost use Rattle.zmtp_wire.specs.Frame.{flags_octet};
+
+/// What the flags octet of a frame says.
+#[derive(Clone, Copy, Debug)]
+pub struct Flags {
+    /// Another frame of the message follows.
+    pub more: bool,
+    /// The size has eight octets.
+    pub long: bool,
+    /// The frame is a command.
+    pub command: bool,
+}
+
+const MORE: u8 = 1;
+
+const LONG: u8 = 2;
+
+const COMMAND: u8 = 4;
+
+impl Flags {
+    /// What the octet says, or nothing where a reserved bit is set.
+    pub fn read(octet: u8) -> Option<Flags>
+        ensures known { IfSome result (λ flags. octet ≡ flags_octet flags.more flags.long flags.command) }
+        ensures reserved { IfNone result (8 ≤ octet) }
+    {
+        if octet > MORE + LONG + COMMAND {
+            return None;
+        }
+        Some(Flags {
+            more: octet % 2 == 1,
+            long: octet / 2 % 2 == 1,
+            command: octet / 4 == 1,
+        })
+    }
+
+    /// The octet that says so.
+    pub fn octet(self) -> u8
+        ensures { result ≡ flags_octet self.more self.long self.command }
+    {
+        (if self.more { MORE } else { 0 })
+            + (if self.long { LONG } else { 0 })
+            + (if self.command { COMMAND } else { 0 })
+    }
+}

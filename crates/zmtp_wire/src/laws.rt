@@ -1,0 +1,42 @@
+//! Laws of the grammar of frames, which rest on its definitions alone. Each is the contract of a function
+//! that does nothing.
+ghost use Rattle.std.specs.Prelude.{◌≡◌, ◌≢◌, ℕ, ◌<◌, ◌^◌, List, [], ◌∷◌, ◌++◌};
+ghost use Rattle.std.specs.List.{flat_map};
+ghost use Rattle.zmtp_wire.specs.declared.limits.Limits.{Limits};
+ghost use Rattle.zmtp_wire.specs.declared.traffic.Traffic.{Traffic};
+ghost use Rattle.zmtp_wire.specs.declared.traffic.Traffic.TheVariants.{Message};
+ghost use Rattle.zmtp_wire.specs.Frame.{text};
+ghost use Rattle.zmtp_wire.specs.Grammar.{IsWithin, Spells, ReadsUpTo, HasNoTraffic, IsFaulty, IsUnfinished};
+ghost use Rattle.zmtp_wire.specs.Decoding.{FeedsInTurn};
+ghost use Rattle.zmtp_wire.specs.declared.fault.WireFault.{WireFault};
+
+/// No octets are read in two ways: up to a rest that begins with no whole traffic, the traffic and the rest
+/// are these and no others.
+pub fn one_reading()
+    ensures { (limits : Limits) (octets : List ℕ) (one other : List Traffic) (rest others : List ℕ)
+        → ReadsUpTo limits octets one rest → HasNoTraffic limits rest
+        → ReadsUpTo limits octets other others → HasNoTraffic limits others
+        → (one ≡ other) × (rest ≡ others) }
+{}
+
+/// The cutting doesn't matter: what feeds in turn read of their pieces is read of the pieces joined.
+pub fn any_cutting()
+    ensures { (limits : Limits) (kept last : List ℕ) (feeds : List (List ℕ × List Traffic))
+        → FeedsInTurn limits kept feeds last
+        → ReadsUpTo limits (kept ++ flat_map (λ feed. feed.0) feeds) (flat_map (λ feed. feed.1) feeds) last }
+{}
+
+/// What is refused is refused for one fault, and begins with no whole traffic.
+pub fn one_fault()
+    ensures once { (limits : Limits) (octets : List ℕ) (one other : WireFault)
+        → IsFaulty limits octets one → IsFaulty limits octets other → one ≡ other }
+    ensures no_traffic { (limits : Limits) (octets : List ℕ) (fault : WireFault) → IsFaulty limits octets fault → HasNoTraffic limits octets }
+{}
+
+/// A message within the limits is read from its text first, whatever follows.
+pub fn text_is_read_first()
+    ensures { (limits : Limits) (bodies : List (List ℕ)) (after : List ℕ) (traffic : List Traffic) (rest : List ℕ)
+        → bodies ≢ [] → IsWithin limits bodies → limits.frame < 2 ^ 64
+        → ReadsUpTo limits (text bodies ++ after) traffic rest → HasNoTraffic limits rest
+        → (others : List Traffic) × (traffic ≡ Message bodies ∷ others) × ReadsUpTo limits after others rest }
+{}
