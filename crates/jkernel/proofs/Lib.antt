@@ -3,3 +3,4 @@ pub mod HexText
 pub mod Judged
 pub mod KnownReads
 pub mod SessionLemmas
+pub mod OneValue

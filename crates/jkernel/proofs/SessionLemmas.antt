@@ -10,6 +10,7 @@ use Rattle.zmtp_wire.specs.declared.fault.WireFault.TheVariants.{PeerError}
 use Rattle.zmtp_wire.specs.declared.socket_type.SocketType.TheVariants.{Router}
 use Rattle.zmtp_wire.specs.Ready.{IsReady, ready_octets}
 use Rattle.zmtp_wire.specs.Greeting.{greeting_octets, IsGreeting, IsRefusedGreeting}
+use Rattle.zmtp_wire.specs.Limits.{usual_limits}
 use Rattle.zmtp_wire.specs.Grammar.{ReadsUpTo}
 use Rattle.jmsg_envelope.specs.declared.envelope.Envelope.{Envelope}
 use Rattle.jkernel.specs.declared.content.Content.{Content}
@@ -18,7 +19,7 @@ use Rattle.jkernel.specs.declared.ending.Ending.TheVariants.{Fault}
 use Rattle.jkernel.specs.declared.engine.Engine.{Engine}
 use Rattle.jkernel.specs.Block.{Message, reply_with, reply_of, reply_content, reply_text, block}
 use Rattle.jkernel.specs.Served.{ServesOne}
-use Rattle.jkernel.specs.Session.{Serves, messages_in, has_error, is_error, EndsBehind, Answers, usual, EndsAs, IsSession}
+use Rattle.jkernel.specs.Session.{Serves, messages_in, has_error, is_error, EndsBehind, Answers, EndsAs, IsSession}
 
 -- a reply has frames
 reply_frames : (key : List ℕ) (number : ℕ) (request : Envelope) (content : Option Content) → IfSome (reply_with key number request content) (λ message. 0 < length message)
@@ -166,7 +167,7 @@ not_greeted key octets first written fault whole first_is greets refused = inr (
 pub greeted : (key octets first behind written ready replies rest : List ℕ) (all : List Traffic) (end : Ending) (published : List Message) (ending : Ending)
     → 64 ≤ length octets → first ≡ take 64 octets → behind ≡ drop 64 octets → IsGreeting first
     → ready ≡ ready_octets Router → written ≡ greeting_octets ++ ready ++ replies
-    → ReadsUpTo usual behind all rest → EndsAs rest end → Answers key all end replies published ending
+    → ReadsUpTo usual_limits behind all rest → EndsAs rest end → Answers key all end replies published ending
     → IsSession key octets written published ending
 greeted key octets first behind written ready replies rest all end published ending whole first_is behind_is accepted ready_is written_is read behind_ends answers = inr (inr (record {
   whole = whole;
@@ -175,7 +176,7 @@ greeted key octets first behind written ready replies rest all end published end
   rest = rest;
   end = end;
   replies = replies;
-  read = subst (λ o. ReadsUpTo usual o all rest) behind_is read;
+  read = subst (λ o. ReadsUpTo usual_limits o all rest) behind_is read;
   behind = behind_ends;
   answers = answers;
   greets = written_is ∙ ap (λ o. greeting_octets ++ o ++ replies) ready_is;

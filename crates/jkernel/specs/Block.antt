@@ -9,6 +9,8 @@ use Rattle.jkernel.specs.declared.content.State.TheVariants.{Starting, Busy, Idl
 use Rattle.jkernel.specs.declared.content.Malformed.{Malformed}
 use Rattle.jkernel.specs.declared.content.Content.{Content}
 use Rattle.jkernel.specs.declared.content.Content.TheVariants.{Status, KernelInfo, Refused}
+use Rattle.jkernel.specs.declared.request.Request.{Request}
+use Rattle.jkernel.specs.declared.request.Request.TheVariants as requests
 use Rattle.jkernel.specs.Content.{content_text_of, message_type_of, judged_object}
 
 -- the frames of a message
@@ -53,9 +55,18 @@ abbrev pub info_content : Option Malformed → Content
 info_content None = KernelInfo
 info_content (Some malformed) = Refused malformed
 
--- the content of the reply, for a request of the one type that has one
+-- what a message asks for, by its type
+abbrev pub request_of : List ℕ → Request
+request_of msg_type = if bytes_eq msg_type (codes "kernel_info_request") then requests.KernelInfo else requests.Unknown
+
+-- the content of the reply to a request, where it has a reply
+abbrev pub content_for : Request → Envelope → Option Content
+content_for requests.KernelInfo request = Some (info_content (judged_object request.content))
+content_for requests.Unknown request = None
+
+-- the content of the reply to a message, where it has a reply
 abbrev pub reply_content : Envelope → Option Content
-reply_content request = if bytes_eq request.msg_type (codes "kernel_info_request") then Some (info_content (judged_object request.content)) else None
+reply_content request = content_for (request_of request.msg_type) request
 
 -- the reply behind the request's identities, with the third id
 abbrev pub reply_with : List ℕ → ℕ → Envelope → Option Content → Option Message

@@ -1,5 +1,5 @@
 -- What a replay says of its input and output by its status.
-use Rattle.std.specs.Prelude.{◌≡◌, ℕ, List, [], Option, Some, None, IfSome, ⊤}
+use Rattle.std.specs.Prelude.{◌≡◌, ℕ, List, [], Option, Some, None, IfSome, ⊤, codes, ◌==◌, if◌then◌else◌}
 use Rattle.std.specs.Io.KnownBytes.{Appends}
 use Rattle.jkernel.specs.declared.replay.Status.{Status}
 use Rattle.jkernel.specs.declared.replay.Status.TheVariants.{Done, Failed, InputRefused}
@@ -11,6 +11,10 @@ abbrev pub status_code : Status → ℕ
 status_code Done = 0
 status_code Failed = 1
 status_code InputRefused = 6
+
+-- the line for a person on standard error, where an exit status has one
+abbrev pub status_words : ℕ → Option (List ℕ)
+status_words code = if code == 1 then Some (codes "jkernel: failed") else if code == 6 then Some (codes "jkernel: replay input refused") else None
 
 -- All of the input was read, and its lines were added to the output.
 abbrev pub IsReplayed : List ℕ → Option (List ℕ) → Option (List ℕ) → Option (List ℕ) → Option (List ℕ) → Type 0

@@ -4,7 +4,7 @@ use Rattle.std.specs.Prelude.{◌≡◌, ℕ, ◌+◌, ◌<◌, ◌≤◌, List,
 use Rattle.std.specs.List.{flat_map}
 use Rattle.zmtp_wire.specs.declared.fault.WireFault.{WireFault}
 use Rattle.zmtp_wire.specs.declared.fault.WireFault.TheVariants.{PeerError}
-use Rattle.zmtp_wire.specs.declared.limits.Limits.{Limits}
+use Rattle.zmtp_wire.specs.Limits.{usual_limits}
 use Rattle.zmtp_wire.specs.declared.ready.Ready.{Ready}
 use Rattle.zmtp_wire.specs.declared.socket_type.SocketType.TheVariants.{Router}
 use Rattle.zmtp_wire.specs.declared.traffic.Traffic.{Traffic}
@@ -20,10 +20,6 @@ use Rattle.jkernel.specs.declared.ending.Ending.{Ending}
 use Rattle.jkernel.specs.declared.ending.Ending.TheVariants.{Eof, Fault}
 use Rattle.jkernel.specs.Block.{Message, starting, block, reply_of, reply_text, ids_of}
 use Rattle.jkernel.specs.Lines.{hex_octets, printed_lines}
-
--- the limits of the kernel
-abbrev pub usual : Limits
-usual = record { frame = 16777216; frames = 64; message = 33554432 }
 
 -- a command that ends the connection
 abbrev pub is_error : List ℕ → Bool
@@ -57,8 +53,8 @@ Serves key number (message ∷ messages) replies published =
 
 -- how the octets behind the last whole traffic end a session: unfinished, or refused for a fault
 abbrev pub EndsAs : List ℕ → Ending → Type 0
-EndsAs rest Eof = IsUnfinished usual rest
-EndsAs rest (Fault fault) = IsFaulty usual rest fault
+EndsAs rest Eof = IsUnfinished usual_limits rest
+EndsAs rest (Fault fault) = IsFaulty usual_limits rest fault
 
 -- how a session ends behind this traffic: by a command ERROR in it, or as its octets end
 abbrev pub EndsBehind : List Traffic → Ending → Ending → Type 0
@@ -110,7 +106,7 @@ pub record IsGreeted (key octets written : List ℕ) (published : List Message) 
   pub rest : List ℕ
   pub end : Ending
   pub replies : List ℕ
-  pub read : ReadsUpTo usual (drop 64 octets) traffic rest
+  pub read : ReadsUpTo usual_limits (drop 64 octets) traffic rest
   pub behind : EndsAs rest end
   pub answers : Answers key traffic end replies published ending
   pub greets : written ≡ greeting_octets ++ ready_octets Router ++ replies
@@ -134,3 +130,14 @@ pub record IsLines (key input output : List ℕ) : Type 0 where
   pub octets : List ℕ
   pub spelled : hex_octets input ≡ Some octets
   pub printed : IsPrinted key octets output
+
+-- a session has one value: what is written, what is published and how it ends
+abbrev pub SessionHasOneValue : Type 0
+SessionHasOneValue =
+    (key octets written other_written : List ℕ) (published other_published : List Message) (ending other_ending : Ending)
+    → IsSession key octets written published ending → IsSession key octets other_written other_published other_ending
+    → (written ≡ other_written) × (published ≡ other_published) × (ending ≡ other_ending)
+
+-- an input has one text of lines at most
+abbrev pub LinesHaveOneValue : Type 0
+LinesHaveOneValue = (key input output other : List ℕ) → IsLines key input output → IsLines key input other → output ≡ other

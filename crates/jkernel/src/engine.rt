@@ -2,9 +2,11 @@
 
 ghost use Rattle.std.specs.Prelude.{◌≡◌, ◌+◌, ◌++◌, ◌∷◌, [], IfOk, OnOk, option_map};
 ghost use Rattle.listed.specs.Bodies.{bodies};
-ghost use Rattle.jkernel.specs.Block.{replay_date, message_of, published, starting, block, reply_content, reply_of, ids_of};
+ghost use Rattle.jkernel.specs.Content.{judged_object};
+ghost use Rattle.jkernel.specs.Block.{replay_date, message_of, published, starting, block, reply_content, info_content, reply_of, ids_of};
 
 use crate::content::{Content, ContentFault, State, content_text, message_type, read_object};
+use crate::request::Request;
 use crate::stamp::ReplayStamp;
 use jmsg_envelope::{Envelope, EnvelopeFault, Signer, Stamp, header_text, seal};
 use listed::Frames;
@@ -35,12 +37,14 @@ impl<T: Drop> From<AllocFailed<T>> for EngineFault {
     }
 }
 
+// The calls that make a message answer no fault but want of memory.
 impl From<EnvelopeFault> for EngineFault {
     fn from(_fault: EnvelopeFault) -> EngineFault {
         EngineFault::Memory
     }
 }
 
+// The calls that write to the wire answer no fault but want of memory.
 impl From<WireFault> for EngineFault {
     fn from(_fault: WireFault) -> EngineFault {
         EngineFault::Memory
@@ -191,16 +195,23 @@ impl Engine {
     }
 }
 
-// What a request's reply says, where its type has a reply.
+// What the reply to a message says, where it has a reply.
 fn reply_content(alloc: Global, request: &Envelope) -> Result<Option<Content>, AllocError>
     ensures { IfOk result (λ content. content ≡ reply_content request.now) }
 {
-    if request.msg_type.as_str() != "kernel_info_request" {
-        return Ok(None);
+    match Request::of_type(request.msg_type.as_str()) {
+        Request::KernelInfo => Ok(Some(info_content(alloc, request.content.as_slice())?)),
+        Request::Unknown => Ok(None),
     }
-    match read_object(alloc, request.content.as_slice()) {
-        Ok(()) => Ok(Some(Content::KernelInfo)),
-        Err(ContentFault::Malformed(malformed)) => Ok(Some(Content::Refused(malformed))),
+}
+
+// What a request for the kernel's info is answered.
+fn info_content(alloc: Global, content: &[u8]) -> Result<Content, AllocError>
+    ensures { IfOk result (λ content_of. content_of ≡ info_content (judged_object content.now)) }
+{
+    match read_object(alloc, content) {
+        Ok(()) => Ok(Content::KernelInfo),
+        Err(ContentFault::Malformed(malformed)) => Ok(Content::Refused(malformed)),
         Err(ContentFault::OutOfMemory) => Err(AllocError),
     }
 }

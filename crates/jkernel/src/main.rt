@@ -6,8 +6,10 @@ mod content;
 mod ending;
 mod engine;
 mod input;
+mod laws;
 mod lines;
 mod replay;
+mod request;
 mod session;
 mod stamp;
 #[cfg(test)]

@@ -30,8 +30,8 @@ pub enum Status {
 }
 
 impl Status {
-    ghost use Rattle.std.specs.Prelude.{◌≡◌};
-    ghost use Rattle.jkernel.specs.Replay.{status_code};
+    ghost use Rattle.std.specs.Prelude.{◌≡◌, option_map};
+    ghost use Rattle.jkernel.specs.Replay.{status_code, status_words};
 
     /// The exit status of the program.
     pub fn code(self) -> u8
@@ -45,7 +45,9 @@ impl Status {
     }
 
     /// The line for a person on standard error, where the exit status has one.
-    pub fn words_of(code: u8) -> Option<&'static str> {
+    pub fn words_of(code: u8) -> Option<&'static str>
+        ensures { option_map (λ words. words.now) result ≡ status_words code }
+    {
         match code {
             1 => Some("jkernel: failed"),
             6 => Some("jkernel: replay input refused"),

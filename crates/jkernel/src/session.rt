@@ -5,7 +5,8 @@ ghost use Rattle.std.specs.Vec.Iter.{into_iter_items};
 ghost use Rattle.listed.specs.Bodies.{bodies};
 ghost use Rattle.jkernel.specs.Block.{Message};
 ghost use Rattle.zmtp_wire.specs.Grammar.{ReadsUpTo};
-ghost use Rattle.jkernel.specs.Session.{usual, Serves, messages_in, EndsBehind, EndsAs, Answers, IsSession};
+ghost use Rattle.zmtp_wire.specs.Limits.{usual_limits};
+ghost use Rattle.jkernel.specs.Session.{Serves, messages_in, EndsBehind, EndsAs, Answers, IsSession};
 ghost use Rattle.jkernel.specs.Served.{ServesOne};
 
 use crate::ending::Ending;
@@ -52,7 +53,7 @@ pub fn session(alloc: Global, engine: &mut Engine, octets: &[u8]) -> Result<Outc
 
 // The traffic behind the peer's greeting, and how its octets end the session.
 fn read_traffic(alloc: Global, octets: &[u8]) -> Result<(Vec<Traffic>, Ending), EngineFault>
-    ensures { IfOk result (λ read. (rest : List ℕ) × ReadsUpTo usual octets.now read.0.items rest × EndsAs rest read.1) }
+    ensures { IfOk result (λ read. (rest : List ℕ) × ReadsUpTo usual_limits octets.now read.0.items rest × EndsAs rest read.1) }
 {
     let fed = Decoder::new(alloc, Limits::usual()).feed(octets);
     let end = match fed.fault {

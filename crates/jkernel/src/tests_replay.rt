@@ -1,4 +1,5 @@
-//! Whole runs, with what they print made by another program from the standards' own parts.
+//! Whole runs. What they print was put together by hand from greeting, frames and JSON texts, and signed by
+//! another implementation of HMAC-SHA256.
 use crate::replay::{Status, run_replay};
 use std::alloc::Global;
 use std::test::Fail;

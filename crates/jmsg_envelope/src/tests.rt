@@ -198,3 +198,30 @@ fn header_by_a_stamp(rt: HostRuntime) -> Result<(), Fail> {
     );
     Ok(())
 }
+
+#[test]
+fn faults_have_words(rt: HostRuntime) -> Result<(), Fail> {
+    let cases = [
+        (
+            EnvelopeFault::NoDelimiter,
+            "no frame is the delimiter <IDS|MSG>",
+        ),
+        (
+            EnvelopeFault::TooFewParts,
+            "fewer than five frames follow the delimiter",
+        ),
+        (
+            EnvelopeFault::BadSignature,
+            "the signature is not that of the message",
+        ),
+        (
+            EnvelopeFault::BadHeader,
+            "the header is no JSON object with the texts msg_id and msg_type",
+        ),
+        (EnvelopeFault::OutOfMemory, "out of memory"),
+    ];
+    for (fault, words) in cases {
+        assert_eq!(rt; fault.to_string(rt.alloc())?.as_str(), words);
+    }
+    Ok(())
+}

@@ -10,7 +10,7 @@ use Rattle.zmtp_wire.specs.declared.traffic.Traffic.TheVariants as traffic
 use Rattle.zmtp_wire.specs.declared.fault.WireFault.{WireFault}
 use Rattle.zmtp_wire.specs.Frame.{text, shortest, frame_octets, HasSize, size_bound, front_octets, bodies_of}
 use Rattle.zmtp_wire.specs.Grammar.{IsWithin, SpellsMessage, Spells, Reads, ReadsUpTo, HasNoTraffic, IsFaulty}
-use Rattle.zmtp_wire.specs.Decoding.{FeedsInTurn}
+use Rattle.zmtp_wire.specs.Decoding.{FeedsInTurn, pieces_of, traffic_of}
 use Rattle.zmtp_wire.proofs.Reading.{Verdict, unfinished, faulty, found, ComesTo, comes_once}
 use Rattle.zmtp_wire.proofs.ReadingLemmas.{spelled_comes, faulty_comes}
 use Rattle.zmtp_wire.proofs.FeedLemmas.{reads_append}
@@ -53,6 +53,14 @@ any_cutting limits kept last (feed ∷ feeds) (next, (read, is, reads), fed) =
           ∙ append_assoc read next (flat_map (λ feed. feed.0) feeds) ∙ ap (λ o. read ++ o) later.1 ∙ sym (append_assoc read later.0 last),
       reads_append limits read feed.1 later.0 (flat_map (λ feed. feed.1) feeds) reads later.2,
     )
+
+-- two cuttings of one stream
+pub same_cutting : (limits : Limits) (last others : List ℕ) (feeds other : List (List ℕ × List Traffic)) → pieces_of feeds ≡ pieces_of other
+    → FeedsInTurn limits [] feeds last → HasNoTraffic limits last → FeedsInTurn limits [] other others → HasNoTraffic limits others
+    → (traffic_of feeds ≡ traffic_of other) × (last ≡ others)
+same_cutting limits last others feeds other same first ends second ends' =
+    one_reading limits (pieces_of feeds) (traffic_of feeds) (traffic_of other) last others (any_cutting limits [] last feeds first) ends
+    (subst (λ o. ReadsUpTo limits o (traffic_of other) others) (sym same) (any_cutting limits [] others other second)) ends'
 
 -- one fault
 pub fault_once : (limits : Limits) (octets : List ℕ) (one other : WireFault) → IsFaulty limits octets one → IsFaulty limits octets other → one ≡ other

@@ -1,5 +1,6 @@
 -- What a decoder holds, and what a feed makes of it.
 use Rattle.std.specs.Prelude.{◌≡◌, ℕ, Bool, true, false, List, [], ◌∷◌, ◌++◌, ◌⊎◌, Option, MatchOption}
+use Rattle.std.specs.List.{flat_map}
 use Rattle.zmtp_wire.specs.declared.limits.Limits.{Limits}
 use Rattle.zmtp_wire.specs.declared.traffic.Traffic.{Traffic}
 use Rattle.zmtp_wire.specs.declared.fault.WireFault.{WireFault}
@@ -23,9 +24,17 @@ Feeds old piece traffic fault new = MatchOption fault
     (ReadsUpTo old.limits (old.kept ++ piece) traffic new.kept × IsUnfinished old.limits new.kept × (new.spent ≡ false))
     (λ found. ((rest : List ℕ) × ReadsUpTo old.limits (old.kept ++ piece) traffic rest × IsFaultOf old.limits rest found) × (new.spent ≡ true))
 
--- Feeds one after the other without a fault, each with its piece and its traffic, from what was kept at
--- first to what is kept at last.
+-- Feeds one after the other, each with its piece and its traffic, from what was kept at first to what is left
+-- at last: what a feed without a fault keeps, or the rest behind the last one's traffic.
 abbrev pub FeedsInTurn : Limits → List ℕ → List (List ℕ × List Traffic) → List ℕ → Type 0
 FeedsInTurn limits kept [] last = kept ≡ last
 FeedsInTurn limits kept (feed ∷ feeds) last =
     (next : List ℕ) × ReadsUpTo limits (kept ++ feed.0) feed.1 next × FeedsInTurn limits next feeds last
+
+-- the pieces of feeds, joined
+abbrev pub pieces_of : List (List ℕ × List Traffic) → List ℕ
+pieces_of feeds = flat_map (λ feed. feed.0) feeds
+
+-- the traffic of feeds, joined
+abbrev pub traffic_of : List (List ℕ × List Traffic) → List Traffic
+traffic_of feeds = flat_map (λ feed. feed.1) feeds

@@ -53,4 +53,12 @@ abbrev pub IsRefusedGreeting : List ℕ → WireFault → Type 0
 IsRefusedGreeting octets faults.Signature = ¬ (HasSignature octets)
 IsRefusedGreeting octets faults.Version = HasSignature octets × (major_version octets < 3)
 IsRefusedGreeting octets faults.Mechanism = HasSignature octets × HasVersion octets × ¬ (HasNullMechanism octets)
-IsRefusedGreeting octets _ = ⊥
+IsRefusedGreeting octets faults.Flags = ⊥
+IsRefusedGreeting octets faults.FrameTooLong = ⊥
+IsRefusedGreeting octets faults.TooManyFrames = ⊥
+IsRefusedGreeting octets faults.MessageTooLong = ⊥
+IsRefusedGreeting octets faults.Command = ⊥
+IsRefusedGreeting octets faults.Pairing = ⊥
+IsRefusedGreeting octets faults.PeerError = ⊥
+IsRefusedGreeting octets faults.Spent = ⊥
+IsRefusedGreeting octets faults.OutOfMemory = ⊥

@@ -4,6 +4,7 @@ pub mod Frame
 pub mod Grammar
 pub mod Greeting
 pub mod Lengths
+pub mod Limits
 pub mod Pending
 pub mod Ready
 pub mod SocketType

@@ -97,7 +97,15 @@ IsReady first ours (Ok ready) = (value : List ℕ) × Announces first value × A
 IsReady first ours (Err fault.Pairing) = (value : List ℕ) × Announces first value × AcceptsNone ours value
 IsReady first ours (Err fault.Command) = IsNoReady first
 IsReady first ours (Err fault.PeerError) = IsError first
-IsReady first ours (Err _) = ⊥
+IsReady first ours (Err fault.Signature) = ⊥
+IsReady first ours (Err fault.Version) = ⊥
+IsReady first ours (Err fault.Mechanism) = ⊥
+IsReady first ours (Err fault.Flags) = ⊥
+IsReady first ours (Err fault.FrameTooLong) = ⊥
+IsReady first ours (Err fault.TooManyFrames) = ⊥
+IsReady first ours (Err fault.MessageTooLong) = ⊥
+IsReady first ours (Err fault.Spent) = ⊥
+IsReady first ours (Err fault.OutOfMemory) = ⊥
 
 -- octets are those of one list of properties at most
 abbrev pub PropertiesHaveOneReading : Type 0

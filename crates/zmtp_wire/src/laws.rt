@@ -1,13 +1,12 @@
 //! Laws of the grammar of frames, which rest on its definitions alone. Each is the contract of a function
 //! that does nothing.
 ghost use Rattle.std.specs.Prelude.{◌≡◌, ◌≢◌, ℕ, ◌<◌, ◌^◌, List, [], ◌∷◌, ◌++◌};
-ghost use Rattle.std.specs.List.{flat_map};
 ghost use Rattle.zmtp_wire.specs.declared.limits.Limits.{Limits};
 ghost use Rattle.zmtp_wire.specs.declared.traffic.Traffic.{Traffic};
 ghost use Rattle.zmtp_wire.specs.declared.traffic.Traffic.TheVariants.{Message};
 ghost use Rattle.zmtp_wire.specs.Frame.{text};
 ghost use Rattle.zmtp_wire.specs.Grammar.{IsWithin, Spells, ReadsUpTo, HasNoTraffic, IsFaulty, IsUnfinished};
-ghost use Rattle.zmtp_wire.specs.Decoding.{FeedsInTurn};
+ghost use Rattle.zmtp_wire.specs.Decoding.{FeedsInTurn, pieces_of, traffic_of};
 ghost use Rattle.zmtp_wire.specs.declared.fault.WireFault.{WireFault};
 
 /// No octets are read in two ways: up to a rest that begins with no whole traffic, the traffic and the rest
@@ -19,11 +18,17 @@ pub fn one_reading()
         → (one ≡ other) × (rest ≡ others) }
 {}
 
-/// The cutting doesn't matter: what feeds in turn read of their pieces is read of the pieces joined.
+/// The cutting doesn't matter: what feeds in turn read of their pieces is read of the pieces joined, and two
+/// cuttings of one stream give the same traffic and leave the same rest.
 pub fn any_cutting()
-    ensures { (limits : Limits) (kept last : List ℕ) (feeds : List (List ℕ × List Traffic))
+    ensures joined { (limits : Limits) (kept last : List ℕ) (feeds : List (List ℕ × List Traffic))
         → FeedsInTurn limits kept feeds last
-        → ReadsUpTo limits (kept ++ flat_map (λ feed. feed.0) feeds) (flat_map (λ feed. feed.1) feeds) last }
+        → ReadsUpTo limits (kept ++ pieces_of feeds) (traffic_of feeds) last }
+    ensures same { (limits : Limits) (last others : List ℕ) (feeds other : List (List ℕ × List Traffic))
+        → pieces_of feeds ≡ pieces_of other
+        → FeedsInTurn limits [] feeds last → HasNoTraffic limits last
+        → FeedsInTurn limits [] other others → HasNoTraffic limits others
+        → (traffic_of feeds ≡ traffic_of other) × (last ≡ others) }
 {}
 
 /// What is refused is refused for one fault, and begins with no whole traffic.

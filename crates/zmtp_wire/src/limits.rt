@@ -1,4 +1,5 @@
 ghost use Rattle.std.specs.Prelude.{◌≡◌};
+ghost use Rattle.zmtp_wire.specs.Limits.{usual_limits};
 
 /// How much a peer may send in one frame and in one message.
 #[derive(Clone, Copy, Debug, PartialEq, Eq)]
@@ -14,7 +15,7 @@ pub struct Limits {
 impl Limits {
     /// The limits of the kernel: 16 MiB a frame, 64 frames a message, 32 MiB a message.
     pub fn usual() -> Limits
-        ensures { result ≡ record { frame = 16777216; frames = 64; message = 33554432 } }
+        ensures { result ≡ usual_limits }
     {
         Limits {
             frame: 16_777_216,

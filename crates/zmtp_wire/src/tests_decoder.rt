@@ -39,7 +39,7 @@ fn hex_of(alloc: Global, octets: &[u8]) -> Result<String, Fail> {
     Ok(text)
 }
 
-/// What fresh decoders say of one piece, and of the same octets one by one.
+/// What a fresh decoder says of one piece.
 fn fed(alloc: Global, octets: &[u8]) -> Result<String, Fail> {
     let mut decoder = Decoder::new(alloc, Limits::usual());
     said(alloc, &decoder.feed(octets))
