@@ -1,25 +1,33 @@
--- What a session has served so far.
-use Rattle.std.proofs.Common.{◌≡◌, inl, inr, ℕ, ◌<◌, ◌≤◌, take, drop, true, false, List, [], ◌∷◌, ◌++◌, length, Option, Some, None, Err, IfSome, refl, sym, ◌∙◌, ap, subst, arith, append_assoc, length-append}
+-- What a session makes of the messages of a peer.
+use Rattle.std.proofs.Common.{◌≡◌, ◌≢◌, ◌⊎◌, inl, inr, ℕ, ◌<◌, ◌^◌, List, [], ◌∷◌, ◌++◌, length, Option, Some, None, IfSome, Result, Ok, Err, IfOk, refl, sym, ◌∙◌, ap, subst, arith, append_assoc, length-append}
 use Rattle.std.proofs.lemmas.List.{append-nil, length-map}
 use Rattle.std.specs.Global.{Vec}
+use Rattle.std.specs.List.{flat_map}
+use Rattle.std.specs.Io.KnownBytes.{Appends, IsAtEnd}
 use Rattle.listed.specs.Bodies.{bodies}
-use Rattle.zmtp_wire.specs.declared.traffic.Traffic.{Traffic}
-use Rattle.zmtp_wire.specs.declared.traffic.Traffic.TheVariants as traffic
-use Rattle.zmtp_wire.specs.declared.fault.WireFault.{WireFault}
-use Rattle.zmtp_wire.specs.declared.fault.WireFault.TheVariants.{PeerError}
 use Rattle.zmtp_wire.specs.declared.socket_type.SocketType.TheVariants.{Router}
-use Rattle.zmtp_wire.specs.Ready.{IsReady, ready_octets}
-use Rattle.zmtp_wire.specs.Greeting.{greeting_octets, IsGreeting, IsRefusedGreeting}
-use Rattle.zmtp_wire.specs.Limits.{usual_limits}
-use Rattle.zmtp_wire.specs.Grammar.{ReadsUpTo}
+use Rattle.zmtp_wire.specs.Frame.{text}
+use Rattle.zmtp_wire.specs.Device.{Inflow, Outflow}
 use Rattle.jmsg_envelope.specs.declared.envelope.Envelope.{Envelope}
+use Rattle.jmsg_envelope.specs.declared.fault.EnvelopeFault.{EnvelopeFault}
+use Rattle.jmsg_envelope.specs.declared.fault.EnvelopeFault.TheVariants.{OutOfMemory as EnvelopeMemory}
+use Rattle.jmsg_envelope.specs.Envelope.{IsRefused}
+use Rattle.kernel_engine.specs.declared.end.SessionEnd.{SessionEnd}
+use Rattle.kernel_engine.specs.declared.end.SessionEnd.TheVariants.{Eof, Shutdown, Wire, Failed}
+use Rattle.kernel_engine.specs.declared.fault.EngineFault.{EngineFault}
+use Rattle.kernel_engine.specs.declared.fault.EngineFault.TheVariants.{Memory, Read, Write, Turns, Worn}
+use Rattle.kernel_engine.specs.Peer.{Message}
+use Rattle.kernel_engine.specs.Server.{AnswersAll, IsServed}
+use Rattle.kernel_engine.specs.Server.{Serves as ServesPeer}
+use Rattle.kernel_engine.specs.Exchange.{Exchange, IsCut, IsReadOut}
+use Rattle.kernel_engine.specs.Laws.{EndStays}
 use Rattle.jkernel.specs.declared.content.Content.{Content}
-use Rattle.jkernel.specs.declared.ending.Ending.{Ending}
-use Rattle.jkernel.specs.declared.ending.Ending.TheVariants.{Fault}
 use Rattle.jkernel.specs.declared.engine.Engine.{Engine}
-use Rattle.jkernel.specs.Block.{Message, reply_with, reply_of, reply_content, reply_text, block}
-use Rattle.jkernel.specs.Served.{ServesOne}
-use Rattle.jkernel.specs.Session.{Serves, messages_in, has_error, is_error, EndsBehind, Answers, EndsAs, IsSession}
+use Rattle.jkernel.specs.Block.{reply_with, reply_of, reply_content, reply_text, block, starting}
+use Rattle.jkernel.specs.Lines.{printed_lines}
+use Rattle.jkernel.specs.Session.{IsDropped, Serves, IsSession, IsPrinted}
+use Rattle.jkernel.specs.Served.{ServesOne, IsServedBy, Sessions}
+use Rattle.jkernel.specs.Replay.{PrintsPeer, IsPrintable}
 
 -- a reply has frames
 reply_frames : (key : List ℕ) (number : ℕ) (request : Envelope) (content : Option Content) → IfSome (reply_with key number request content) (λ message. 0 < length message)
@@ -32,152 +40,165 @@ some_frames key number request frames message is spelled =
     let some = subst (λ o. IfSome o (λ m. 0 < length m)) (sym is) (reply_frames key number request (reply_content request)) in
     omega (arith, some, ap length spelled, length-map frames (λ (f : Vec ℕ). f.items))
 
--- what was served of the traffic, so that whatever is served of the rest completes it
-pub record SoFar (old : Engine) (all rest : List Traffic) (engine : Engine) (before written : List ℕ) : Type 0 where
-  pub signer : engine.signer ≡ old.signer
-  pub replies : List ℕ
-  pub written_are : written ≡ before ++ replies
-  pub published : List Message
-  pub published_are : engine.published.items ≡ old.published.items ++ published
-  pub later : (later_replies : List ℕ) (later_published : List Message) → Serves old.signer engine.next (messages_in rest) later_replies later_published
-      → Serves old.signer old.next (messages_in all) (replies ++ later_replies) (published ++ later_published)
-  pub errors : has_error all ≡ has_error rest
+-- the text of a reply
+pub reply_is : (frames : List (Vec ℕ)) (message : Message) (reply : Option Message) → Some message ≡ reply → bodies frames ≡ message → text (bodies frames) ≡ reply_text reply
+reply_is frames message reply is spelled = ap text spelled ∙ ap reply_text is
 
--- nothing yet
-pub so_far_none : (engine : Engine) (all : List Traffic) (before : List ℕ) → SoFar engine all all engine before before
-so_far_none engine all before = record {
-  signer = refl;
-  replies = [];
-  written_are = sym (append-nil before);
+-- no reply has no text
+pub no_reply_is : (reply : Option Message) → None ≡ reply → [] ≡ reply_text reply
+no_reply_is reply is = ap reply_text is
+
+-- a message that was dropped
+pub dropped : (key : List ℕ) (message frames : Message) (fault : EnvelopeFault) → frames ≡ message → IsRefused key frames fault → IsDropped key message
+dropped key message frames fault same refused = (fault, subst (λ m. IsRefused key m fault) same refused)
+
+pub dropped_or : (key : List ℕ) (message frames : Message) (fault : EnvelopeFault) → frames ≡ message → fault ≢ EnvelopeMemory → (fault ≡ EnvelopeMemory) ⊎ IsRefused key frames fault → IsDropped key message
+dropped_or key message frames fault same other (inl memory) = absurd (other memory)
+dropped_or key message frames fault same other (inr refused) = dropped key message frames fault same refused
+
+-- messages that were served
+record ServedAll (old : Engine) (messages : List Message) (replies : List ℕ) (new : Engine) : Type 0 where
+  published : List Message
+  added : new.published.items ≡ old.published.items ++ published
+  signer : new.signer ≡ old.signer
+  serves : Serves old.signer old.next messages replies published
+
+served_all : (old : Engine) (messages : List Message) (replies : List ℕ) (new : Engine) → AnswersAll ServesOne old messages replies new → ServedAll old messages replies new
+served_all old [] replies new (none, same) = record {
   published = [];
-  published_are = sym (append-nil engine.published.items);
-  later = λ replies published served. served;
-  errors = refl;
+  added = ap (λ (e : Engine). e.published.items) same ∙ sym (append-nil old.published.items);
+  signer = ap (λ (e : Engine). e.signer) same;
+  serves = (none, refl);
 }
-
--- one more message
-pub so_far_message : (old : Engine) (all rest : List Traffic) (engine new : Engine) (before written after : List ℕ) (message : Message)
-    → SoFar old all (traffic.Message message ∷ rest) engine before written → new.signer ≡ engine.signer → ServesOne engine new message written after → SoFar old all rest new before after
-so_far_message old all rest engine new before written after message so_far same (inl one) = record {
-  signer = same ∙ so_far.signer;
-  replies = so_far.replies;
-  written_are = one.written ∙ so_far.written_are;
-  published = so_far.published;
-  published_are = one.published ∙ so_far.published_are;
-  later = λ replies published served. so_far.later replies published (inl (
-    (one.dropped.0, rw (← so_far.signer) one.dropped.1),
-    subst (λ n. Serves old.signer n (messages_in rest) replies published) one.next served,
-  ));
-  errors = so_far.errors;
-}
-so_far_message old all rest engine new before written after message so_far same (inr one) =
-    let key = old.signer in
-    let moved : engine.signer ≡ old.signer = so_far.signer in
-    let text = reply_text (reply_of engine.signer engine.next one.request) in
-    let messages = block engine.signer engine.next one.request in
+served_all old (message ∷ messages) replies new (middle, reply, later, inl one, rest, is) =
+    let ih = served_all middle messages later new rest in
+    let same : replies ≡ later = is ∙ ap (λ o. o ++ later) one.silent in
+    let serves = subst (λ n. Serves old.signer n messages later ih.published) one.next (subst (λ k. Serves k middle.next messages later ih.published) one.signer ih.serves) in
     record {
-      signer = same ∙ so_far.signer;
-      replies = so_far.replies ++ text;
-      written_are = one.written ∙ ap (λ o. o ++ text) so_far.written_are ∙ append_assoc before so_far.replies text;
-      published = so_far.published ++ messages;
-      published_are = one.published ∙ ap (λ o. o ++ messages) so_far.published_are ∙ append_assoc old.published.items so_far.published messages;
-      later = λ replies published served.
-          let whole = so_far.later (text ++ replies) (messages ++ published) (inr (
-            one.request,
-            replies,
-            published,
-            rw (← so_far.signer) one.opened,
-            subst (λ n. Serves old.signer n (messages_in rest) replies published) one.next served,
-            ap (λ k. reply_text (reply_of k engine.next one.request) ++ replies) so_far.signer,
-            ap (λ k. block k engine.next one.request ++ published) so_far.signer,
-          )) in
-          rw (append_assoc so_far.replies text replies, append_assoc so_far.published messages published) whole;
-      errors = so_far.errors;
+      published = ih.published;
+      added = ih.added ∙ ap (λ o. o ++ ih.published) one.published;
+      signer = ih.signer ∙ one.signer;
+      serves = inl (one.dropped, subst (λ r. Serves old.signer old.next messages r ih.published) (sym same) serves);
+    }
+served_all old (message ∷ messages) replies new (middle, reply, later, inr one, rest, is) =
+    let ih = served_all middle messages later new rest in
+    let serves = subst (λ n. Serves old.signer n messages later ih.published) one.next (subst (λ k. Serves k middle.next messages later ih.published) one.signer ih.serves) in
+    record {
+      published = block old.signer old.next one.request ++ ih.published;
+      added = ih.added ∙ ap (λ o. o ++ ih.published) one.published ∙ append_assoc old.published.items (block old.signer old.next one.request) ih.published;
+      signer = ih.signer ∙ one.signer;
+      serves = inr (one.request, later, ih.published, one.opened, serves, is ∙ ap (λ o. o ++ later) one.replies, refl);
     }
 
--- one more command that is ignored
-pub so_far_command : (old : Engine) (all rest : List Traffic) (engine : Engine) (before written name said : List ℕ) → is_error name ≡ false
-    → SoFar old all (traffic.Command name said ∷ rest) engine before written → SoFar old all rest engine before written
-so_far_command old all rest engine before written name said ignored so_far = record {
-  signer = so_far.signer;
-  replies = so_far.replies;
-  written_are = so_far.written_are;
-  published = so_far.published;
-  published_are = so_far.published_are;
-  later = λ replies published served. so_far.later replies published (rw ignored served);
-  errors = so_far.errors ∙ (rw ignored refl);
+-- a peer that is served is one with whom there is a session
+session_of : (old : Engine) (octets written : List ℕ) (new : Engine) (end : SessionEnd) → IsServed ServesOne Router old octets written new end → IsServedBy old octets written new end
+session_of old octets written new end one =
+    let all = served_all old one.messages one.replies new one.answered in
+    record {
+      published = all.published;
+      added = all.added;
+      session = record { opening = one.opening; messages = one.messages; replies = one.replies; hears = one.hears; serves = all.serves; all = one.all };
+    }
+
+cut_of : (old : Engine) (octets written : List ℕ) (new : Engine) → IsCut (IsServed ServesOne Router old) octets written new → IsCut (IsServedBy old) octets written new
+cut_of old octets written new cut = record { front = cut.front; behind = cut.behind; split = cut.split; so_far = session_of old cut.front written new Eof cut.so_far }
+
+outcome_of : (old : Engine) (octets written : List ℕ) (new : Engine) (end : SessionEnd) → ServesPeer (λ engine. 2 ^ 62 < engine.next) ServesOne Router old octets written new end → Sessions old octets written new end
+outcome_of old octets written new Eof one = session_of old octets written new Eof one
+outcome_of old octets written new (Shutdown restart) one = one
+outcome_of old octets written new (Wire fault) (inl (memory, cut)) = inl (memory, cut_of old octets written new cut)
+outcome_of old octets written new (Wire fault) (inr one) = inr (session_of old octets written new (Wire fault) one)
+outcome_of old octets written new (Failed Read) one = session_of old octets written new Eof one
+outcome_of old octets written new (Failed Turns) one = session_of old octets written new Eof one
+outcome_of old octets written new (Failed Write) (lost, cut) = (lost, cut_of old octets (written ++ lost) new cut)
+outcome_of old octets written new (Failed Memory) (state, cut) = (state, cut_of old octets written state cut)
+outcome_of old octets written new (Failed Worn) (state, worn, cut) = (state, worn, cut_of old octets written state cut)
+
+pub exchange_of : (old new : Engine) (one two : Inflow) (out last : Outflow) (turns left : ℕ) (end : SessionEnd)
+    → Exchange (ServesPeer (λ engine. 2 ^ 62 < engine.next) ServesOne Router old) one two out last turns left new end → Exchange (Sessions old) one two out last turns left new end
+exchange_of old new one two out last turns left end e = record {
+  read = e.read;
+  written = e.written;
+  reading = e.reading;
+  puts = e.puts;
+  outcome = outcome_of old e.read e.written new end e.outcome;
 }
 
--- what a session's traffic makes
-pub record Makes (old : Engine) (all : List Traffic) (end : Ending) (engine : Engine) (before written : List ℕ) (ending : Ending) : Type 0 where
-  pub replies : List ℕ
-  pub published : List Message
-  pub written_are : written ≡ before ++ replies
-  pub published_are : engine.published.items ≡ old.published.items ++ published
-  pub served : Serves old.signer old.next (messages_in all) replies published
-  pub ends : EndsBehind all end ending
+-- a session that its peer's octets ended
+ended_by : (old new : Engine) (octets written : List ℕ) (end : SessionEnd) → Sessions old octets written new end → IsPrintable end → IsServedBy old octets written new end
+ended_by old new octets written Eof one printable = one
+ended_by old new octets written (Shutdown restart) one printable = absurd one
+ended_by old new octets written (Wire fault) (inl (memory, cut)) enough = absurd (enough memory)
+ended_by old new octets written (Wire fault) (inr one) enough = one
+ended_by old new octets written (Failed fault) one never = absurd never
 
--- all is served
-pub served_all : (old : Engine) (all : List Traffic) (end : Ending) (engine : Engine) (before written : List ℕ) → SoFar old all [] engine before written
-    → Makes old all end engine before written end
-served_all old all end engine before written so_far = record {
-  replies = so_far.replies;
-  published = so_far.published;
-  written_are = so_far.written_are;
-  published_are = so_far.published_are;
-  served = rw (append-nil so_far.replies, append-nil so_far.published) at (so_far.later [] [] (refl, refl));
-  ends = rw so_far.errors refl;
+-- what was added to nothing is all that is there
+added_all : (octets written : List ℕ) → Appends (Some []) (Some octets) written → octets ≡ written
+added_all octets written is = is
+
+-- the lines of the session with a peer whose octets were read
+read_out : (left : Option (List ℕ)) (end : SessionEnd) → end ≡ Eof → IsReadOut left end → IsAtEnd left
+read_out left Eof is out = out
+read_out left (Shutdown restart) is out = absurd (let e = is in cc)
+read_out left (Wire fault) is out = absurd (let e = is in cc)
+read_out left (Failed fault) is out = absurd (let e = is in cc)
+
+pub prints_peer : (key : List ℕ) (old new : Engine) (one two : Inflow) (out last : Outflow) (turns left : ℕ) (shell output : List ℕ) (end : SessionEnd)
+    → old.signer ≡ key → old.next ≡ 2 → old.published.items ≡ starting key ∷ [] → out.written ≡ Some [] → last.written ≡ Some shell
+    → Exchange (Sessions old) one two out last turns left new end → IsPrintable end → output ≡ printed_lines shell (flat_map text new.published.items) end
+    → PrintsPeer key one.left two.left output
+prints_peer key old new one two out last turns left shell output end signed begins started fresh stands e printable printed =
+    let served = ended_by old new e.read e.written end e.outcome printable in
+    let wrote : shell ≡ e.written = added_all shell e.written (subst (λ w. Appends (Some []) w e.written) stands (subst (λ w. Appends w last.written e.written) fresh e.puts.added)) in
+    let published : new.published.items ≡ starting key ∷ served.published = served.added ∙ ap (λ o. o ++ served.published) started in
+    let session = subst (λ n. IsSession key n e.read e.written served.published end) begins (subst (λ k. IsSession k old.next e.read e.written served.published end) signed served.session) in
+    record {
+      octets = e.read;
+      taken = e.reading.draws.taken;
+      printed = record {
+        written = e.written;
+        published = served.published;
+        ending = end;
+        session = session;
+        printed = printed ∙ ap (λ w. printed_lines w (flat_map text new.published.items) end) wrote ∙ ap (λ p. printed_lines e.written (flat_map text p) end) published;
+      };
+      read_out = λ is. read_out two.left end is e.reading.read_out;
+    }
+
+-- a session that ended holds of all that its peer sends
+session_stays : EndStays → (key : List ℕ) (octets after written : List ℕ) (published : List Message) (end : SessionEnd) → end ≢ Eof → IsSession key 2 octets written published end
+    → IsSession key 2 (octets ++ after) written published end
+session_stays stays key octets after written published end ended s = record {
+  opening = s.opening;
+  messages = s.messages;
+  replies = s.replies;
+  hears = stays Router octets after s.opening s.messages end ended s.hears;
+  serves = s.serves;
+  all = s.all;
 }
 
--- all up to a command ERROR is served
-pub served_to_error : (old : Engine) (all rest : List Traffic) (end : Ending) (engine : Engine) (before written name said : List ℕ) → is_error name ≡ true
-    → SoFar old all (traffic.Command name said ∷ rest) engine before written → Makes old all end engine before written (Fault PeerError)
-served_to_error old all rest end engine before written name said error so_far = record {
-  replies = so_far.replies;
-  published = so_far.published;
-  written_are = so_far.written_are;
-  published_are = so_far.published_are;
-  served = rw (append-nil so_far.replies, append-nil so_far.published) at (so_far.later [] [] (rw error (refl, refl)));
-  ends = rw (so_far.errors, error) refl;
+prints_ended : EndStays → (key octets output rest read : List ℕ) → octets ≡ read ++ rest → (p : IsPrinted key read output) → p.ending ≢ Eof → IsPrinted key octets output
+prints_ended stays key octets output rest read is p ended = record {
+  written = p.written;
+  published = p.published;
+  ending = p.ending;
+  session = subst (λ o. IsSession key 2 o p.written p.published p.ending) (sym is) (session_stays stays key read rest p.written p.published p.ending ended p.session);
+  printed = p.printed;
 }
 
--- nothing came behind the greeting
-pub nothing_answered : (key : List ℕ) (all : List Traffic) (end : Ending) → all ≡ [] → Answers key all end [] [] end
-nothing_answered key all end none = rw none (refl, refl, refl)
+prints_rest : EndStays → (key octets output rest read : List ℕ) → octets ≡ read ++ rest → (p : IsPrinted key read output) (end : SessionEnd) → p.ending ≡ end → (p.ending ≡ Eof → rest ≡ []) → IsPrinted key octets output
+prints_rest stays key octets output rest read is p Eof ends read_out =
+    let whole : octets ≡ read = is ∙ ap (λ o. read ++ o) (read_out ends) ∙ append-nil read in subst (λ o. IsPrinted key o output) (sym whole) p
+prints_rest stays key octets output rest read is p (Shutdown restart) ends read_out = prints_ended stays key octets output rest read is p (λ eof. let e = sym ends ∙ eof in cc)
+prints_rest stays key octets output rest read is p (Wire fault) ends read_out = prints_ended stays key octets output rest read is p (λ eof. let e = sym ends ∙ eof in cc)
+prints_rest stays key octets output rest read is p (Failed fault) ends read_out = prints_ended stays key octets output rest read is p (λ eof. let e = sym ends ∙ eof in cc)
 
--- the peer's READY was refused
-pub peer_refused : (key : List ℕ) (first : Traffic) (all others : List Traffic) (end : Ending) (fault : WireFault) → all ≡ first ∷ others → IsReady first Router (Err fault)
-    → Answers key all end [] [] (Fault fault)
-peer_refused key first all others end fault is refused =
-    rw is (inl (record { fault = fault; refused = refused; silent = refl; nothing = refl; ends = refl }))
+-- the lines of the session with a peer that sends these octets
+pub prints_all : EndStays → (key octets output : List ℕ) (left' : Option (List ℕ)) → PrintsPeer key (Some octets) left' output → IsPrinted key octets output
+prints_all stays key octets output None p = absurd p.taken
+prints_all stays key octets output (Some rest) p = prints_rest stays key octets output rest p.octets p.taken p.printed p.printed.ending refl p.read_out
 
--- a session with a peer whose greeting is refused
-pub not_greeted : (key octets first written : List ℕ) (fault : WireFault) → 64 ≤ length octets → first ≡ take 64 octets → written ≡ greeting_octets
-    → IsRefusedGreeting first fault → IsSession key octets written [] (Fault fault)
-not_greeted key octets first written fault whole first_is greets refused = inr (inl (record {
-  fault = fault;
-  whole = whole;
-  refused = subst (λ o. IsRefusedGreeting o fault) first_is refused;
-  greets = greets;
-  nothing = refl;
-  ends = refl;
-}))
-
--- a session with a peer whose greeting is accepted
-pub greeted : (key octets first behind written ready replies rest : List ℕ) (all : List Traffic) (end : Ending) (published : List Message) (ending : Ending)
-    → 64 ≤ length octets → first ≡ take 64 octets → behind ≡ drop 64 octets → IsGreeting first
-    → ready ≡ ready_octets Router → written ≡ greeting_octets ++ ready ++ replies
-    → ReadsUpTo usual_limits behind all rest → EndsAs rest end → Answers key all end replies published ending
-    → IsSession key octets written published ending
-greeted key octets first behind written ready replies rest all end published ending whole first_is behind_is accepted ready_is written_is read behind_ends answers = inr (inr (record {
-  whole = whole;
-  accepted = subst IsGreeting first_is accepted;
-  traffic = all;
-  rest = rest;
-  end = end;
-  replies = replies;
-  read = subst (λ o. ReadsUpTo usual_limits o all rest) behind_is read;
-  behind = behind_ends;
-  answers = answers;
-  greets = written_is ∙ ap (λ o. greeting_octets ++ o ++ replies) ready_is;
-}))
+pub prints_all_ok : EndStays → (key octets : List ℕ) (left' : Option (List ℕ)) (result : Result (Vec ℕ) EngineFault) → IfOk result (λ lines. PrintsPeer key (Some octets) left' lines.items)
+    → IfOk result (λ lines. IsPrinted key octets lines.items)
+prints_all_ok stays key octets left' (Ok lines) p = prints_all stays key octets lines.items left' p
+prints_all_ok stays key octets left' (Err fault) p = tt

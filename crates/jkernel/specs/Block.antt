@@ -5,6 +5,7 @@ use Rattle.zmtp_wire.specs.Frame.{text}
 use Rattle.jmsg_envelope.specs.declared.envelope.Envelope.{Envelope}
 use Rattle.jmsg_envelope.specs.Envelope.{sealed}
 use Rattle.jmsg_envelope.specs.Header.{header_octets}
+use Rattle.kernel_engine.specs.Peer.{Message}
 use Rattle.jkernel.specs.declared.content.State.TheVariants.{Starting, Busy, Idle}
 use Rattle.jkernel.specs.declared.content.Malformed.{Malformed}
 use Rattle.jkernel.specs.declared.content.Content.{Content}
@@ -12,10 +13,6 @@ use Rattle.jkernel.specs.declared.content.Content.TheVariants.{Status, KernelInf
 use Rattle.jkernel.specs.declared.request.Request.{Request}
 use Rattle.jkernel.specs.declared.request.Request.TheVariants as requests
 use Rattle.jkernel.specs.Content.{content_text_of, message_type_of, judged_object}
-
--- the frames of a message
-abbrev pub Message : Type 0
-Message = List (List ℕ)
 
 -- the session of a replay
 abbrev pub replay_session : List ℕ

@@ -3,8 +3,8 @@ use Rattle.std.specs.Prelude.{ℕ, List, [], ◌∷◌, ◌++◌, Bool, not, ◌
 use Rattle.std.specs.Result.{result_ok}
 use Rattle.hex.specs.Hex.{decode_of, encode_lower}
 use Rattle.zmtp_wire.specs.Fault.{fault_number}
-use Rattle.jkernel.specs.declared.ending.Ending.{Ending}
-use Rattle.jkernel.specs.declared.ending.Ending.TheVariants.{Eof, Fault}
+use Rattle.kernel_engine.specs.declared.end.SessionEnd.{SessionEnd}
+use Rattle.kernel_engine.specs.declared.end.SessionEnd.TheVariants.{Eof, Shutdown, Wire, Failed}
 
 -- Whether an octet is ASCII white space: a tab, a line feed, a form feed, a carriage return or a space.
 abbrev pub is_white_space : ℕ → Bool
@@ -18,13 +18,16 @@ without_white_space text = filter (λ octet. not (is_white_space octet)) text
 abbrev pub hex_octets : List ℕ → Option (List ℕ)
 hex_octets text = result_ok (decode_of (without_white_space text))
 
--- The words for how a session ended: the peer sent its last octet, or broke the protocol, with the fault's number.
-abbrev pub ending_text : Ending → List ℕ
+-- The words for how a session ended: the peer sent its last octet, asked for a shutdown, or broke the protocol, with
+-- the fault's number. A session that failed has none, and isn't printed.
+abbrev pub ending_text : SessionEnd → List ℕ
 ending_text Eof = codes "eof"
-ending_text (Fault fault) = codes "fault " ++ decimal (fault_number fault)
+ending_text (Shutdown restart) = codes "shutdown"
+ending_text (Wire fault) = codes "fault " ++ decimal (fault_number fault)
+ending_text (Failed fault) = []
 
 -- The printed lines of a session: what the shell wrote and what was published, in lower-case digits, and how it ended.
-abbrev pub printed_lines : List ℕ → List ℕ → Ending → List ℕ
+abbrev pub printed_lines : List ℕ → List ℕ → SessionEnd → List ℕ
 printed_lines shell iopub ending =
     codes "shell " ++ (encode_lower shell ++ 10 ∷
     (codes "iopub " ++ (encode_lower iopub ++ 10 ∷

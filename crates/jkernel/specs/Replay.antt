@@ -1,10 +1,13 @@
 -- What a replay says of its input and output by its status.
-use Rattle.std.specs.Prelude.{◌≡◌, ℕ, List, [], Option, Some, None, IfSome, ⊤, codes, ◌==◌, if◌then◌else◌}
-use Rattle.std.specs.Io.KnownBytes.{Appends}
+use Rattle.std.specs.Prelude.{◌≡◌, ◌≢◌, ℕ, List, [], Option, Some, None, IfSome, ⊤, codes, ◌==◌, if◌then◌else◌}
+use Rattle.std.specs.Io.KnownBytes.{Appends, Consumes, IsAtEnd}
+use Rattle.zmtp_wire.specs.declared.fault.WireFault.TheVariants.{OutOfMemory}
+use Rattle.kernel_engine.specs.declared.end.SessionEnd.{SessionEnd}
+use Rattle.kernel_engine.specs.declared.end.SessionEnd.TheVariants.{Eof, Shutdown, Wire, Failed}
 use Rattle.jkernel.specs.declared.replay.Status.{Status}
 use Rattle.jkernel.specs.declared.replay.Status.TheVariants.{Done, Failed, InputRefused}
 use Rattle.jkernel.specs.Lines.{hex_octets}
-use Rattle.jkernel.specs.Session.{IsLines}
+use Rattle.jkernel.specs.Session.{IsPrinted, IsLines}
 
 -- the exit status of the program
 abbrev pub status_code : Status → ℕ
@@ -15,6 +18,20 @@ status_code InputRefused = 6
 -- the line for a person on standard error, where an exit status has one
 abbrev pub status_words : ℕ → Option (List ℕ)
 status_words code = if code == 1 then Some (codes "jkernel: failed") else if code == 6 then Some (codes "jkernel: replay input refused") else None
+
+-- the peer's octets ended the session, and neither memory nor a device did
+abbrev pub IsPrintable : SessionEnd → Type 0
+IsPrintable Eof = ⊤
+IsPrintable (Shutdown restart) = ⊤
+IsPrintable (Wire fault) = fault ≢ OutOfMemory
+IsPrintable (Failed fault) = ⊥
+
+-- The lines of the session with a peer whose octets were read, all of them where it ended with the last.
+pub record PrintsPeer (key : List ℕ) (left left' : Option (List ℕ)) (output : List ℕ) : Type 0 where
+  pub octets : List ℕ
+  pub taken : Consumes left left' octets
+  pub printed : IsPrinted key octets output
+  pub read_out : printed.ending ≡ Eof → IsAtEnd left'
 
 -- All of the input was read, and its lines were added to the output.
 abbrev pub IsReplayed : List ℕ → Option (List ℕ) → Option (List ℕ) → Option (List ℕ) → Option (List ℕ) → Type 0

@@ -1,55 +1,18 @@
 //! The engine: what a request makes it publish and reply.
 
-ghost use Rattle.std.specs.Prelude.{◌≡◌, ◌+◌, ◌++◌, ◌∷◌, [], IfOk, OnOk, option_map};
+ghost use Rattle.std.specs.Prelude.{◌≡◌, ◌+◌, ◌++◌, ◌∷◌, ◌<◌, ◌^◌, [], IfOk, IfErr, OnOk, option_map};
 ghost use Rattle.listed.specs.Bodies.{bodies};
+ghost use Rattle.kernel_engine.specs.Fault.{IsAnswerFault};
 ghost use Rattle.jkernel.specs.Content.{judged_object};
 ghost use Rattle.jkernel.specs.Block.{replay_date, message_of, published, starting, block, reply_content, info_content, reply_of, ids_of};
 
 use crate::content::{Content, ContentFault, State, content_text, message_type, read_object};
 use crate::request::Request;
 use crate::stamp::ReplayStamp;
-use jmsg_envelope::{Envelope, EnvelopeFault, Signer, Stamp, header_text, seal};
+use jmsg_envelope::{Envelope, Signer, Stamp, header_text, seal};
+use kernel_engine::EngineFault;
 use listed::Frames;
-use std::alloc::{AllocError, AllocFailed, Global};
-use thiserror::Error;
-use zmtp_wire::WireFault;
-
-/// Why a request couldn't be done.
-#[derive(Clone, Copy, Debug, PartialEq, Eq, Error)]
-pub enum EngineFault {
-    /// No memory was left.
-    #[error("out of memory")]
-    Memory,
-    /// All ids were given.
-    #[error("all message ids were given")]
-    Worn,
-}
-
-impl From<AllocError> for EngineFault {
-    fn from(_error: AllocError) -> EngineFault {
-        EngineFault::Memory
-    }
-}
-
-impl<T: Drop> From<AllocFailed<T>> for EngineFault {
-    fn from(_error: AllocFailed<T>) -> EngineFault {
-        EngineFault::Memory
-    }
-}
-
-// The calls that make a message answer no fault but want of memory.
-impl From<EnvelopeFault> for EngineFault {
-    fn from(_fault: EnvelopeFault) -> EngineFault {
-        EngineFault::Memory
-    }
-}
-
-// The calls that write to the wire answer no fault but want of memory.
-impl From<WireFault> for EngineFault {
-    fn from(_fault: WireFault) -> EngineFault {
-        EngineFault::Memory
-    }
-}
+use std::alloc::{AllocError, Global};
 
 /// The greatest number of an id before a request.
 const LAST_ID: u64 = 1 << 62;
@@ -104,6 +67,7 @@ impl Engine {
         ensures block { OnOk result (self.new.published.items ≡ self.old.published.items ++ block self.old.signer self.old.next request) }
         ensures reply { IfOk result (λ reply. reply ≡ reply_of self.old.signer self.old.next request) }
         ensures next { OnOk result (self.new.next ≡ self.old.next + ids_of request) }
+        ensures fault { IfErr result (IsAnswerFault (2 ^ 62 < self.old.next)) }
     {
         if self.next > LAST_ID {
             return Err(EngineFault::Worn);
@@ -131,7 +95,8 @@ impl Engine {
         content: Option<Content>,
     ) -> Result<Option<Frames>, EngineFault>
         requires { date.now ≡ replay_date }
-        ensures { IfOk result (λ reply. reply ≡ option_map (message_of self.now.signer request.identities request.header number) content) }
+        ensures reply { IfOk result (λ reply. reply ≡ option_map (message_of self.now.signer request.identities request.header number) content) }
+        ensures fault { IfErr result (λ fault. fault ≡ EngineFault.Memory) }
     {
         let Some(content) = content else {
             return Ok(None);
@@ -152,7 +117,8 @@ impl Engine {
         state: State,
     ) -> Result<Vec<Vec<u8>>, EngineFault>
         requires { date.now ≡ replay_date }
-        ensures { IfOk result (λ frames. bodies frames.items ≡ published self.now.signer parent.now number (Content.Status state)) }
+        ensures frames { IfOk result (λ frames. bodies frames.items ≡ published self.now.signer parent.now number (Content.Status state)) }
+        ensures fault { IfErr result (λ fault. fault ≡ EngineFault.Memory) }
     {
         let content = Content::Status(state);
         let topic = Vec::from_slice(alloc, message_type(&content).as_bytes())?;
@@ -173,11 +139,15 @@ impl Engine {
         content: Content,
     ) -> Result<Vec<Vec<u8>>, EngineFault>
         requires { date.now ≡ replay_date }
-        ensures { IfOk result (λ frames. bodies frames.items ≡ message_of self.now.signer (bodies prefix.items) parent.items number content) }
+        ensures frames { IfOk result (λ frames. bodies frames.items ≡ message_of self.now.signer (bodies prefix.items) parent.items number content) }
+        ensures fault { IfErr result (λ fault. fault ≡ EngineFault.Memory) }
     {
         let id = self.stamp.id(alloc, number)?;
         let session = self.stamp.session();
-        let header = header_text(alloc, session, id.as_str(), date, message_type(&content))?;
+        let header = header_text(alloc, session, id.as_str(), date, message_type(&content));
+        let Ok(header) = header else {
+            return Err(EngineFault::Memory);
+        };
         let metadata = Vec::from_slice(alloc, b"{}")?;
         let content = content_text(alloc, &content)?;
         let buffers = Vec::new(alloc);
@@ -190,8 +160,11 @@ impl Engine {
             metadata,
             content,
             buffers,
-        )?;
-        Ok(frames)
+        );
+        match frames {
+            Ok(frames) => Ok(frames),
+            Err(_) => Err(EngineFault::Memory),
+        }
     }
 }
 

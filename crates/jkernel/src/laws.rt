@@ -2,7 +2,7 @@
 ghost use Rattle.jkernel.specs.Session.{SessionHasOneValue, LinesHaveOneValue};
 
 use jmsg_envelope::{opened_once, refused_is_not_opened};
-use zmtp_wire::{one_fault, one_reading, ready_has_one_outcome};
+use kernel_engine::one_hearing;
 
 /// For all the octets that a peer sends, what is written, what is published and how the session ends are one
 /// value; and so are the lines of an input.
@@ -10,9 +10,7 @@ pub fn one_value()
     ensures session { SessionHasOneValue }
     ensures lines { LinesHaveOneValue }
 {
-    one_reading();
-    one_fault();
-    ready_has_one_outcome();
+    one_hearing();
     opened_once();
     refused_is_not_opened();
 }

@@ -5,7 +5,7 @@ ghost use Rattle.std.specs.Io.KnownBytes.{Appends};
 ghost use Rattle.hex.specs.Hex.{encode_lower};
 ghost use Rattle.jkernel.specs.Lines.{ending_text, printed_lines};
 
-use crate::ending::Ending;
+use kernel_engine::SessionEnd;
 use std::alloc::{AllocError, Global};
 use std::io::{self, Write};
 
@@ -25,15 +25,17 @@ fn append_hex(text: &mut Vec<u8>, octets: &[u8]) -> Result<(), AllocError>
 }
 
 /// Adds how a session ended to a text.
-fn append_ending(alloc: Global, text: &mut Vec<u8>, ending: Ending) -> Result<(), AllocError>
+fn append_ending(alloc: Global, text: &mut Vec<u8>, ending: SessionEnd) -> Result<(), AllocError>
     ensures { OnOk result (text.new.items ≡ text.old.items ++ ending_text ending) }
 {
     match ending {
-        Ending::Eof => text.extend_from_slice(b"eof"),
-        Ending::Fault(fault) => {
+        SessionEnd::Eof => text.extend_from_slice(b"eof"),
+        SessionEnd::Shutdown(_restart) => text.extend_from_slice(b"shutdown"),
+        SessionEnd::Wire(fault) => {
             text.extend_from_slice(b"fault ")?;
             text.extend_from_slice(fault.number().to_string(alloc)?.as_bytes())
         }
+        SessionEnd::Failed(_fault) => Ok(()),
     }
 }
 
@@ -42,7 +44,7 @@ pub fn lines_text(
     alloc: Global,
     shell: &[u8],
     iopub: &[u8],
-    ending: Ending,
+    ending: SessionEnd,
 ) -> Result<Vec<u8>, AllocError>
     ensures { IfOk result (λ text. text.items ≡ printed_lines shell.now iopub.now ending) }
 {
@@ -90,14 +92,19 @@ mod tests {
 
     #[test]
     fn prints_a_session_that_broke_the_protocol(rt: HostRuntime) -> Result<(), Fail> {
-        let text = lines_text(rt.alloc(), b"\xab", b"", Ending::Fault(WireFault::Version))?;
+        let text = lines_text(
+            rt.alloc(),
+            b"\xab",
+            b"",
+            SessionEnd::Wire(WireFault::Version),
+        )?;
         assert!(rt; text.as_slice() == b"shell ab\niopub \nend fault 2\n".as_slice());
         Ok(())
     }
 
     #[test]
     fn prints_a_session_that_ended(rt: HostRuntime) -> Result<(), Fail> {
-        let text = lines_text(rt.alloc(), b"", b"\x00\xff", Ending::Eof)?;
+        let text = lines_text(rt.alloc(), b"", b"\x00\xff", SessionEnd::Eof)?;
         assert!(rt; text.as_slice() == b"shell \niopub 00ff\nend eof\n".as_slice());
         Ok(())
     }

@@ -3,7 +3,6 @@
 #![tactic(auto)]
 
 mod content;
-mod ending;
 mod engine;
 mod input;
 mod laws;
@@ -12,6 +11,8 @@ mod replay;
 mod request;
 mod session;
 mod stamp;
+#[cfg(test)]
+mod tests_cut;
 #[cfg(test)]
 mod tests_replay;
 

@@ -6,17 +6,21 @@ ghost use Rattle.std.specs.List.{flat_map};
 ghost use Rattle.zmtp_wire.specs.Frame.{text};
 ghost use Rattle.jkernel.specs.Lines.{hex_octets};
 ghost use Rattle.jkernel.specs.Session.{IsPrinted};
-ghost use Rattle.jkernel.specs.Replay.{Replays, IsReplayed, IsNotHex};
+ghost use Rattle.jkernel.specs.Replay.{PrintsPeer, IsPrintable, Replays, IsReplayed, IsNotHex};
 
-use crate::engine::{Engine, EngineFault};
+use crate::engine::Engine;
 use crate::input::{HexFault, octets_of, read_all};
 use crate::lines::{lines_text, write_out};
 use crate::session::session;
 use jmsg_envelope::Signer;
+use kernel_engine::{EngineFault, SessionEnd, one_hearing};
 use listed::Frames;
-use std::alloc::Global;
+use std::alloc::{AllocError, Global};
 use std::io::{Read, Write};
-use zmtp_wire::write_message;
+use zmtp_wire::{Counted, Inlet, WireFault, write_message};
+
+/// The most reads of one session.
+const TURNS: u64 = 1_000_000_000;
 
 /// How a replay ends.
 #[derive(Clone, Copy, Debug, PartialEq, Eq)]
@@ -122,23 +126,49 @@ fn read_octets<R: Read>(alloc: Global, reader: &mut R) -> Result<Vec<u8>, Status
 fn answer_octets(alloc: Global, key: Vec<u8>, octets: &[u8]) -> Result<Vec<u8>, EngineFault>
     ensures { IfOk result (λ lines. IsPrinted key.items octets.now lines.items) }
 {
+    // What a session that a fault ended comes to holds of all the octets, read or not.
+    one_hearing();
+    answer_peer(alloc, key, &mut Counted::new(octets))
+}
+
+/// The lines of the session with the peer whose octets are read here.
+pub fn answer_peer<R: Inlet>(
+    alloc: Global,
+    key: Vec<u8>,
+    reader: &mut R,
+) -> Result<Vec<u8>, EngineFault>
+    ensures { IfOk result (λ lines. PrintsPeer key.items (R.inflow reader.old).left (R.inflow reader.new).left lines.items) }
+{
     let mut engine = Engine::new(alloc, Signer::new(key));
     engine.start(alloc)?;
-    let outcome = session(alloc, &mut engine, octets)?;
+    let mut writer = Counted::new(Vec::new(alloc));
+    let end = printable(session(alloc, reader, &mut writer, &mut engine, TURNS))?;
+    let shell = writer.into_inner();
     let iopub = published_text(alloc, &engine.published)?;
-    let lines = lines_text(alloc, &outcome.written, &iopub, outcome.ending)?;
+    let lines = lines_text(alloc, &shell, &iopub, end)?;
     Ok(lines)
 }
 
+// How a session ended that its peer's octets ended: its lines are printed.
+fn printable(end: SessionEnd) -> Result<SessionEnd, EngineFault>
+    ensures { IfOk result (λ kept. (kept ≡ end) × IsPrintable end) }
+{
+    match end {
+        SessionEnd::Failed(fault) => Err(fault),
+        SessionEnd::Wire(WireFault::OutOfMemory) => Err(EngineFault::Memory),
+        SessionEnd::Eof | SessionEnd::Shutdown(_) | SessionEnd::Wire(_) => Ok(end),
+    }
+}
+
 // The texts of published messages, one after the other.
-fn published_text(alloc: Global, messages: &[Frames]) -> Result<Vec<u8>, EngineFault>
+fn published_text(alloc: Global, messages: &[Frames]) -> Result<Vec<u8>, AllocError>
     ensures { IfOk result (λ octets. octets.items ≡ flat_map text messages.now) }
 {
     let mut octets = Vec::new(alloc);
     for message in messages {
         // A message without frames has no text.
-        if !message.is_empty() {
-            write_message(message.as_slice(), &mut octets)?;
+        if !message.is_empty() && write_message(message.as_slice(), &mut octets).is_err() {
+            return Err(AllocError);
         }
     }
     Ok(octets)

@@ -63,6 +63,22 @@ const AN_INPUT_THAT_ENDS_INSIDE_A_MESSAGE_IN: &str =
 const AN_INPUT_THAT_ENDS_INSIDE_A_MESSAGE_OUT: &str =
     "shell ff00000000000000007f03004e554c4c000000000000000000000000000000000000000000000000000000000000000000000000000000000000000000000000041c0552454144590b536f636b65742d5479706500000006524f55544552\niopub 010673746174757301093c4944537c4d53473e010001867b2264617465223a22323030302d30312d30315430303a30303a30302e3030303030305a222c226d73675f6964223a227265706c61795f7331222c226d73675f74797065223a22737461747573222c2273657373696f6e223a227265706c6179222c22757365726e616d65223a226b65726e656c222c2276657273696f6e223a22352e33227d01027b7d01027b7d001e7b22657865637574696f6e5f7374617465223a227374617274696e67227d\nend eof\n";
 
+/// A peer's greeting, and its READY as a DEALER.
+const GREETING: &str =
+    "ff00000000000000017f03004e554c4c000000000000000000000000000000000000000000000000000000000000000000000000000000000000000000000000";
+
+const READY: &str =
+    "04290552454144590b536f636b65742d54797065000000064445414c4552084964656e7469747900000000";
+
+/// Our greeting and our READY, and the message that the kernel starts.
+const OUR_GREETING: &str =
+    "ff00000000000000007f03004e554c4c000000000000000000000000000000000000000000000000000000000000000000000000000000000000000000000000";
+
+const OUR_READY: &str = "041c0552454144590b536f636b65742d5479706500000006524f55544552";
+
+const STARTING: &str =
+    "010673746174757301093c4944537c4d53473e010001867b2264617465223a22323030302d30312d30315430303a30303a30302e3030303030305a222c226d73675f6964223a227265706c61795f7331222c226d73675f74797065223a22737461747573222c2273657373696f6e223a227265706c6179222c22757365726e616d65223a226b65726e656c222c2276657273696f6e223a22352e33227d01027b7d01027b7d001e7b22657865637574696f6e5f7374617465223a227374617274696e67227d";
+
 /// What a run under this key prints, and its status.
 fn printed(alloc: Global, key: &str, input: &str) -> Result<(u8, Vec<u8>), Fail> {
     let mut reader = input.as_bytes();
@@ -123,6 +139,37 @@ fn runs_print_their_lines(rt: HostRuntime) -> Result<(), Fail> {
         assert_eq!(rt; status, 0);
         assert_eq!(rt; output.as_slice(), want.as_bytes());
     }
+    Ok(())
+}
+
+#[test]
+fn faults_end_with_their_numbers(rt: HostRuntime) -> Result<(), Fail> {
+    let alloc = rt.alloc();
+    let other_mechanism =
+        "ff00000000000000017f0300504c41494e0000000000000000000000000000000000000000000000000000000000000000000000000000000000000000000000";
+    let no_signature = "00".repeat(alloc, 64)?;
+    let many_frames = "0100".repeat(alloc, 64)?;
+    // What comes behind the peer's greeting, or in its place; whether our READY is written; the fault.
+    for (greeting, behind, greeted, fault) in [
+        (no_signature.as_str(), "", false, 1),
+        (other_mechanism, "", false, 3),
+        (GREETING, "05", true, 4),
+        (GREETING, "020000000001000001", true, 5),
+        (GREETING, "0400", true, 8),
+        (GREETING, "000161", true, 8),
+    ] {
+        let input = format!(in alloc; "{greeting}{behind}")?;
+        let (status, output) = printed(alloc, "", input.as_str())?;
+        let ready = if greeted { OUR_READY } else { "" };
+        let want = format!(in alloc;
+            "shell {OUR_GREETING}{ready}\niopub {STARTING}\nend fault {fault}\n"
+        )?;
+        assert_eq!(rt; status, 0);
+        assert_eq!(rt; output.as_slice(), want.as_bytes());
+    }
+    let input = format!(in alloc; "{GREETING}{READY}{many_frames}01")?;
+    let (_, output) = printed(alloc, "", input.as_str())?;
+    assert!(rt; output.ends_with(b"\nend fault 6\n"));
     Ok(())
 }
 

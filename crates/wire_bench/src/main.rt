@@ -1,77 +1,46 @@
-//! Figures of the decoder: how long it takes to read many messages that come whole, or cut into small pieces.
+//! Figures of the decoder: how fast it reads, beside a plain copy of the same octets, and how much memory it takes.
 //!
-//! Two words: how many messages, and how many octets a piece. Without words it prints nothing.
+//! Without words it prints nothing. A message is named by the octets of its frames' bodies, one number a frame.
+//!
+//! - `whole MESSAGES PIECE BODY..` has the text of so many messages in memory and tells three times in
+//!   microseconds, each the best of a few: the decoder's over all pieces, the pieces' alone, and a plain copy's of
+//!   the whole text.
+//! - `ring MESSAGES PIECE BODY..` reads as many messages from a ring that holds a few of them, and tells the time
+//!   and the memory's peak before and after the reading.
+//! - `claim SIZE COME` feeds the head of a frame of this size and only so many octets of its body, and tells the
+//!   memory's peak before and after.
 #![tactic(auto)]
 
+mod count;
+mod peak;
+mod runs;
+mod stream;
+
+use runs::{claim, ring, whole};
 use std::alloc::{AllocError, Global};
-use std::time::Instant;
+use std::env::Args;
 use std::{env, io};
-use zmtp_wire::{Decoder, Limits, WireFault, write_message};
 
-/// The bodies of a `kernel_info_request` without a key.
-const BODIES: [&str; 6] = [
-    "<IDS|MSG>",
-    "",
-    "{\"msg_id\":\"a\",\"msg_type\":\"kernel_info_request\"}",
-    "{}",
-    "{}",
-    "{}",
-];
-
-/// The text of so many messages, one after the other.
-fn stream(alloc: Global, messages: u32) -> Result<Vec<u8>, AllocError> {
-    let mut frames = Vec::new(alloc);
-    for body in BODIES {
-        frames.push(Vec::from_slice(alloc, body.as_bytes())?)?;
+/// The numbers that the words say, a word that is none as 0.
+fn numbers(alloc: Global, words: Args) -> Result<Vec<usize>, AllocError> {
+    let mut numbers = Vec::new(alloc);
+    for word in words {
+        numbers.push(word.as_str().parse::<usize>().unwrap_or(0))?;
     }
-    let mut text = Vec::new(alloc);
-    if !frames.is_empty() && write_message(&frames, &mut text).is_err() {
-        return Err(AllocError);
-    }
-    let mut octets = Vec::new(alloc);
-    for _ in 0..messages {
-        octets.extend_from_slice(&text)?;
-    }
-    Ok(octets)
-}
-
-/// How much traffic the octets are, fed in pieces of this length.
-fn count_traffic(alloc: Global, octets: &[u8], piece: usize) -> Result<usize, WireFault> {
-    let mut decoder = Decoder::new(alloc, Limits::usual());
-    let mut count = 0usize;
-    for part in octets.chunks(piece.max(1)) {
-        let fed = decoder.feed(part);
-        if let Some(fault) = fed.fault {
-            return Err(fault);
-        }
-        count = count.saturating_add(fed.traffic.len());
-    }
-    Ok(count)
-}
-
-/// A word as a number, or 0.
-fn number(word: Option<String>) -> u32 {
-    match word {
-        Some(text) => text.as_str().parse::<u32>().unwrap_or(0),
-        None => 0,
-    }
+    Ok(numbers)
 }
 
 fn main(rt: HostRuntime) -> io::Result<()> {
     let mut words = env::args(&rt)?;
     let _program = words.next();
-    let messages = number(words.next());
-    let piece = number(words.next());
-    if messages == 0 || piece == 0 {
+    let Some(run) = words.next() else {
         return Ok(());
-    }
-    let octets = stream(rt.alloc(), messages)?;
-    let start = Instant::now(&rt)?;
-    let count = match count_traffic(rt.alloc(), &octets, piece as usize) {
-        Ok(count) => count,
-        Err(fault) => return eprintln!(rt; "wire_bench: {fault}"),
     };
-    let micros = start.elapsed(&rt)?.as_micros();
-    let len = octets.len();
-    println!(rt; "{count} messages, {len} octets in pieces of {piece}: {micros} microseconds")
+    let numbers = numbers(rt.alloc(), words)?;
+    match (run.as_str(), numbers.as_slice()) {
+        ("whole", [messages, piece, bodies @ ..]) => whole(&rt, *messages, *piece, bodies),
+        ("ring", [messages, piece, bodies @ ..]) => ring(&rt, *messages, *piece, bodies),
+        ("claim", [size, come]) => claim(&rt, *size, *come),
+        _ => Err(io::Error::other("no such run: see the program's first lines")),
+    }
 }

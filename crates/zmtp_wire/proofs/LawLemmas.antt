@@ -1,5 +1,5 @@
 -- No octets are read in two ways.
-use Rattle.std.proofs.Common.{◌≡◌, ◌≢◌, ℕ, ◌+◌, ◌^◌, ◌<◌, ◌≤◌, nat_lt, Bool, true, false, List, [], ◌∷◌, ◌++◌, length, map, refl, sym, ◌∙◌, ap, subst, arith, append_assoc}
+use Rattle.std.proofs.Common.{◌≡◌, ◌≢◌, ◌⊎◌, inl, inr, ℕ, ◌+◌, ◌^◌, ◌<◌, ◌≤◌, nat_lt, Bool, true, false, List, [], ◌∷◌, ◌++◌, length, map, refl, sym, ◌∙◌, ap, subst, arith, append_assoc}
 use Rattle.std.proofs.lemmas.List.{append-nil}
 use Rattle.std.proofs.lemmas.Bool.{ltb-true, ltb-false}
 use Rattle.std.specs.List.{AllByRecursion, flat_map}
@@ -8,8 +8,9 @@ use Rattle.zmtp_wire.specs.declared.limits.Limits.{Limits}
 use Rattle.zmtp_wire.specs.declared.traffic.Traffic.{Traffic}
 use Rattle.zmtp_wire.specs.declared.traffic.Traffic.TheVariants as traffic
 use Rattle.zmtp_wire.specs.declared.fault.WireFault.{WireFault}
-use Rattle.zmtp_wire.specs.Frame.{text, shortest, frame_octets, HasSize, size_bound, front_octets, bodies_of}
-use Rattle.zmtp_wire.specs.Grammar.{IsWithin, SpellsMessage, Spells, Reads, ReadsUpTo, HasNoTraffic, IsFaulty}
+use Rattle.zmtp_wire.specs.declared.fault.WireFault.TheVariants as faults
+use Rattle.zmtp_wire.specs.Frame.{text, head_octets, shortest, frame_octets, HasSize, size_bound, front_octets, bodies_of}
+use Rattle.zmtp_wire.specs.Grammar.{IsWithin, SpellsMessage, Spells, Reads, ReadsUpTo, HasNoTraffic, IsRefused, IsFaulty}
 use Rattle.zmtp_wire.specs.Decoding.{FeedsInTurn, pieces_of, traffic_of}
 use Rattle.zmtp_wire.proofs.Reading.{Verdict, unfinished, faulty, found, ComesTo, comes_once}
 use Rattle.zmtp_wire.proofs.ReadingLemmas.{spelled_comes, faulty_comes}
@@ -118,3 +119,61 @@ text_is_read_first limits (body ∷ bodies) after read rest some within small re
       spelled = spelled.spelled;
     } in
     first_read limits (text (body ∷ bodies)) (traffic.Message (body ∷ bodies)) after read rest spells reads ends
+
+-- what stands in front is one traffic
+pub one_front : (limits : Limits) (octets front others : List ℕ) (one other : Traffic) (rest after : List ℕ)
+    → octets ≡ front ++ rest → Spells limits front one → octets ≡ others ++ after → Spells limits others other → (one ≡ other) × (rest ≡ after)
+one_front limits octets front others one other rest after is spelled is' spelled' =
+    let first : ComesTo limits octets (found one rest) = subst (λ o. ComesTo limits o (found one rest)) (sym is) (spelled_comes limits front one rest spelled) in
+    let second : ComesTo limits octets (found other after) = subst (λ o. ComesTo limits o (found other after)) (sym is') (spelled_comes limits others other after spelled') in
+    let same = comes_once limits octets (found one rest) (found other after) first second in (let e : one ≡ other = cc in e, let e : rest ≡ after = cc in e)
+
+-- the same behind one more
+goes_on_behind : (limits : Limits) (first second : Traffic) (one other : List Traffic) (rest others : List ℕ) → first ≡ second
+    → ((more : List Traffic) × (other ≡ one ++ more) × ReadsUpTo limits rest more others) ⊎ ((more : List Traffic) × (one ≡ other ++ more) × ReadsUpTo limits others more rest)
+    → ((more : List Traffic) × (second ∷ other ≡ (first ∷ one) ++ more) × ReadsUpTo limits rest more others) ⊎ ((more : List Traffic) × (first ∷ one ≡ (second ∷ other) ++ more) × ReadsUpTo limits others more rest)
+goes_on_behind limits first second one other rest others same (inl (more, is, reads)) = inl (more, ap (λ t. second ∷ t) is ∙ ap (λ t. t ∷ (one ++ more)) (sym same), reads)
+goes_on_behind limits first second one other rest others same (inr (more, is, reads)) = inr (more, ap (λ t. first ∷ t) is ∙ ap (λ t. t ∷ (other ++ more)) same, reads)
+
+-- of two readings of the same octets one goes on where the other ends
+pub one_goes_on : (limits : Limits) (octets : List ℕ) (one other : List Traffic) (rest others : List ℕ)
+    → ReadsUpTo limits octets one rest → ReadsUpTo limits octets other others
+    → ((more : List Traffic) × (other ≡ one ++ more) × ReadsUpTo limits rest more others) ⊎ ((more : List Traffic) × (one ≡ other ++ more) × ReadsUpTo limits others more rest)
+one_goes_on limits octets [] other rest others (front, is, none) second =
+    inl (other, refl, subst (λ o. ReadsUpTo limits o other others) (is ∙ ap (λ o. o ++ rest) none) second)
+one_goes_on limits octets (first ∷ one) [] rest others reads (front, is, none) =
+    inr (first ∷ one, refl, subst (λ o. ReadsUpTo limits o (first ∷ one) rest) (is ∙ ap (λ o. o ++ others) none) reads)
+one_goes_on limits octets (first ∷ one) (second ∷ other) rest others (front, is, (head, tail, split, spelled, reads)) (front', is', (head', tail', split', spelled', reads')) =
+    let regrouped : octets ≡ head ++ (tail ++ rest) = is ∙ ap (λ o. o ++ rest) split ∙ append_assoc head tail rest in
+    let regrouped' : octets ≡ head' ++ (tail' ++ others) = is' ∙ ap (λ o. o ++ others) split' ∙ append_assoc head' tail' others in
+    let same = one_front limits octets head head' first second (tail ++ rest) (tail' ++ others) regrouped spelled regrouped' spelled' in
+    goes_on_behind limits first second one other rest others same.0
+    (one_goes_on limits (tail ++ rest) one other rest others (tail, refl, reads) (tail', same.1, reads'))
+
+-- what is refused is refused however it goes on
+refused_stays : (limits : Limits) (before : List (List ℕ)) (octets after : List ℕ) (fault : WireFault) → IsRefused limits before octets fault → IsRefused limits before (octets ++ after) fault
+refused_stays limits before octets after faults.Flags (flags, rest, is, bad) = (flags, rest ++ after, ap (λ o. o ++ after) is, bad)
+refused_stays limits before octets after faults.TooManyFrames (more, long, rest, is, many) = (more, long, rest ++ after, ap (λ o. o ++ after) is, many)
+refused_stays limits before octets after faults.FrameTooLong (more, long, command, size, rest, is, said, allowed, over) =
+    (more, long, command, size, rest ++ after, ap (λ o. o ++ after) is ∙ append_assoc (head_octets more long command size) rest after, said, allowed, over)
+refused_stays limits before octets after faults.MessageTooLong (more, long, size, rest, is, said, allowed, fits, over) =
+    (more, long, size, rest ++ after, ap (λ o. o ++ after) is ∙ append_assoc (head_octets more long false size) rest after, said, allowed, fits, over)
+refused_stays limits before octets after faults.Command (frame, rest, is, said, none, fits, bad) =
+    (frame, rest ++ after, ap (λ o. o ++ after) is ∙ append_assoc (frame_octets false true frame) rest after, said, none, fits, bad)
+refused_stays limits before octets after faults.Signature never = never
+refused_stays limits before octets after faults.Version never = never
+refused_stays limits before octets after faults.Mechanism never = never
+refused_stays limits before octets after faults.Pairing never = never
+refused_stays limits before octets after faults.PeerError never = never
+refused_stays limits before octets after faults.Spent never = never
+refused_stays limits before octets after faults.OutOfMemory never = never
+
+pub fault_stays : (limits : Limits) (octets after : List ℕ) (fault : WireFault) → IsFaulty limits octets fault → IsFaulty limits (octets ++ after) fault
+fault_stays limits octets after fault h = record {
+  front = h.front;
+  rest = h.rest ++ after;
+  sizes = h.sizes;
+  within = h.within;
+  spelled = ap (λ o. o ++ after) h.spelled ∙ append_assoc (front_octets h.front) h.rest after;
+  refused = refused_stays limits (bodies_of h.front) h.rest after fault h.refused;
+}

@@ -1,12 +1,11 @@
 -- What one step of reading does to the octets that are kept.
-use Rattle.std.proofs.Common.{◌≡◌, ◌≢◌, ◌⊎◌, inl, inr, ℕ, ◌+◌, ◌<◌, ◌≤◌, Bool, true, false, List, [], ◌∷◌, ◌++◌, length, take, drop, sum_by, Option, Some, None, Result, Ok, Err, IfOk, IfErr, ◌-◌, refl, sym, ◌∙◌, ap, subst, arith, rules, append_assoc, length-append}
+use Rattle.std.proofs.Common.{◌≡◌, ◌≢◌, ◌⊎◌, inl, inr, ℕ, ◌+◌, ◌<◌, ◌≤◌, Bool, true, false, List, [], ◌∷◌, ◌++◌, length, take, drop, sum_by, Some, None, Result, Ok, Err, IfOk, IfErr, ◌-◌, refl, sym, ◌∙◌, ap, subst, arith, append_assoc, length-append, get_or}
 use Rattle.std.proofs.Math.Seq.{take-add}
-use Rattle.std.proofs.lemmas.List.{append-nil, map-append, length-map, take-append-drop}
+use Rattle.std.proofs.lemmas.List.{append-nil, map-append, take-append-drop}
 use Rattle.std.proofs.lemmas.List.Sums.{sum_by-append}
 use Rattle.std.proofs.lemmas.Grind.{flat_map-append}
-use Rattle.std.specs.List.{AllByRecursion, flat_map}
+use Rattle.std.specs.List.{AllByRecursion}
 use Rattle.zmtp_wire.specs.declared.frame.Frame.{Frame}
-use Rattle.zmtp_wire.specs.declared.flags.Flags.{Flags}
 use Rattle.zmtp_wire.specs.declared.limits.Limits.{Limits}
 use Rattle.zmtp_wire.specs.declared.pending.Pending.{Pending}
 use Rattle.zmtp_wire.specs.declared.pending.Step.{Step}
@@ -16,8 +15,8 @@ use Rattle.zmtp_wire.specs.declared.traffic.Traffic.TheVariants as traffic
 use Rattle.zmtp_wire.specs.declared.fault.WireFault.{WireFault}
 use Rattle.zmtp_wire.specs.declared.fault.WireFault.TheVariants as faults
 use Rattle.zmtp_wire.specs.Frame.{flags_octet, head_octets, size_octets, size_bound, HasSize, front_octets, bodies_of, frame_octets}
-use Rattle.zmtp_wire.specs.Grammar.{IsBadFlags, reserved, command_with_more, command_inside, IsWithin, SpellsMessage, SpellsCommand, Spells, AcceptsFlags, IsRefused, IsFaulty, IsBadCommand, command_body}
-use Rattle.zmtp_wire.specs.Pending.{head_of, stage_octets, pending_octets, bodies_before, AcceptsSize, IsFront, IsPending, Keeps, Refuses, IsCommandOf}
+use Rattle.zmtp_wire.specs.Grammar.{IsBadFlags, command_with_more, command_inside, IsWithin, SpellsMessage, Spells, AcceptsFlags, IsRefused, IsFaulty, IsBadCommand}
+use Rattle.zmtp_wire.specs.Pending.{size_len, pending_octets, bodies_before, AcceptsSize, IsFront, IsPending, Keeps, Refuses, IsCommandOf}
 
 -- what holds of two lists holds of both together
 pub all_append : {X : Type 0} (P : X → Type 0) (xs ys : List X) → AllByRecursion P xs → AllByRecursion P ys → AllByRecursion P (xs ++ ys)
@@ -227,3 +226,39 @@ measured_err (Err fault) limits front short head octets taken is refused =
     let whole : front ++ head ++ drop taken octets ≡ front ++ short ++ octets =
     (rw is (simp append_assoc)) ∙ ap (λ o. front ++ (short ++ o)) (take-append-drop taken octets) ∙ (simp append_assoc) in
     subst (λ o. Refuses limits o fault) whole refused
+
+-- a head whose flags octet and size are both there
+pub begun_head : (more long command : Bool) (size at : ℕ) (octets : List ℕ) → 0 < length octets → get_or octets 0 0 ≡ flags_octet more long command
+    → size_octets long size ≡ take (size_len long) (drop 1 octets) → at ≡ 1 + size_len long → head_octets more long command size ≡ take at octets
+begun_head more long command size at [] some is value ends = absurd (omega arith)
+begun_head more false command size at (first ∷ rest) some is value ends = rw ends (ap (λ o. o ∷ size_octets false size) (sym is) ∙ ap (λ o. first ∷ o) value)
+begun_head more true command size at (first ∷ rest) some is value ends = rw ends (ap (λ o. o ∷ size_octets true size) (sym is) ∙ ap (λ o. first ∷ o) value)
+
+-- the octets of a head, and those behind it
+pub begun_ok : (result : Result Step WireFault) (limits : Limits) (new : Pending) (front head octets : List ℕ) (at : ℕ) → head ≡ take at octets
+    → IfOk result (λ step. (at ≤ step.taken) × (step.taken ≤ length octets))
+    → IfOk result (λ step. Keeps limits (front ++ head ++ take (step.taken - at) (drop at octets)) new step.traffic)
+    → IfOk result (λ step. Keeps limits (front ++ take step.taken octets) new step.traffic)
+begun_ok result limits new front head octets at is within kept =
+    subst (λ (f : List ℕ). IfOk result (λ step. Keeps limits (f ++ take step.taken octets) new step.traffic)) (append-nil front)
+    (measured_ok result limits new front [] head octets at is within kept)
+
+pub begun_err : (result : Result Step WireFault) (limits : Limits) (front head octets : List ℕ) (at : ℕ) → head ≡ take at octets
+    → IfErr result (Refuses limits (front ++ head ++ drop at octets))
+    → IfErr result (Refuses limits (front ++ octets))
+begun_err result limits front head octets at is refused =
+    subst (λ (f : List ℕ). IfErr result (Refuses limits (f ++ octets))) (append-nil front)
+    (measured_err result limits front [] head octets at is refused)
+
+-- a body that stands whole behind its head, and what follows it
+pub opened : (front : List ℕ) (head : ℕ → List ℕ) (size : ℕ) (whole behind : List ℕ) → whole ≡ take size behind
+    → length whole ≡ size → front ++ (head (length whole) ++ whole) ≡ front ++ head size ++ take size behind
+opened front head size whole behind is full =
+    ap (λ n. front ++ (head n ++ whole)) full ∙ ap (λ o. front ++ (head size ++ o)) is ∙ (simp append_assoc)
+
+pub opened_all : (front : List ℕ) (head : ℕ → List ℕ) (size : ℕ) (whole behind : List ℕ) → whole ≡ take size behind
+    → length whole ≡ size → front ++ head size ++ behind ≡ (front ++ (head (length whole) ++ whole)) ++ drop size behind
+opened_all front head size whole behind is full =
+    ap (λ n. front ++ head n ++ behind) (sym full)
+    ∙ ap (λ o. front ++ head (length whole) ++ o) (sym (take-append-drop size behind) ∙ ap (λ o. o ++ drop size behind) (sym is))
+    ∙ (simp append_assoc)

@@ -1,6 +1,7 @@
 -- The outcome of READY: what its parts say, and that there is one at most.
-use Rattle.std.proofs.Common.{◌≡◌, ℕ, cond, eqb, List, [], ◌∷◌, Some, None, Ok, Err, Result, get_or, refl, sym, ap, subst, ◌∙◌, inl, inr, ◌+◌, ◌<◌, ◌^◌, length, arith}
-use Rattle.std.specs.Prelude.{codes, IfOk, IfErr}
+use Rattle.std.proofs.Common.{◌≡◌, true, ℕ, cond, eqb, List, [], ◌∷◌, Some, None, Ok, Err, Result, get_or, refl, sym, ap, subst, ◌∙◌, inl, inr, ◌+◌, ◌<◌, ◌^◌, length, arith}
+use Rattle.std.specs.Prelude.{codes, bytes_eq, IfOk, IfErr}
+use Rattle.std.proofs.lemmas.Slice.Eq.{bytes_eq-Decides}
 use Rattle.std.specs.Str.{str_to_ascii_lowercase}
 use Rattle.std.proofs.lemmas.List.{append-nil}
 use Rattle.zmtp_wire.specs.declared.fault.WireFault.{WireFault}
@@ -67,14 +68,17 @@ ready_no_error name is_ready is_error =
     let same : get_or (codes "READY") 0 0 ≡ get_or (codes "ERROR") 0 0 = ap (λ (t : List ℕ). get_or t 0 0) (sym is_ready ∙ is_error) in
     omega arith
 
+error_named : (name : List ℕ) → bytes_eq name (codes "ERROR") ≡ true → name ≡ codes "ERROR"
+error_named name is = (bytes_eq-Decides name (codes "ERROR")).0 is
+
 announces_no_error : (first : Traffic) (v : List ℕ) → Announces first v → ¬ (IsError first)
 announces_no_error (Message _) v one error = absurd one
-announces_no_error (Command name rest) v one error = ready_no_error name one.0 error
+announces_no_error (Command name rest) v one error = ready_no_error name one.0 (error_named name error)
 
 no_ready_no_error : (first : Traffic) → IsNoReady first → ¬ (IsError first)
-no_ready_no_error (Message _) not error = absurd error
-no_ready_no_error (Command name rest) (inl other) error = other.1 error
-no_ready_no_error (Command name rest) (inr (is, _)) error = ready_no_error name is error
+no_ready_no_error (Message bodies) not error = absurd (let e = error in cc)
+no_ready_no_error (Command name rest) (inl other) error = other.1 (error_named name error)
+no_ready_no_error (Command name rest) (inr (is, _)) error = ready_no_error name is (error_named name error)
 
 -- the outcomes that there are
 data Outcome (first : Traffic) (ours : SocketType) : Result Ready WireFault → Type 0 where

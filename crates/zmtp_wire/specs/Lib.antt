@@ -1,4 +1,5 @@
 pub mod Decoding
+pub mod Device
 pub mod Fault
 pub mod Frame
 pub mod Grammar
@@ -8,3 +9,4 @@ pub mod Limits
 pub mod Pending
 pub mod Ready
 pub mod SocketType
+pub mod Traffic

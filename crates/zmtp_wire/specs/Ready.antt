@@ -13,6 +13,7 @@ use Rattle.zmtp_wire.specs.declared.traffic.Traffic.TheVariants.{Message, Comman
 use Rattle.zmtp_wire.specs.SocketType.{type_name, NamesType, Pairs}
 use Rattle.zmtp_wire.specs.Frame.{frame_octets, shortest}
 use Rattle.zmtp_wire.specs.Grammar.{command_body}
+use Rattle.zmtp_wire.specs.Traffic.{is_error}
 use Rattle.zmtp_wire.specs.Lengths.{short_text, long_text}
 
 -- a property: a name and a value
@@ -73,8 +74,7 @@ Announces (Command name rest) value = (name ≡ codes "READY") × AnnouncesIn re
 
 -- the command ERROR, whatever it says
 abbrev pub IsError : Traffic → Type 0
-IsError (Message _) = ⊥
-IsError (Command name _) = name ≡ codes "ERROR"
+IsError first = is_error first ≡ true
 
 -- a message, a command of another name, or a READY that announces no socket type
 abbrev pub IsNoReady : Traffic → Type 0

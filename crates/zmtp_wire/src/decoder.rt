@@ -22,7 +22,7 @@ pub struct Fed {
 
 /// Reads a peer's messages and commands from the octets behind its greeting, in whatever pieces they come
 /// (ZMTP 3.0, "Traffic"). It keeps the octets that aren't whole traffic, no more than the limits allow and
-/// one head, and looks at each octet once.
+/// the heads of these frames, and looks at each octet once.
 #[derive(Debug, Drop)]
 pub struct Decoder {
     pending: Pending,

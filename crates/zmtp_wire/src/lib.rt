@@ -3,6 +3,7 @@
 
 mod command;
 mod decoder;
+mod device;
 mod fault;
 mod flags;
 mod frame;
@@ -16,6 +17,7 @@ mod socket_type;
 mod traffic;
 
 pub use decoder::{Decoder, Fed};
+pub use device::{Counted, Inlet, Outlet, ReadFailed, WriteFailed, write_all};
 pub use fault::WireFault;
 pub use frame::Frame;
 pub use greet::{Peer, greeting, our_greeting_is_accepted, read_greeting};
@@ -31,5 +33,7 @@ pub use traffic::Traffic;
 
 #[cfg(test)]
 mod tests_decoder;
+#[cfg(test)]
+mod tests_device;
 #[cfg(test)]
 mod tests_ready;

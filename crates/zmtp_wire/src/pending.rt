@@ -1,4 +1,4 @@
-ghost use Rattle.std.specs.Prelude.{◌≡◌, ◌+◌, ◌-◌, ◌<◌, ◌≤◌, ◌^◌, ◌∷◌, ◌++◌, ℕ, List, length, take, drop, IfOk, IfErr, OnOk, true, [], Ok};
+ghost use Rattle.std.specs.Prelude.{◌≡◌, ◌+◌, ◌-◌, ◌<◌, ◌≤◌, ◌^◌, ◌∷◌, ◌++◌, ℕ, List, length, take, drop, IfOk, IfErr, IfSome, OnOk, true, [], Ok};
 ghost use Rattle.zmtp_wire.specs.Frame.{flags_octet, front_octets, size_bound, size_octets, bodies_of};
 ghost use Rattle.zmtp_wire.specs.Grammar.{AcceptsFlags, IsRefused};
 ghost use Rattle.zmtp_wire.specs.Pending.{size_len, head_of, pending_octets, bodies_before, AcceptsSize, IsFront, IsPending, Keeps, Refuses};
@@ -60,6 +60,7 @@ impl Pending {
     }
 
     /// Takes the next octets, as far as they belong to one frame.
+    #[inline(always)]
     pub fn step(&mut self, alloc: Global, octets: &[u8]) -> Result<Step, WireFault>
         requires pending { IsPending self.old }
         requires some { 0 < length octets.now }
@@ -67,6 +68,18 @@ impl Pending {
         ensures ok { IfOk result (λ step. Keeps self.old.limits (pending_octets self.old ++ take step.taken octets.now) self.new step.traffic) }
         ensures err { IfErr result (Refuses self.old.limits (pending_octets self.old ++ octets.now)) }
     {
+        if let Stage::Flags = self.stage {
+            return self.begin(alloc, octets);
+        }
+        if let Stage::Body(_, size, body) = &mut self.stage
+            && octets.len() < *size - body.len()
+        {
+            body.extend_from_slice(octets)?;
+            return Ok(Step {
+                taken: octets.len(),
+                traffic: None,
+            });
+        }
         match mem::replace(&mut self.stage, Stage::Flags) {
             Stage::Flags => self.begin(alloc, octets),
             Stage::Size(flags, size) => self.measure(alloc, flags, size, octets),
@@ -74,7 +87,8 @@ impl Pending {
         }
     }
 
-    // Takes the flags octet of the next frame.
+    // Takes the flags octet of the next frame, and what follows it where the size is whole.
+    #[inline(always)]
     fn begin(&mut self, alloc: Global, octets: &[u8]) -> Result<Step, WireFault>
         requires front { IsFront self.old }
         requires some { 0 < length octets.now }
@@ -83,11 +97,15 @@ impl Pending {
         ensures err { IfErr result (Refuses self.old.limits (front_octets self.old.frames.items ++ octets.now)) }
     {
         let flags = self.judge_flags(octets[0])?;
-        self.stage = Stage::Size(flags, Vec::new(alloc));
-        Ok(Step {
-            taken: 1,
-            traffic: None,
-        })
+        let Some(size) = size_behind(flags.long, &octets[1..]) else {
+            self.stage = Stage::Size(flags, Vec::new(alloc));
+            return Ok(Step {
+                taken: 1,
+                traffic: None,
+            });
+        };
+        let at = if flags.long { 9 } else { 2 };
+        self.open(alloc, flags, size, at, octets)
     }
 
     // Judges the flags octet of the next frame.
@@ -109,6 +127,7 @@ impl Pending {
     }
 
     // Takes octets of the size, and of the body behind it.
+    #[inline(never)]
     fn measure(
         &mut self,
         alloc: Global,
@@ -144,6 +163,7 @@ impl Pending {
     }
 
     // Judges the size, which ends before the octet at `at`, and takes octets of the body.
+    #[inline(always)]
     fn open(
         &mut self,
         alloc: Global,
@@ -164,10 +184,19 @@ impl Pending {
             ++ head_of flags size ++ drop at octets.now)) }
     {
         self.judge_size(flags, size)?;
-        let step = self.gather(alloc, flags, size, Vec::new(alloc), &octets[at..])?;
+        let behind = &octets[at..];
+        if behind.len() < size {
+            self.stage = Stage::Body(flags, size, Vec::from_slice(alloc, behind)?);
+            return Ok(Step {
+                taken: octets.len(),
+                traffic: None,
+            });
+        }
+        let body = Vec::from_slice(alloc, &behind[..size])?;
+        let traffic = self.finish(alloc, flags, body)?;
         Ok(Step {
-            taken: at + step.taken,
-            traffic: step.traffic,
+            taken: at + size,
+            traffic,
         })
     }
 
@@ -190,6 +219,7 @@ impl Pending {
     }
 
     // Takes octets of the body.
+    #[inline(never)]
     fn gather(
         &mut self,
         alloc: Global,
@@ -223,6 +253,7 @@ impl Pending {
     }
 
     // Takes a whole frame.
+    #[inline(always)]
     fn finish(
         &mut self,
         alloc: Global,
@@ -271,28 +302,43 @@ impl Pending {
     // Takes a message's last frame.
     fn end_with(&mut self, alloc: Global, body: Vec<u8>) -> Result<Traffic, AllocError>
         ensures message { IfOk result (λ traffic. traffic ≡ Traffic.Message (bodies_before self.old ++ body.items ∷ [])) }
-        ensures empty { self.new.frames.items ≡ [] }
+        ensures empty { OnOk result (self.new.frames.items ≡ []) }
         ensures rest { self.new ≡ record self.old {
           frames = self.new.frames;
           left = self.old.limits.message;
         } }
     {
-        let frames = mem::replace(&mut self.frames, Vec::new(alloc));
         self.left = self.limits.message;
-        Ok(Traffic::Message(message(alloc, frames, body)?))
+        Ok(Traffic::Message(message(alloc, &mut self.frames, body)?))
     }
 }
 
-// The bodies of these frames and of the last one, none of them copied.
-fn message(alloc: Global, frames: Vec<Frame>, last: Vec<u8>) -> Result<Frames, AllocError>
-    ensures { IfOk result (λ message. message ≡ bodies_of frames.items ++ last.items ∷ []) }
+// Takes out the bodies of these frames, and puts the last one behind them, none of them copied.
+fn message(alloc: Global, frames: &mut Vec<Frame>, last: Vec<u8>) -> Result<Frames, AllocError>
+    ensures message { IfOk result (λ message. message ≡ bodies_of frames.old.items ++ last.items ∷ []) }
+    ensures empty { OnOk result (frames.new.items ≡ []) }
 {
     let mut bodies = Vec::with_capacity(alloc, frames.len() + 1)?;
-    for frame in frames {
+    for frame in frames.drain(..) {
         bodies.push(frame.body.into_vec())?;
     }
     bodies.push(last)?;
     Ok(Frames::new(bodies))
+}
+
+// The size that these octets begin with, where all of it has come.
+fn size_behind(long: bool, octets: &[u8]) -> Option<usize>
+    ensures said { IfSome result (λ size. size < size_bound long) }
+    ensures come { IfSome result (λ _. size_len long ≤ length octets.now) }
+    ensures value { IfSome result (λ size. size_octets long size ≡ take (size_len long) octets.now) }
+{
+    if !long {
+        return octets.first().map(|size| usize::from(*size));
+    }
+    if octets.len() < 8 {
+        return None;
+    }
+    Some(long_size(&octets[..8]))
 }
 
 // The number that eight octets say in network order.

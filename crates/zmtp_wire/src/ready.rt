@@ -1,4 +1,4 @@
-ghost use Rattle.std.specs.Prelude.{◌≡◌, ◌≢◌, ◌<◌, ◌≤◌, ◌^◌, ◌⊎◌, ◌++◌, ℕ, List, length, IfSome, IfNone, IfOk, IfErr};
+ghost use Rattle.std.specs.Prelude.{◌≡◌, ◌≢◌, ◌<◌, ◌≤◌, ◌^◌, ◌⊎◌, ◌++◌, ℕ, List, length, codes, IfSome, IfNone, IfOk, IfErr};
 ghost use Rattle.zmtp_wire.specs.Ready.{Property, BeginsWith, AnnouncesIn, HasNoProperties, AnnouncesNoneIn, Accepts, AcceptsNone, IsReady, ready_octets, PropertiesHaveOneReading, ReadyHasOneOutcome, OurReadyIsRead};
 ghost use Rattle.zmtp_wire.specs.Lengths.{short_text, long_text};
 
@@ -53,18 +53,20 @@ pub fn ready_text(alloc: Global, socket: SocketType) -> Result<Vec<u8>, WireFaul
 pub fn read_ready(first: &Traffic, ours: SocketType) -> Result<Ready, WireFault>
     ensures { IsReady first.now ours result }
 {
+    if first.is_error() {
+        return Err(WireFault::PeerError);
+    }
     match first {
         Traffic::Message(_) => Err(WireFault::Command),
         Traffic::Command(name, rest) => read_command(name.as_slice(), rest.as_slice(), ours),
     }
 }
 
+// Reads a command that isn't ERROR.
 fn read_command(name: &[u8], rest: &[u8], ours: SocketType) -> Result<Ready, WireFault>
+    requires { name.now ≢ codes "ERROR" }
     ensures { IsReady (Traffic.Command name.now rest.now) ours result }
 {
-    if name == b"ERROR".as_slice() {
-        return Err(WireFault::PeerError);
-    }
     if name != b"READY".as_slice() {
         return Err(WireFault::Command);
     }

@@ -8,3 +8,18 @@ pub enum Traffic {
     /// A command's name, of at least one octet, and the rest of its body.
     Command(Octets, Octets),
 }
+
+impl Traffic {
+    ghost use Rattle.std.specs.Prelude.{◌≡◌};
+    ghost use Rattle.zmtp_wire.specs.Traffic.{is_error};
+
+    /// Whether it is the command ERROR, by which a peer ends the connection. What it says isn't judged.
+    pub fn is_error(&self) -> bool
+        ensures { result ≡ is_error self.now }
+    {
+        match self {
+            Traffic::Message(_) => false,
+            Traffic::Command(name, _) => name.as_slice() == b"ERROR".as_slice(),
+        }
+    }
+}

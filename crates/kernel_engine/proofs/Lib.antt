@@ -1,0 +1,10 @@
+pub mod AnswerLemmas
+pub mod FirstLemmas
+pub mod HearLemmas
+pub mod HearOnce
+pub mod Legs
+pub mod Opening
+pub mod ServeLemmas
+pub mod ShakeLemmas
+pub mod TrafficLemmas
+pub mod Unfinished

@@ -1,0 +1,120 @@
+-- What is heard of a peer: whether it is met, which messages it sends, and how its octets end the connection.
+use Rattle.std.specs.Prelude.{◌≡◌, ◌⊎◌, ℕ, ◌<◌, ◌≤◌, List, [], ◌∷◌, ◌++◌, length, take, drop, Bool, true, false, Ok, Err, if◌then◌else◌, MatchBool}
+use Rattle.zmtp_wire.specs.declared.fault.WireFault.{WireFault}
+use Rattle.zmtp_wire.specs.declared.fault.WireFault.TheVariants.{PeerError}
+use Rattle.zmtp_wire.specs.declared.socket_type.SocketType.{SocketType}
+use Rattle.zmtp_wire.specs.declared.traffic.Traffic.{Traffic}
+use Rattle.zmtp_wire.specs.declared.traffic.Traffic.TheVariants as traffic
+use Rattle.zmtp_wire.specs.Limits.{usual_limits}
+use Rattle.zmtp_wire.specs.Grammar.{Spells, ReadsUpTo, IsFaulty, IsUnfinished}
+use Rattle.zmtp_wire.specs.Greeting.{greeting_octets, IsGreeting, IsRefusedGreeting}
+use Rattle.zmtp_wire.specs.Ready.{IsReady, ready_octets}
+use Rattle.zmtp_wire.specs.Traffic.{is_error}
+use Rattle.kernel_engine.specs.declared.end.SessionEnd.{SessionEnd}
+use Rattle.kernel_engine.specs.declared.end.SessionEnd.TheVariants.{Eof, Shutdown, Wire, Failed}
+
+-- the frames of a message
+abbrev pub Message : Type 0
+Message = List (List ℕ)
+
+-- a message's frames stand before these messages, and a command is ignored
+abbrev pub with_message : Traffic → List Message → List Message
+with_message (traffic.Message message) messages = message ∷ messages
+with_message (traffic.Command name rest) messages = messages
+
+-- the messages up to a command ERROR; other commands are ignored
+abbrev pub messages_in : List Traffic → List Message
+messages_in [] = []
+messages_in (first ∷ others) = if is_error first then [] else with_message first (messages_in others)
+
+-- whether a command ERROR is among them
+abbrev pub has_error : List Traffic → Bool
+has_error [] = false
+has_error (first ∷ others) = if is_error first then true else has_error others
+
+-- how the octets behind the last whole traffic end a connection: they aren't finished when the peer has sent its
+-- last octet, or a fault is in them
+abbrev pub EndsAs : List ℕ → SessionEnd → Type 0
+EndsAs rest Eof = IsUnfinished usual_limits rest
+EndsAs rest (Wire fault) = IsFaulty usual_limits rest fault
+EndsAs rest (Shutdown restart) = ⊥
+EndsAs rest (Failed fault) = ⊥
+
+-- how a connection ends behind this traffic: by a command ERROR in it, whatever follows, or as the rest does
+abbrev pub EndsBehind : List Traffic → List ℕ → SessionEnd → Type 0
+EndsBehind others rest ending = MatchBool (has_error others) (ending ≡ Wire PeerError) (EndsAs rest ending)
+
+-- What octets behind a peer's READY say: these messages, and how they end the connection.
+pub record Says (octets : List ℕ) (messages : List Message) (ending : SessionEnd) : Type 0 where
+  pub traffic : List Traffic
+  pub rest : List ℕ
+  pub read : ReadsUpTo usual_limits octets traffic rest
+  pub said : messages ≡ messages_in traffic
+  pub ends : EndsBehind traffic rest ending
+
+-- the peer's greeting doesn't come whole
+pub record IsSilent (octets opening : List ℕ) (ending : SessionEnd) : Type 0 where
+  pub short : length octets < 64
+  pub greets : opening ≡ greeting_octets
+  pub ends : ending ≡ Eof
+
+-- the peer's greeting is refused, and nothing more is written
+pub record IsNotGreeted (octets opening : List ℕ) (ending : SessionEnd) : Type 0 where
+  pub fault : WireFault
+  pub whole : 64 ≤ length octets
+  pub refused : IsRefusedGreeting (take 64 octets) fault
+  pub greets : opening ≡ greeting_octets
+  pub ends : ending ≡ Wire fault
+
+-- the peer's greeting is accepted, and our READY is written
+pub record IsGreeted (ours : SocketType) (octets opening : List ℕ) : Type 0 where
+  pub whole : 64 ≤ length octets
+  pub accepted : IsGreeting (take 64 octets)
+  pub greets : opening ≡ greeting_octets ++ ready_octets ours
+
+-- no traffic comes whole behind the peer's greeting
+pub record IsNotReady (ours : SocketType) (octets opening : List ℕ) (ending : SessionEnd) : Type 0 where
+  pub greeted : IsGreeted ours octets opening
+  pub ends : EndsAs (drop 64 octets) ending
+
+-- the first traffic behind the peer's greeting
+pub record ComesFirst (octets : List ℕ) (first : Traffic) (behind : List ℕ) : Type 0 where
+  pub front : List ℕ
+  pub split : drop 64 octets ≡ front ++ behind
+  pub spelled : Spells usual_limits front first
+
+-- the first traffic of the peer is refused as its READY, and nothing more is written
+pub record IsNotPaired (ours : SocketType) (octets opening : List ℕ) (ending : SessionEnd) : Type 0 where
+  pub greeted : IsGreeted ours octets opening
+  pub first : Traffic
+  pub behind : List ℕ
+  pub comes : ComesFirst octets first behind
+  pub fault : WireFault
+  pub refused : IsReady first ours (Err fault)
+  pub ends : ending ≡ Wire fault
+
+-- The peer isn't met: what is written to it by then, and how its octets end the connection.
+abbrev pub IsTurnedAway : SocketType → List ℕ → List ℕ → SessionEnd → Type 0
+IsTurnedAway ours octets opening ending =
+    IsSilent octets opening ending ⊎ (IsNotGreeted octets opening ending
+    ⊎ (IsNotReady ours octets opening ending ⊎ IsNotPaired ours octets opening ending))
+
+-- The peer is met: its greeting and its READY are accepted, and these octets stand behind its READY.
+pub record IsMet (ours : SocketType) (octets opening : List ℕ) (peer : SocketType) (behind : List ℕ) : Type 0 where
+  pub greeted : IsGreeted ours octets opening
+  pub first : Traffic
+  pub comes : ComesFirst octets first behind
+  pub accepted : IsReady first ours (Ok (record { peer = peer }))
+
+-- a peer that is met says these messages
+pub record IsListenedTo (ours : SocketType) (octets opening : List ℕ) (messages : List Message) (ending : SessionEnd) : Type 0 where
+  pub peer : SocketType
+  pub behind : List ℕ
+  pub met : IsMet ours octets opening peer behind
+  pub says : Says behind messages ending
+
+-- What is heard of a peer that sends these octets: what opens the connection to it, which messages it sends, and
+-- how it ends the connection.
+abbrev pub Hears : SocketType → List ℕ → List ℕ → List Message → SessionEnd → Type 0
+Hears ours octets opening messages ending =
+    (IsTurnedAway ours octets opening ending × (messages ≡ [])) ⊎ IsListenedTo ours octets opening messages ending

@@ -1,0 +1,61 @@
+//! The heartbeat: a REP socket that writes each message back.
+
+ghost use Rattle.std.specs.Prelude.{◌≡◌, ℕ};
+ghost use Rattle.kernel_engine.specs.Exchange.{Exchange};
+ghost use Rattle.kernel_engine.specs.Server.{Echoes};
+
+use crate::end::SessionEnd;
+use crate::fault::EngineFault;
+use crate::server::Server;
+use crate::serving::serve;
+use listed::Frames;
+use std::alloc::Global;
+use zmtp_wire::{Inlet, Outlet, SocketType, write_message};
+
+/// Writes each message back.
+#[derive(Clone, Copy, Debug)]
+struct Heartbeat;
+
+impl Server for Heartbeat {
+    ghost use Rattle.std.specs.Prelude.{◌≡◌};
+    ghost use Rattle.zmtp_wire.specs.Frame.{text};
+
+    ghost answers = { λ _ message reply _. reply ≡ text message };
+
+    ghost is_worn = { λ _. ⊥ };
+
+    fn answer(
+        &mut self,
+        _alloc: Global,
+        frames: Frames,
+        reply: &mut Vec<u8>,
+    ) -> Result<(), EngineFault> {
+        // A message without frames has no text.
+        if !frames.is_empty() && write_message(frames.as_slice(), reply).is_err() {
+            return Err(EngineFault::Memory);
+        }
+        Ok(())
+    }
+}
+
+/// Serves a peer of the heartbeat channel, as a REP socket: shakes hands with it, and writes each message back
+/// whole, frame by frame, until the peer's octets end, are refused, or the kernel can't go on. At most `turns`
+/// reads are made.
+pub fn echo<R: Inlet, W: Outlet>(
+    alloc: Global,
+    reader: &mut R,
+    writer: &mut W,
+    turns: u64,
+) -> SessionEnd
+    ensures { (left : ℕ) × Exchange Echoes (R.inflow reader.old) (R.inflow reader.new)
+        (W.outflow writer.old) (W.outflow writer.new) turns left tt result }
+{
+    serve(
+        alloc,
+        reader,
+        writer,
+        &mut Heartbeat,
+        SocketType::Rep,
+        turns,
+    )
+}

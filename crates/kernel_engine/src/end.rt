@@ -1,0 +1,15 @@
+use crate::fault::EngineFault;
+use zmtp_wire::WireFault;
+
+/// How an exchange with a peer ended.
+#[derive(Clone, Copy, Debug, PartialEq, Eq)]
+pub enum SessionEnd {
+    /// The peer sent its last octet, also inside a greeting or a message.
+    Eof,
+    /// The peer asked the kernel to shut down, and whether to restart it.
+    Shutdown(bool),
+    /// The peer broke the protocol or sent the command ERROR, or no memory was left for its octets.
+    Wire(WireFault),
+    /// The kernel couldn't go on.
+    Failed(EngineFault),
+}

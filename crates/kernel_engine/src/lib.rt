@@ -1,0 +1,28 @@
+//! Connections of a kernel with its peers: shaking hands, hearing what a peer says, and answering it, over any
+//! inlet and outlet.
+#![tactic(auto)]
+
+mod echoing;
+mod end;
+mod fault;
+mod hearing;
+mod laws;
+mod server;
+mod serving;
+mod shaking;
+mod turn;
+
+pub use echoing::echo;
+pub use end::SessionEnd;
+pub use fault::EngineFault;
+pub use laws::one_hearing;
+pub use server::Server;
+pub use serving::serve;
+pub use shaking::{Shaken, shake};
+
+#[cfg(test)]
+mod tests;
+#[cfg(test)]
+mod tests_echo;
+#[cfg(test)]
+mod tests_shake;

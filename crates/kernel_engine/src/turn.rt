@@ -1,0 +1,50 @@
+//! A read, and a write, of an exchange.
+
+ghost use Rattle.std.specs.Prelude.{◌≡◌, ◌<◌, ◌≤◌, ℕ, List, [], length, take, IfOk, IfErr};
+ghost use Rattle.kernel_engine.specs.Exchange.{Reading};
+ghost use Rattle.kernel_engine.specs.Steps.{Leg, IsStop, PutsAll};
+
+use crate::end::SessionEnd;
+use crate::fault::EngineFault;
+use zmtp_wire::{Inlet, Outlet, ReadFailed, WriteFailed, write_all};
+
+/// Reads the next octets, one at least. One read is one turn.
+///
+/// # Errors
+///
+/// `Eof` where no octet is left, `Failed` with `Read` where the read failed, and with `Turns` where no turn is left.
+pub fn read_turn<R: Inlet>(
+    reader: &mut R,
+    into: &mut [u8],
+    turns: &mut u64,
+) -> Result<usize, SessionEnd>
+    requires { 0 < length into.old }
+    ensures ok { IfOk result (λ count. (0 < count) × (count ≤ length into.new) × (turns.new < turns.old)
+        × Leg (R.inflow reader.old) (R.inflow reader.new) turns.old turns.new (take count into.new)) }
+    ensures err { IfErr result (λ end. IsStop end
+        × Reading (R.inflow reader.old) (R.inflow reader.new) turns.old turns.new [] end) }
+{
+    if *turns == 0 {
+        return Err(SessionEnd::Failed(EngineFault::Turns));
+    }
+    *turns -= 1;
+    match reader.read(into) {
+        Ok(0) => Err(SessionEnd::Eof),
+        Ok(count) => Ok(count),
+        Err(ReadFailed) => Err(SessionEnd::Failed(EngineFault::Read)),
+    }
+}
+
+/// Writes all of the octets.
+///
+/// # Errors
+///
+/// `Failed` with `Write`, where a beginning of them was written.
+pub fn put<W: Outlet>(writer: &mut W, octets: &[u8]) -> Result<(), SessionEnd>
+    ensures { PutsAll (W.outflow writer.old) (W.outflow writer.new) octets.now result }
+{
+    match write_all(writer, octets) {
+        Ok(()) => Ok(()),
+        Err(WriteFailed) => Err(SessionEnd::Failed(EngineFault::Write)),
+    }
+}

@@ -1,0 +1,77 @@
+-- Devices, which octets are read from and written to: what they tell, and counts that contracts alone see.
+use Rattle.std.specs.Prelude.{◌≡◌, ◌⊎◌, ℕ, zero, suc, ◌+◌, ◌<◌, min, List, [], ◌++◌, length, take, Option, Result, Ok, Err}
+use Rattle.std.specs.Io.KnownBytes.{Appends, Consumes, IsAtEnd, Keeps}
+use Rattle.zmtp_wire.specs.declared.device.ReadFailed.{ReadFailed}
+use Rattle.zmtp_wire.specs.declared.device.WriteFailed.{WriteFailed}
+
+-- the greatest count, 2 ^ 64 - 1, at which a count stays
+abbrev pub greatest_count : ℕ
+greatest_count = 18446744073709551615
+
+-- a count after one more; at its greatest it stays, and has risen nevertheless
+abbrev pub risen : ℕ → ℕ
+risen count = min (count + 1) greatest_count
+
+-- a count after this many more
+abbrev pub risen_by : ℕ → ℕ → ℕ
+risen_by zero count = count
+risen_by (suc many) count = risen (risen_by many count)
+
+-- an inlet: the octets that it has left, where it tells them; how often it was read; how many of these reads failed
+pub record Inflow : Type 0 where
+  pub left : Option (List ℕ)
+  pub reads : ℕ
+  pub failures : ℕ
+
+-- an outlet: the octets that were written, where it tells them; how many writes failed or took nothing of a piece
+pub record Outflow : Type 0 where
+  pub written : Option (List ℕ)
+  pub failures : ℕ
+
+-- What a read does. Each one raises the count of reads. It takes the first of the octets left into the front of the
+-- buffer, and none only where none is left or the buffer is empty; or it fails, takes none, and raises the count of
+-- failures.
+abbrev pub ReadTakes : Inflow → Inflow → Result ℕ ReadFailed → List ℕ → Type 0
+ReadTakes old new (Ok count) buffer =
+    Consumes old.left new.left (take count buffer) × (count ≡ 0 → 0 < length buffer → IsAtEnd new.left)
+    × (new.reads ≡ risen old.reads) × (new.failures ≡ old.failures)
+ReadTakes old new (Err failed) buffer =
+    Keeps old.left new.left × (new.reads ≡ risen old.reads) × (new.failures ≡ risen old.failures)
+
+-- how many failures a write that took this many octets of a piece of this length is: none, or one where it took
+-- nothing of a piece that isn't empty
+abbrev pub idle_writes : ℕ → ℕ → ℕ
+idle_writes zero (suc length) = 1
+idle_writes zero zero = 0
+idle_writes (suc taken) length = 0
+
+-- What a write does. It adds the octets that it takes, the first of the piece; or it fails, and adds none. One that
+-- failed, or took nothing of a piece that isn't empty, raises the count of failures.
+abbrev pub WriteAdds : Outflow → Outflow → Result ℕ WriteFailed → List ℕ → Type 0
+WriteAdds old new (Ok count) piece =
+    Appends old.written new.written (take count piece)
+    × (new.failures ≡ risen_by (idle_writes count (length piece)) old.failures)
+WriteAdds old new (Err failed) piece = Keeps old.written new.written × (new.failures ≡ risen old.failures)
+
+-- So many reads, one after the other, took these octets, and so many of the reads failed.
+pub record Draws (old new : Inflow) (octets : List ℕ) (count failures : ℕ) : Type 0 where
+  pub taken : Consumes old.left new.left octets
+  pub reads : new.reads ≡ risen_by count old.reads
+  pub fails : new.failures ≡ risen_by failures old.failures
+
+-- Writes, one after the other, added these octets, and so many of them failed or took nothing.
+pub record Puts (old new : Outflow) (octets : List ℕ) (failures : ℕ) : Type 0 where
+  pub added : Appends old.written new.written octets
+  pub fails : new.failures ≡ risen_by failures old.failures
+
+-- All of the octets were added; or a beginning of them, and then a write failed or took nothing.
+abbrev pub AddsAll : Outflow → Outflow → Result Unit WriteFailed → List ℕ → Type 0
+AddsAll old new (Ok done) octets = Puts old new octets 0
+AddsAll old new (Err failed) octets = (front : List ℕ) × (lost : List ℕ) × (octets ≡ front ++ lost) × Puts old new front 1
+
+-- a device and its counts
+pub record Counting (Device : Type 0) : Type 0 where
+  pub device : Device
+  pub reads : ℕ
+  pub failed_reads : ℕ
+  pub failed_writes : ℕ
