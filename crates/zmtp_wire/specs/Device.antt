@@ -75,3 +75,11 @@ pub record Counting (Device : Type 0) : Type 0 where
   pub reads : ℕ
   pub failed_reads : ℕ
   pub failed_writes : ℕ
+
+-- what a reader with its counts is as an inlet, by the octets that it has left
+abbrev pub inflow_of : {Device : Type 0} → (Device → Option (List ℕ)) → Counting Device → Inflow
+inflow_of remaining counted = record { left = remaining counted.device; reads = counted.reads; failures = counted.failed_reads }
+
+-- what a writer with its counts is as an outlet, by the octets that it holds
+abbrev pub outflow_of : {Device : Type 0} → (Device → Option (List ℕ)) → Counting Device → Outflow
+outflow_of contents counted = record { written = contents counted.device; failures = counted.failed_writes }

@@ -124,13 +124,15 @@ impl<D> Counted<D> {
 }
 
 impl<D: Read> Inlet for Counted<D> {
-    ghost inflow = { λ counted. record {
-      left = D.remaining counted.device;
-      reads = counted.reads;
-      failures = counted.failed_reads;
-    } };
+    ghost use Rattle.zmtp_wire.specs.Device.{inflow_of};
 
-    fn read(&mut self, into: &mut [u8]) -> Result<usize, ReadFailed> {
+    ghost inflow = { inflow_of D.remaining };
+
+    fn read(&mut self, into: &mut [u8]) -> Result<usize, ReadFailed>
+        ensures bound { ReadsAtMost result into.new }
+        ensures reads { ReadTakes (inflow_of D.remaining self.old) (inflow_of D.remaining self.new) result into.new }
+        ensures writes_stay { self.new.failed_writes ≡ self.old.failed_writes }
+    {
         self.reads = self.reads.saturating_add(1);
         let result = read_once(&mut self.device, into);
         if result.is_err() {
@@ -141,12 +143,15 @@ impl<D: Read> Inlet for Counted<D> {
 }
 
 impl<D: Write> Outlet for Counted<D> {
-    ghost outflow = { λ counted. record {
-      written = D.contents counted.device;
-      failures = counted.failed_writes;
-    } };
+    ghost use Rattle.zmtp_wire.specs.Device.{outflow_of};
 
-    fn write(&mut self, piece: &[u8]) -> Result<usize, WriteFailed> {
+    ghost outflow = { outflow_of D.contents };
+
+    fn write(&mut self, piece: &[u8]) -> Result<usize, WriteFailed>
+        ensures bound { WritesAtMost result piece.now }
+        ensures writes { WriteAdds (outflow_of D.contents self.old) (outflow_of D.contents self.new) result piece.now }
+        ensures reads_stay { (self.new.reads ≡ self.old.reads) × (self.new.failed_reads ≡ self.old.failed_reads) }
+    {
         let result = write_once(&mut self.device, piece);
         let idle = match result {
             Ok(count) => count == 0 && !piece.is_empty(),
