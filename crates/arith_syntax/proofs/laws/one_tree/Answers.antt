@@ -1,0 +1,5 @@
+use Rattle.arith_syntax.proofs.ParsingLemmas.{one_tree}
+use Rattle.arith_syntax.proofs.laws.one_tree.Goals as goal
+
+pub returns : goal.returns
+returns c = one_tree

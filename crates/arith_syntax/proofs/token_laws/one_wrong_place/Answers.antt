@@ -1,0 +1,5 @@
+use Rattle.arith_syntax.proofs.TokenLawLemmas.{one_wrong_place}
+use Rattle.arith_syntax.proofs.token_laws.one_wrong_place.Goals as goal
+
+pub returns : goal.returns
+returns c = one_wrong_place

@@ -1,0 +1,121 @@
+-- The grammar of POSIX shell arithmetic: which trees are statements, and which tokens spell them.
+--
+--   level 0       primary      constant; name; ( assignment )
+--   level 1       unary        + - ~ ! before a unary; primary
+--   level 2       binary       * / %
+--   level 3                    + -
+--   level 4                    << >>
+--   level 5                    < <= > >=
+--   level 6                    == !=
+--   level 7 8 9                & ; ^ ; |
+--   level 10 11                && ; ||
+--   level 12      conditional  binary ; binary ? assignment : conditional
+--   level 13      assignment   name, one of = += -= *= /= %= <<= >>= &= ^= |=, assignment ; conditional
+--
+-- Binary levels group from the left. A statement is an assignment.
+use Rattle.std.specs.Prelude.{◌≡◌, ℕ, ◌≤◌, ◌<◌, List, [], ◌∷◌, ◌++◌}
+use Rattle.arith_syntax.specs.declared.operator.BinaryOperator.{BinaryOperator}
+use Rattle.arith_syntax.specs.declared.operator.BinaryOperator.TheVariants as binary
+use Rattle.arith_syntax.specs.declared.operator.UnaryOperator.{UnaryOperator}
+use Rattle.arith_syntax.specs.declared.operator.UnaryOperator.TheVariants as unary
+use Rattle.arith_syntax.specs.declared.operator.AssignmentOperator.{AssignmentOperator}
+use Rattle.arith_syntax.specs.declared.expression.Expression.{Expression}
+use Rattle.arith_syntax.specs.declared.expression.Expression.TheVariants as expression
+use Rattle.arith_syntax.specs.declared.token.Token.{Token}
+use Rattle.arith_syntax.specs.declared.token.Token.TheVariants.{Constant, Name, Operator, Assign, Complement, Not, Question, Colon, Open, Close}
+
+-- a tree of the grammar
+pub data Tree : Type 0 where
+  Number : ℕ → Tree
+  Variable : List ℕ → Tree
+  Group : Tree → Tree
+  Unary : UnaryOperator → Tree → Tree
+  Binary : Tree → BinaryOperator → Tree → Tree
+  Conditional : Tree → Tree → Tree → Tree
+  Assignment : List ℕ → AssignmentOperator → Tree → Tree
+
+-- the level of an operator with two operands
+abbrev pub operator_level : BinaryOperator → ℕ
+operator_level binary.Multiply = 2
+operator_level binary.Divide = 2
+operator_level binary.Remainder = 2
+operator_level binary.Add = 3
+operator_level binary.Subtract = 3
+operator_level binary.ShiftLeft = 4
+operator_level binary.ShiftRight = 4
+operator_level binary.Less = 5
+operator_level binary.LessOrEqual = 5
+operator_level binary.Greater = 5
+operator_level binary.GreaterOrEqual = 5
+operator_level binary.Equal = 6
+operator_level binary.NotEqual = 6
+operator_level binary.BitAnd = 7
+operator_level binary.BitXor = 8
+operator_level binary.BitOr = 9
+operator_level binary.And = 10
+operator_level binary.Or = 11
+
+-- the strongest level that has the form of a tree
+abbrev pub level : Tree → ℕ
+level (Number n) = 0
+level (Variable x) = 0
+level (Group e) = 0
+level (Unary op e) = 1
+level (Binary a op b) = operator_level op
+level (Conditional c a b) = 12
+level (Assignment x op e) = 13
+
+-- each part of a tree is of the level that the grammar asks for in its place
+abbrev pub IsGrammatical : Tree → Type 0
+IsGrammatical (Number n) = Unit {0}
+IsGrammatical (Variable x) = Unit {0}
+IsGrammatical (Group e) = IsGrammatical e
+IsGrammatical (Unary op e) = (level e ≤ 1) × IsGrammatical e
+IsGrammatical (Binary a op b) =
+    (level a ≤ operator_level op) × (level b < operator_level op) × IsGrammatical a × IsGrammatical b
+IsGrammatical (Conditional c a b) =
+    (level c ≤ 11) × (level b ≤ 12) × IsGrammatical c × IsGrammatical a × IsGrammatical b
+IsGrammatical (Assignment x op e) = IsGrammatical e
+
+-- the sign in front of an operand
+abbrev pub unary_sign : UnaryOperator → Token
+unary_sign unary.Plus = Operator binary.Add
+unary_sign unary.Minus = Operator binary.Subtract
+unary_sign unary.Complement = Complement
+unary_sign unary.Not = Not
+
+-- the tokens that spell a tree
+abbrev pub spelled : Tree → List Token
+spelled (Number n) = Constant n ∷ []
+spelled (Variable x) = Name x ∷ []
+spelled (Group e) = Open ∷ (spelled e ++ Close ∷ [])
+spelled (Unary op e) = unary_sign op ∷ spelled e
+spelled (Binary a op b) = spelled a ++ (Operator op ∷ spelled b)
+spelled (Conditional c a b) = spelled c ++ (Question ∷ (spelled a ++ (Colon ∷ spelled b)))
+spelled (Assignment x op e) = Name x ∷ Assign op ∷ spelled e
+
+-- the grammar: tokens of a level, and their tree
+pub record Derives (at_most : ℕ) (tokens : List Token) (tree : Tree) : Type 0 where
+  pub spells : tokens ≡ spelled tree
+  pub fits : level tree ≤ at_most
+  pub grammatical : IsGrammatical tree
+
+-- a statement: an assignment, and all that is stronger
+abbrev pub IsStatement : List Token → Tree → Type 0
+IsStatement tokens tree = Derives 13 tokens tree
+
+-- some statement begins with these tokens
+pub record BeginsStatement (tokens : List Token) : Type 0 where
+  pub more : List Token
+  pub tree : Tree
+  pub statement : IsStatement (tokens ++ more) tree
+
+-- the tree that an expression of the program stands for
+abbrev pub tree_of : Expression → Tree
+tree_of (expression.Constant n) = Number n
+tree_of (expression.Variable x) = Variable x
+tree_of (expression.Group' p e) = Group (tree_of e)
+tree_of (expression.Unary' op p e) = Unary op (tree_of e)
+tree_of (expression.Binary' p a op q b) = Binary (tree_of a) op (tree_of b)
+tree_of (expression.Conditional' p c q a r b) = Conditional (tree_of c) (tree_of a) (tree_of b)
+tree_of (expression.Assignment' x op p e) = Assignment x op (tree_of e)

@@ -1,0 +1,62 @@
+-- What the lexer answers, whole and in parts.
+use Rattle.std.specs.Prelude.{◌≡◌, ℕ, ◌≤◌, ◌<◌, ◌^◌, ⊤, List, ◌++◌, length, take, drop, Option, Some, None, Result, Ok, Err}
+use Rattle.std.specs.List.{All}
+use Rattle.std.specs.Global.{Vec}
+use Rattle.arith_syntax.specs.declared.fault.ReadFault.{ReadFault}
+use Rattle.arith_syntax.specs.declared.fault.ReadFault.TheVariants.{Syntax, TooDeep, OutOfMemory}
+use Rattle.arith_syntax.specs.declared.token.Token.{Token}
+use Rattle.arith_syntax.specs.declared.token.Placed.{Placed}
+use Rattle.arith_syntax.specs.declared.spelled.Spelled.{Spelled}
+use Rattle.arith_syntax.specs.Tokens.{BeginsWith, IsHexadecimalDigit, digit_value, in_base, IsConstant, IsSign, IsLongestSign, IsToken, IsTokens, IsWrongAt}
+
+-- what a text is as tokens: these, or wrong at a place
+abbrev pub Lexes : List ℕ → Result (Vec Placed) ReadFault → Type 0
+Lexes text (Ok placed) = IsTokens text placed.items
+Lexes text (Err (Syntax place)) = IsWrongAt text place
+Lexes text (Err TooDeep) = ⊥
+Lexes text (Err OutOfMemory) = ⊤
+
+-- the longest run of characters of a kind that a text begins with has this size
+pub record IsRun (P : ℕ → Type 0) (text : List ℕ) (size : ℕ) : Type 0 where
+  pub fits : size ≤ length text
+  pub inside : All P (take size text)
+  pub longest : BeginsWith P (drop size text) → ⊥
+
+-- a digit of a base of at most 16
+abbrev pub IsDigitOf : ℕ → ℕ → Type 0
+IsDigitOf base c = IsHexadecimalDigit c × (digit_value c < base)
+
+-- digits of a base, and what they are worth, in 63 bits
+pub record IsNumber (base : ℕ) (digits : List ℕ) (n : ℕ) : Type 0 where
+  pub proper : All (IsDigitOf base) digits
+  pub value : n ≡ in_base base digits
+  pub fits : n < 2 ^ 63
+
+-- what some digits are worth to a base, where they are its digits and fit
+abbrev pub ReadsNumber : ℕ → List ℕ → Option ℕ → Type 0
+ReadsNumber base digits (Some n) = IsNumber base digits n
+ReadsNumber base digits None = (n : ℕ) → IsNumber base digits n → ⊥
+
+-- the constant that a word is
+abbrev pub ReadsConstant : List ℕ → Option ℕ → Type 0
+ReadsConstant word (Some n) = IsConstant word n
+ReadsConstant word None = (n : ℕ) → IsConstant word n → ⊥
+
+-- the token that a sign spells
+abbrev pub Spells : List ℕ → Option Token → Type 0
+Spells text (Some token) = IsSign token text
+Spells text None = (token : Token) → IsSign token text → ⊥
+
+-- the longest sign that a text begins with
+abbrev pub BeginsWithSign : List ℕ → Option Spelled → Type 0
+BeginsWithSign text (Some s) =
+    (s.size ≤ length text) × IsLongestSign s.token (take s.size text) (drop s.size text)
+BeginsWithSign text None = (token : Token) (sign rest : List ℕ) → text ≡ sign ++ rest → IsSign token sign → ⊥
+
+-- the token that a text begins with
+abbrev pub BeginsWithToken : List ℕ → Result (Option Spelled) ReadFault → Type 0
+BeginsWithToken text (Ok (Some s)) =
+    (s.size ≤ length text) × (0 < s.size) × IsToken s.token (take s.size text) (drop s.size text)
+BeginsWithToken text (Ok None) =
+    (token : Token) (spelled rest : List ℕ) → text ≡ spelled ++ rest → IsToken token spelled rest → ⊥
+BeginsWithToken text (Err fault) = fault ≡ OutOfMemory

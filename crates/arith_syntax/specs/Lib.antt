@@ -1,0 +1,9 @@
+pub mod Grammar
+pub mod Lexed
+pub mod Machine
+pub mod Once
+pub mod Parsing
+pub mod Reading
+pub mod TokenLaws
+pub mod Tokens
+pub mod TreeCode

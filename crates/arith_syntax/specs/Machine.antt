@@ -1,0 +1,267 @@
+-- How the parser goes from token to token. Private contracts alone cite this file, and no public one: what the parser
+-- gives is said by `Parses`, in terms of the grammar.
+use Rattle.std.specs.Bool.{nat_le}
+use Rattle.std.specs.Prelude.{◌≡◌, ℕ, ◌-◌, ◌≤◌, ◌<◌, ⊤, List, [], ◌∷◌, ◌++◌, Bool, true, false, cond, Option, Some, None, Result, Ok, Err}
+use Rattle.arith_syntax.specs.declared.operator.BinaryOperator.{BinaryOperator}
+use Rattle.arith_syntax.specs.declared.operator.BinaryOperator.TheVariants as binary
+use Rattle.arith_syntax.specs.declared.operator.UnaryOperator.{UnaryOperator}
+use Rattle.arith_syntax.specs.declared.operator.UnaryOperator.TheVariants as unary
+use Rattle.arith_syntax.specs.declared.operator.AssignmentOperator.{AssignmentOperator}
+use Rattle.arith_syntax.specs.declared.token.Token.{Token}
+use Rattle.arith_syntax.specs.declared.token.Token.TheVariants.{Constant, Name, Operator, Assign, Complement, Not, Question, Colon, Open, Close}
+use Rattle.arith_syntax.specs.declared.expression.Expression.{Expression}
+use Rattle.arith_syntax.specs.declared.fault.ReadFault.{ReadFault}
+use Rattle.arith_syntax.specs.declared.fault.ReadFault.TheVariants.{Syntax, TooDeep, OutOfMemory}
+use Rattle.arith_syntax.specs.declared.parser.Frame.{Frame}
+use Rattle.arith_syntax.specs.declared.parser.Frame.TheVariants as frame
+use Rattle.arith_syntax.specs.declared.parser.Parser.{Parser}
+use Rattle.arith_syntax.specs.Grammar.{Tree, Number, Variable, Group, Unary, Binary, Conditional, Assignment, operator_level, tree_of}
+
+-- a construct that has begun and waits for the operand that ends it, or for the middle of `?` and `:`
+pub data Begun : Type 0 where
+  Opened : Begun
+  Signed : UnaryOperator → Begun
+  Operated : Tree → BinaryOperator → Begun
+  Questioned : Tree → Begun
+  Divided : Tree → Tree → Begun
+  Named : List ℕ → AssignmentOperator → Begun
+
+-- how weak an operator has to be that ends a construct; 14 where none does
+abbrev pub rank : Begun → ℕ
+rank Opened = 14
+rank (Signed sign) = 1
+rank (Operated a op) = operator_level op
+rank (Questioned c) = 14
+rank (Divided c a) = 12
+rank (Named x op) = 13
+
+-- the greatest level that fits into a construct
+abbrev pub room : Begun → ℕ
+room Opened = 13
+room (Signed sign) = 1
+room (Operated a op) = operator_level op - 1
+room (Questioned c) = 13
+room (Divided c a) = 12
+room (Named x op) = 13
+
+-- the greatest level that fits into the innermost construct
+abbrev pub room_of : List Begun → ℕ
+room_of [] = 13
+room_of (b ∷ bs) = room b
+
+-- the tree that a construct becomes; one of `?` gets 0 for its third part
+abbrev pub built : Begun → Tree → Tree
+built Opened u = Group u
+built (Signed sign) u = Unary sign u
+built (Operated a op) u = Binary a op u
+built (Questioned c) u = Conditional c u (Number 0)
+built (Divided c a) u = Conditional c a u
+built (Named x op) u = Assignment x op u
+
+-- constructs that have begun, the innermost first, and the operand that was read last; none where one is due
+pub record State : Type 0 where
+  pub begun : List Begun
+  pub operand : Option Tree
+
+-- constructs that have begun, and an operand
+pub record Settled : Type 0 where
+  pub begun : List Begun
+  pub operand : Tree
+
+-- the innermost constructs end that aren't weaker than a level
+abbrev pub settle : ℕ → List Begun → Tree → Settled
+settle weak [] u = record { begun = []; operand = u }
+settle weak (b ∷ bs) u = cond (nat_le (rank b) weak) (settle weak bs (built b u)) (record { begun = b ∷ bs; operand = u })
+
+-- an operand is due once more, inside one construct more
+abbrev pub begin : Begun → List Begun → Option State
+begin b bs = Some (record { begun = b ∷ bs; operand = None })
+
+-- the operator in front of an operand that a token is
+abbrev pub sign_of : Token → Option UnaryOperator
+sign_of (Operator binary.Add) = Some unary.Plus
+sign_of (Operator binary.Subtract) = Some unary.Minus
+sign_of Complement = Some unary.Complement
+sign_of Not = Some unary.Not
+sign_of _ = None
+
+-- a sign in front of an operand begins a construct
+abbrev pub begin_sign : Option UnaryOperator → List Begun → Option State
+begin_sign None bs = None
+begin_sign (Some sign) bs = begin (Signed sign) bs
+
+-- a token where an operand is due
+abbrev pub take_due : List Begun → Token → Option State
+take_due bs (Constant n) = Some (record { begun = bs; operand = Some (Number n) })
+take_due bs (Name x) = Some (record { begun = bs; operand = Some (Variable x) })
+take_due bs Open = begin Opened bs
+take_due bs token = begin_sign (sign_of token) bs
+
+-- `:` behind what has settled
+abbrev pub divide : List Begun → Tree → Option State
+divide [] u = None
+divide (Questioned c ∷ bs) u = begin (Divided c u) bs
+divide (_ ∷ bs) u = None
+
+-- `)` behind what has settled
+abbrev pub enclose : List Begun → Tree → Option State
+enclose [] u = None
+enclose (Opened ∷ bs) u = Some (record { begun = bs; operand = Some (Group u) })
+enclose (_ ∷ bs) u = None
+
+-- an assignment's sign behind an operand
+abbrev pub assign : AssignmentOperator → List Begun → Tree → Option State
+assign op bs (Variable x) = cond (nat_le 13 (room_of bs)) (begin (Named x op) bs) None
+assign op bs _ = None
+
+-- a token behind an operand
+abbrev pub take_behind : List Begun → Tree → Token → Option State
+take_behind bs u (Operator op) =
+    let s = settle (operator_level op) bs u in begin (Operated s.operand op) s.begun
+take_behind bs u (Assign op) = assign op bs u
+take_behind bs u Question = let s = settle 11 bs u in begin (Questioned s.operand) s.begun
+take_behind bs u Colon = let s = settle 13 bs u in divide s.begun s.operand
+take_behind bs u Close = let s = settle 13 bs u in enclose s.begun s.operand
+take_behind bs u _ = None
+
+-- a token behind an operand, or where one is due
+abbrev pub take_at : List Begun → Option Tree → Token → Option State
+take_at bs None token = take_due bs token
+take_at bs (Some u) token = take_behind bs u token
+
+-- a token from a state; none where it doesn't fit
+abbrev pub advance : State → Token → Option State
+advance s token = take_at s.begun s.operand token
+
+-- the state of a parser that has read nothing
+abbrev pub start : State
+start = record { begun = []; operand = None }
+
+-- a token after others
+abbrev pub advance_on : Option State → Token → Option State
+advance_on None token = None
+advance_on (Some s) token = advance s token
+
+-- tokens in turn
+abbrev pub run : Option State → List Token → Option State
+run s [] = s
+run s (token ∷ tokens) = run (advance_on s token) tokens
+
+-- what is whole at the end, with no construct around it
+abbrev pub outermost : List Begun → Tree → Option Tree
+outermost [] u = Some u
+outermost (b ∷ bs) u = None
+
+-- the end behind an operand, or where one is due
+abbrev pub close_at : List Begun → Option Tree → Option Tree
+close_at bs None = None
+close_at bs (Some u) = let s = settle 13 bs u in outermost s.begun s.operand
+
+-- the end from a state
+abbrev pub close : State → Option Tree
+close s = close_at s.begun s.operand
+
+-- the construct that a frame of the parser stands for
+abbrev pub begun_of : Frame → Begun
+begun_of frame.Open = Opened
+begun_of (frame.Unary sign) = Signed sign
+begun_of (frame.Binary a op) = Operated (tree_of a) op
+begun_of (frame.Question c) = Questioned (tree_of c)
+begun_of (frame.Colon c a) = Divided (tree_of c) (tree_of a)
+begun_of (frame.Assign x op) = Named x op
+
+-- the constructs that a stack of frames stands for; its innermost is its last
+abbrev pub stack_of : List Frame → List Begun
+stack_of [] = []
+stack_of (f ∷ fs) = stack_of fs ++ (begun_of f ∷ [])
+
+-- the tree that an operand stands for
+abbrev pub operand_of : Option Expression → Option Tree
+operand_of None = None
+operand_of (Some e) = Some (tree_of e)
+
+-- the state that a parser stands for
+abbrev pub state_of : Parser → State
+state_of parser = record { begun = stack_of parser.frames.items; operand = operand_of parser.operand }
+
+-- want of memory, the one fault that the parser's steps have
+abbrev pub IsMemory : ReadFault → Type 0
+IsMemory (Syntax place) = ⊥
+IsMemory TooDeep = ⊥
+IsMemory OutOfMemory = ⊤
+
+-- what a construct becomes
+abbrev pub IsBuilt : Begun → Tree → Result Expression ReadFault → Type 0
+IsBuilt b u (Ok e) = tree_of e ≡ built b u
+IsBuilt b u (Err fault) = IsMemory fault
+
+-- a copy
+abbrev pub IsCopied : List ℕ → Result (List ℕ) ReadFault → Type 0
+IsCopied x (Ok copy) = copy ≡ x
+IsCopied x (Err fault) = IsMemory fault
+
+-- the innermost construct is weaker than a level
+abbrev pub StopsAt : ℕ → List Begun → Type 0
+StopsAt weak [] = ⊤
+StopsAt weak (b ∷ bs) = weak < rank b
+
+-- the innermost construct isn't weaker than a level
+abbrev pub ends_at : ℕ → List Begun → Bool
+ends_at weak [] = false
+ends_at weak (b ∷ bs) = nat_le (rank b) weak
+
+-- a construct is a `?` with its condition, or `:` can't follow in it
+abbrev pub IsCondition : Begun → Option Expression → Type 0
+IsCondition b None = (bs : List Begun) (u : Tree) → divide (b ∷ bs) u ≡ None
+IsCondition b (Some c) = b ≡ Questioned (tree_of c)
+
+-- a construct is a `(`, or `)` can't follow in it
+abbrev pub IsOpen : Begun → Bool → Type 0
+IsOpen b true = b ≡ Opened
+IsOpen b false = (bs : List Begun) (u : Tree) → enclose (b ∷ bs) u ≡ None
+
+-- a construct more
+abbrev pub PushesTo : Begun → List Begun → Result (Unit {0}) ReadFault → List Begun → Type 0
+PushesTo b old (Ok done) new = new ≡ b ∷ old
+PushesTo b old (Err fault) new = IsMemory fault
+
+-- the innermost construct, taken off
+abbrev pub Pops : List Begun → Option Frame → List Begun → Type 0
+Pops old None new = (old ≡ []) × (new ≡ [])
+Pops old (Some f) new = old ≡ begun_of f ∷ new
+
+-- the innermost construct, taken off unless it is weaker than a level
+abbrev pub PopsEnding : ℕ → List Begun → Option Frame → List Begun → Type 0
+PopsEnding weak old None new = (new ≡ old) × StopsAt weak old
+PopsEnding weak old (Some f) new = (old ≡ begun_of f ∷ new) × (rank (begun_of f) ≤ weak)
+
+-- the innermost construct, taken off, which is a `?` with its condition, or `:` can't follow
+abbrev pub PopsCondition : List Begun → Option Expression → List Begun → Type 0
+PopsCondition old None new = (u : Tree) → divide old u ≡ None
+PopsCondition old (Some c) new = old ≡ Questioned (tree_of c) ∷ new
+
+-- the innermost construct, taken off, which is a `(`, or `)` can't follow
+abbrev pub PopsOpen : List Begun → Bool → List Begun → Type 0
+PopsOpen old true new = old ≡ Opened ∷ new
+PopsOpen old false new = (u : Tree) → enclose old u ≡ None
+
+-- no construct is left, or the end can't follow
+abbrev pub IsWholeStack : List Begun → Bool → Type 0
+IsWholeStack bs true = bs ≡ []
+IsWholeStack bs false = (u : Tree) → outermost bs u ≡ None
+
+-- what has settled
+abbrev pub SettlesTo : Settled → Result Expression ReadFault → List Begun → Type 0
+SettlesTo settled (Ok e) new = settled ≡ record { begun = new; operand = tree_of e }
+SettlesTo settled (Err fault) new = IsMemory fault
+
+-- the state that a token leads to, or none
+abbrev pub LeadsTo : Option State → Result Bool ReadFault → State → Type 0
+LeadsTo next (Ok true) new = next ≡ Some new
+LeadsTo next (Ok false) new = next ≡ None
+LeadsTo next (Err fault) new = IsMemory fault
+
+-- the tree at the end, or none
+abbrev pub ClosesTo : Option Tree → Result (Option Expression) ReadFault → Type 0
+ClosesTo tree (Ok e) = tree ≡ operand_of e
+ClosesTo tree (Err fault) = IsMemory fault

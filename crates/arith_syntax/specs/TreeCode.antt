@@ -1,0 +1,91 @@
+-- Trees as lists, by which a proof tells them apart: the parts of a tree, each behind the parts that it is assembled of.
+use Rattle.std.specs.Prelude.{◌≡◌, ℕ, Bool, true, false, List, [], ◌∷◌, ◌++◌, ◌⊎◌, refl}
+use Rattle.std.specs.Coded.{Coded, code_by, coded_ℕ, coded_bool, coded_list, coded×, coded⊎}
+use Rattle.std.proofs.Common.{inl, inr, ap, sym, ◌∙◌, append_assoc, append-nil}
+use Rattle.arith_syntax.specs.declared.operator.BinaryOperator.{BinaryOperator}
+use Rattle.arith_syntax.specs.declared.operator.UnaryOperator.{UnaryOperator}
+use Rattle.arith_syntax.specs.declared.operator.AssignmentOperator.{AssignmentOperator}
+use Rattle.arith_syntax.specs.contracts.operator.BinaryOperator as binary
+use Rattle.arith_syntax.specs.contracts.operator.UnaryOperator as unary
+use Rattle.arith_syntax.specs.contracts.operator.AssignmentOperator as assignment
+use Rattle.arith_syntax.specs.Grammar.{Tree, Number, Variable, Group, Unary, Binary, Conditional, Assignment}
+
+-- a part of a tree without what it is assembled of; the last two are a group and a conditional
+abbrev pub Part : Type 0
+Part = ℕ ⊎ (List ℕ ⊎ (UnaryOperator ⊎ (BinaryOperator ⊎ ((List ℕ × AssignmentOperator) ⊎ Bool))))
+
+-- the code of a part
+abbrev pub part_code : Coded Part
+part_code =
+    coded⊎ coded_ℕ (coded⊎ (coded_list coded_ℕ) (coded⊎ unary.the_row.coded (coded⊎ binary.the_row.coded
+    (coded⊎ (coded× (coded_list coded_ℕ) assignment.the_row.coded) coded_bool))))
+
+-- the parts of a tree
+abbrev pub parts : Tree → List Part
+parts (Number n) = inl n ∷ []
+parts (Variable x) = inr (inl x) ∷ []
+parts (Group e) = parts e ++ (inr (inr (inr (inr (inr false)))) ∷ [])
+parts (Unary op e) = parts e ++ (inr (inr (inl op)) ∷ [])
+parts (Binary a op b) = parts a ++ (parts b ++ (inr (inr (inr (inl op))) ∷ []))
+parts (Conditional c a b) = parts c ++ (parts a ++ (parts b ++ (inr (inr (inr (inr (inr true)))) ∷ [])))
+parts (Assignment x op e) = parts e ++ (inr (inr (inr (inr (inl (x, op))))) ∷ [])
+
+-- the last tree becomes another
+abbrev pub of_one : (Tree → Tree) → List Tree → List Tree
+of_one f [] = []
+of_one f (e ∷ trees) = f e ∷ trees
+
+-- the last two become one
+abbrev pub of_two : (Tree → Tree → Tree) → List Tree → List Tree
+of_two f [] = []
+of_two f (b ∷ trees) = of_one (λ a. f a b) trees
+
+-- the last three become one
+abbrev pub of_three : (Tree → Tree → Tree → Tree) → List Tree → List Tree
+of_three f [] = []
+of_three f (b ∷ trees) = of_two (λ c a. f c a b) trees
+
+-- one part more
+abbrev pub grown : Part → List Tree → List Tree
+grown (inl n) trees = Number n ∷ trees
+grown (inr (inl x)) trees = Variable x ∷ trees
+grown (inr (inr (inl op))) trees = of_one (Unary op) trees
+grown (inr (inr (inr (inl op)))) trees = of_two (λ a b. Binary a op b) trees
+grown (inr (inr (inr (inr (inl (x, op)))))) trees = of_one (Assignment x op) trees
+grown (inr (inr (inr (inr (inr false))))) trees = of_one Group trees
+grown (inr (inr (inr (inr (inr true))))) trees = of_three Conditional trees
+
+-- the trees that parts make, the last one first
+abbrev pub assembled : List Tree → List Part → List Tree
+assembled trees [] = trees
+assembled trees (p ∷ ps) = assembled (grown p trees) ps
+
+-- the last tree of several
+abbrev pub last_of : List Tree → Tree
+last_of [] = Number 0
+last_of (e ∷ trees) = e
+
+-- the parts of a tree make it
+pub assembled-parts : (e : Tree) (trees : List Tree) (more : List Part) → assembled trees (parts e ++ more) ≡ assembled (e ∷ trees) more
+assembled-parts (Number n) trees more = refl
+assembled-parts (Variable x) trees more = refl
+assembled-parts (Group e) trees more =
+    ap (assembled trees) (append_assoc (parts e) (inr (inr (inr (inr (inr false)))) ∷ []) more) ∙ assembled-parts e trees _
+assembled-parts (Unary op e) trees more = ap (assembled trees) (append_assoc (parts e) (inr (inr (inl op)) ∷ []) more) ∙ assembled-parts e trees _
+assembled-parts (Binary a op b) trees more =
+    let last : List Part = inr (inr (inr (inl op))) ∷ [] in
+    ap (assembled trees) (append_assoc (parts a) (parts b ++ last) more) ∙ assembled-parts a trees _
+    ∙ ap (assembled (a ∷ trees)) (append_assoc (parts b) last more) ∙ assembled-parts b (a ∷ trees) _
+assembled-parts (Conditional c a b) trees more =
+    let last : List Part = inr (inr (inr (inr (inr true)))) ∷ [] in
+    ap (assembled trees) (append_assoc (parts c) (parts a ++ (parts b ++ last)) more) ∙ assembled-parts c trees _
+    ∙ ap (assembled (c ∷ trees)) (append_assoc (parts a) (parts b ++ last) more) ∙ assembled-parts a (c ∷ trees) _
+    ∙ ap (assembled (a ∷ c ∷ trees)) (append_assoc (parts b) last more) ∙ assembled-parts b (a ∷ c ∷ trees) _
+assembled-parts (Assignment x op e) trees more =
+    ap (assembled trees) (append_assoc (parts e) (inr (inr (inr (inr (inl (x, op))))) ∷ []) more) ∙ assembled-parts e trees _
+
+-- the code of trees
+abbrev pub tree_code : Coded Tree
+tree_code =
+    code_by (List Part) (coded_list part_code) parts (λ ps. last_of (assembled [] ps))
+    (λ e. ap (λ ps. last_of (assembled [] ps)) (sym (append-nil (parts e))) ∙ ap last_of (assembled-parts e [] []))

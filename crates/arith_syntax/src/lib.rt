@@ -1,0 +1,30 @@
+//! The grammar of POSIX shell arithmetic: from a text to tokens, and from tokens to the trees of statements.
+#![tactic(auto)]
+
+mod constant;
+mod expression;
+mod fault;
+mod laws;
+mod lexer;
+mod octet;
+mod operator;
+mod parser;
+mod reading;
+mod sign;
+mod spelled;
+mod token;
+mod token_laws;
+
+pub use expression::Expression;
+pub use fault::ReadFault;
+pub use laws::{one_reading, one_tree};
+pub use lexer::tokens;
+pub use operator::{AssignmentOperator, BinaryOperator, UnaryOperator};
+pub use reading::{read_cell, read_statement};
+pub use token::{Placed, Token};
+pub use token_laws::{one_lexing, one_wrong_place, tokens_are_nowhere_wrong};
+
+#[cfg(test)]
+mod tests_lexer;
+#[cfg(test)]
+mod tests_parser;

@@ -1,0 +1,421 @@
+//! Parsing by precedence: constructs that have begun wait on a stack for the operands that end them.
+ghost use Rattle.std.specs.Bool.{nat_le};
+ghost use Rattle.std.specs.Prelude.{◌≡◌, ◌≤◌};
+ghost use Rattle.arith_syntax.specs.Grammar.{operator_level, tree_of};
+ghost use Rattle.arith_syntax.specs.Machine.{rank, room, room_of, settle, start, advance, sign_of, take_due, take_behind, divide, enclose, assign, close, begun_of, stack_of, state_of, ends_at, IsBuilt, IsCopied, IsCondition, IsOpen, IsWholeStack, PushesTo, Pops, PopsEnding, PopsCondition, PopsOpen, SettlesTo, LeadsTo, ClosesTo};
+ghost use Rattle.arith_syntax.specs.Parsing.{Parses};
+
+use crate::expression::Expression;
+use crate::fault::ReadFault;
+use crate::operator::{AssignmentOperator, BinaryOperator, UnaryOperator};
+use crate::token::{Placed, Token};
+use listed::Text;
+use std::alloc::Global;
+
+/// The level of `||`, the weakest of the operators with two operands.
+const WEAKEST_OPERATOR: u8 = 11;
+
+/// The level of a conditional.
+const CONDITIONAL: u8 = 12;
+
+/// The level of an assignment, the weakest of all.
+const ASSIGNMENT: u8 = 13;
+
+/// The rank of what no operator ends.
+const NEVER: u8 = 14;
+
+/// A construct that has begun, with what has been read of it.
+#[derive(Drop)]
+enum Frame {
+    /// `(`
+    Open,
+    /// An operator in front of its operand.
+    Unary(UnaryOperator),
+    /// The left operand and its operator.
+    Binary(Expression, BinaryOperator),
+    /// The condition in front of a `?`.
+    Question(Expression),
+    /// The condition, and the middle that stands in front of the `:`.
+    Colon(Expression, Expression),
+    /// A name and the operator that assigns to it.
+    Assign(Text, AssignmentOperator),
+}
+
+impl Frame {
+    /// The level of the strongest operator that ends the construct.
+    fn rank(&self) -> u8
+        ensures { result ≡ rank (begun_of self.now) }
+    {
+        match self {
+            Frame::Open | Frame::Question(_) => NEVER,
+            Frame::Unary(_) => 1,
+            Frame::Binary(_, operator) => operator.level(),
+            Frame::Colon(..) => CONDITIONAL,
+            Frame::Assign(..) => ASSIGNMENT,
+        }
+    }
+
+    /// Whether an assignment fits into the construct.
+    fn takes_assignment(&self) -> bool
+        ensures { result ≡ nat_le 13 (room (begun_of self.now)) }
+    {
+        match self {
+            Frame::Open | Frame::Question(_) | Frame::Assign(..) => true,
+            Frame::Unary(_) | Frame::Binary(..) | Frame::Colon(..) => false,
+        }
+    }
+
+    /// The condition of a `?` that waits for its `:`.
+    fn into_condition(self) -> Option<Expression>
+        ensures { IsCondition (begun_of self) result }
+    {
+        match self {
+            Frame::Question(condition) => Some(condition),
+            Frame::Open
+            | Frame::Unary(_)
+            | Frame::Binary(..)
+            | Frame::Colon(..)
+            | Frame::Assign(..) => None,
+        }
+    }
+
+    /// Whether the construct is a `(`.
+    fn is_open(&self) -> bool
+        ensures { IsOpen (begun_of self.now) result }
+    {
+        match self {
+            Frame::Open => true,
+            Frame::Unary(_)
+            | Frame::Binary(..)
+            | Frame::Question(_)
+            | Frame::Colon(..)
+            | Frame::Assign(..) => false,
+        }
+    }
+
+    /// The tree of the construct with its last operand.
+    fn complete(self, alloc: Global, operand: Expression) -> Result<Expression, ReadFault>
+        requires { rank (begun_of self) ≤ 13 }
+        ensures { IsBuilt (begun_of self) (tree_of operand) result }
+    {
+        match self {
+            Frame::Unary(operator) => Ok(Expression::Unary(operator, Box::new(alloc, operand)?)),
+            Frame::Binary(left, operator) => {
+                let left = Box::new(alloc, left)?;
+                Ok(Expression::Binary(left, operator, Box::new(alloc, operand)?))
+            }
+            Frame::Colon(condition, middle) => {
+                let condition = Box::new(alloc, condition)?;
+                let middle = Box::new(alloc, middle)?;
+                Ok(Expression::Conditional(condition, middle, Box::new(alloc, operand)?))
+            }
+            Frame::Assign(name, operator) => {
+                Ok(Expression::Assignment(name, operator, Box::new(alloc, operand)?))
+            }
+            Frame::Open | Frame::Question(_) => unreachable!(),
+        }
+    }
+}
+
+/// What has been read of a statement.
+#[derive(Drop)]
+struct Parser {
+    /// The constructs that have begun, the innermost last.
+    frames: Vec<Frame>,
+    /// The operand that was read last; none where one is due.
+    operand: Option<Expression>,
+}
+
+impl Parser {
+    /// A parser that has read nothing.
+    fn new(alloc: Global) -> Parser
+        ensures { state_of result ≡ start }
+    {
+        Parser {
+            frames: Vec::new(alloc),
+            operand: None,
+        }
+    }
+
+    /// Takes a token, or says that no statement goes on with it.
+    fn take(&mut self, alloc: Global, token: &Token) -> Result<bool, ReadFault>
+        ensures { LeadsTo (advance (state_of self.old) token.now) result (state_of self.new) }
+    {
+        match self.operand.take() {
+            None => self.take_due(alloc, token),
+            Some(operand) => self.take_behind(alloc, operand, token),
+        }
+    }
+
+    /// Takes a token where an operand is due.
+    fn take_due(&mut self, alloc: Global, token: &Token) -> Result<bool, ReadFault>
+        requires { self.old.operand ≡ None }
+        ensures { LeadsTo (take_due (stack_of self.old.frames.items) token.now) result (state_of self.new) }
+    {
+        match token {
+            Token::Constant(value) => self.operand = Some(Expression::Constant(*value)),
+            Token::Name(name) => self.operand = Some(Expression::Variable(copied(alloc, name)?)),
+            Token::Open => self.push(Frame::Open)?,
+            Token::Operator(_)
+            | Token::Assign(_)
+            | Token::Complement
+            | Token::Not
+            | Token::Increment
+            | Token::Decrement
+            | Token::Question
+            | Token::Colon
+            | Token::Close
+            | Token::Semicolon => {
+                let Some(operator) = unary_operator(token) else {
+                    return Ok(false)
+                };
+                self.push(Frame::Unary(operator))?;
+            }
+        }
+        Ok(true)
+    }
+
+    /// Takes a token behind an operand.
+    fn take_behind(
+        &mut self,
+        alloc: Global,
+        operand: Expression,
+        token: &Token,
+    ) -> Result<bool, ReadFault>
+        requires { self.old.operand ≡ None }
+        ensures { LeadsTo (take_behind (stack_of self.old.frames.items) (tree_of operand) token.now) result (state_of self.new) }
+    {
+        match token {
+            Token::Operator(operator) => {
+                let left = self.settle(alloc, operator.level(), operand)?;
+                self.push(Frame::Binary(left, *operator))?;
+                Ok(true)
+            }
+            Token::Assign(operator) => self.assign(*operator, operand),
+            Token::Question => {
+                let condition = self.settle(alloc, WEAKEST_OPERATOR, operand)?;
+                self.push(Frame::Question(condition))?;
+                Ok(true)
+            }
+            Token::Colon => {
+                let middle = self.settle(alloc, ASSIGNMENT, operand)?;
+                self.divide(middle)
+            }
+            Token::Close => {
+                let inner = self.settle(alloc, ASSIGNMENT, operand)?;
+                self.enclose(alloc, inner)
+            }
+            Token::Constant(_)
+            | Token::Name(_)
+            | Token::Complement
+            | Token::Not
+            | Token::Increment
+            | Token::Decrement
+            | Token::Open
+            | Token::Semicolon => Ok(false),
+        }
+    }
+
+    /// Ends the innermost constructs that aren't weaker than a level; the operand becomes their tree.
+    fn settle(
+        &mut self,
+        alloc: Global,
+        weakest: u8,
+        operand: Expression,
+    ) -> Result<Expression, ReadFault>
+        requires { weakest ≤ 13 }
+        ensures tree { SettlesTo (settle weakest (stack_of self.old.frames.items) (tree_of operand)) result (stack_of self.new.frames.items) }
+        ensures operand { self.new.operand ≡ self.old.operand }
+    {
+        let mut operand = operand;
+        while let Some(frame) = self.pop_ending(weakest) {
+            operand = frame.complete(alloc, operand)?;
+        }
+        Ok(operand)
+    }
+
+    /// Begins a construct.
+    fn push(&mut self, frame: Frame) -> Result<(), ReadFault>
+        ensures frame { PushesTo (begun_of frame) (stack_of self.old.frames.items) result (stack_of self.new.frames.items) }
+        ensures operand { self.new.operand ≡ self.old.operand }
+    {
+        self.frames.push(frame)?;
+        Ok(())
+    }
+
+    /// Takes the innermost construct off.
+    fn pop(&mut self) -> Option<Frame>
+        ensures frame { Pops (stack_of self.old.frames.items) result (stack_of self.new.frames.items) }
+        ensures operand { self.new.operand ≡ self.old.operand }
+    {
+        self.frames.pop()
+    }
+
+    /// Takes the innermost construct off, unless it is weaker than a level.
+    fn pop_ending(&mut self, weakest: u8) -> Option<Frame>
+        ensures frame { PopsEnding weakest (stack_of self.old.frames.items) result (stack_of self.new.frames.items) }
+        ensures operand { self.new.operand ≡ self.old.operand }
+    {
+        if self.ends_at(weakest) {
+            self.pop()
+        } else {
+            None
+        }
+    }
+
+    /// Whether the innermost construct isn't weaker than a level.
+    fn ends_at(&self, weakest: u8) -> bool
+        ensures { result ≡ ends_at weakest (stack_of self.now.frames.items) }
+    {
+        match self.frames.last() {
+            Some(frame) => frame.rank() <= weakest,
+            None => false,
+        }
+    }
+
+    /// Takes a `?` off that waits for its `:`, and gives its condition.
+    fn pop_condition(&mut self) -> Option<Expression>
+        ensures frame { PopsCondition (stack_of self.old.frames.items) result (stack_of self.new.frames.items) }
+        ensures operand { self.new.operand ≡ self.old.operand }
+    {
+        let frame = self.pop()?;
+        frame.into_condition()
+    }
+
+    /// Takes a `(` off, or says that the innermost construct is none.
+    fn pop_open(&mut self) -> bool
+        ensures { PopsOpen (stack_of self.old.frames.items) result (stack_of self.new.frames.items) }
+    {
+        match self.pop() {
+            Some(frame) => frame.is_open(),
+            None => false,
+        }
+    }
+
+    /// Takes `:` behind the middle of a conditional.
+    fn divide(&mut self, middle: Expression) -> Result<bool, ReadFault>
+        requires { self.old.operand ≡ None }
+        ensures { LeadsTo (divide (stack_of self.old.frames.items) (tree_of middle)) result (state_of self.new) }
+    {
+        match self.pop_condition() {
+            Some(condition) => {
+                self.push(Frame::Colon(condition, middle))?;
+                Ok(true)
+            }
+            None => Ok(false),
+        }
+    }
+
+    /// Takes `)` behind what stands in parentheses.
+    fn enclose(&mut self, alloc: Global, inner: Expression) -> Result<bool, ReadFault>
+        ensures { LeadsTo (enclose (stack_of self.old.frames.items) (tree_of inner)) result (state_of self.new) }
+    {
+        if !self.pop_open() {
+            return Ok(false);
+        }
+        self.operand = Some(Expression::Group(Box::new(alloc, inner)?));
+        Ok(true)
+    }
+
+    /// Takes an operator that assigns, behind a name.
+    fn assign(
+        &mut self,
+        operator: AssignmentOperator,
+        operand: Expression,
+    ) -> Result<bool, ReadFault>
+        requires { self.old.operand ≡ None }
+        ensures { LeadsTo (assign operator (stack_of self.old.frames.items) (tree_of operand)) result (state_of self.new) }
+    {
+        let Expression::Variable(name) = operand else {
+            return Ok(false)
+        };
+        if !self.takes_assignment() {
+            return Ok(false);
+        }
+        self.push(Frame::Assign(name, operator))?;
+        Ok(true)
+    }
+
+    /// Whether an assignment fits into the innermost construct.
+    fn takes_assignment(&self) -> bool
+        ensures { result ≡ nat_le 13 (room_of (stack_of self.now.frames.items)) }
+    {
+        match self.frames.last() {
+            Some(frame) => frame.takes_assignment(),
+            None => true,
+        }
+    }
+
+    /// Whether no construct waits for its end.
+    fn is_whole(&self) -> bool
+        ensures { IsWholeStack (stack_of self.now.frames.items) result }
+    {
+        self.frames.is_empty()
+    }
+
+    /// The tree of all that was read, or none where it is no statement.
+    fn finish(mut self, alloc: Global) -> Result<Option<Expression>, ReadFault>
+        ensures { ClosesTo (close (state_of self)) result }
+    {
+        let Some(operand) = self.operand.take() else {
+            return Ok(None)
+        };
+        let tree = self.settle(alloc, ASSIGNMENT, operand)?;
+        if self.is_whole() {
+            Ok(Some(tree))
+        } else {
+            Ok(None)
+        }
+    }
+}
+
+/// The operator in front of an operand that a token is.
+fn unary_operator(token: &Token) -> Option<UnaryOperator>
+    ensures { result ≡ sign_of token.now }
+{
+    match token {
+        Token::Operator(BinaryOperator::Add) => Some(UnaryOperator::Plus),
+        Token::Operator(BinaryOperator::Subtract) => Some(UnaryOperator::Minus),
+        Token::Complement => Some(UnaryOperator::Complement),
+        Token::Not => Some(UnaryOperator::Not),
+        Token::Operator(_)
+        | Token::Constant(_)
+        | Token::Name(_)
+        | Token::Assign(_)
+        | Token::Increment
+        | Token::Decrement
+        | Token::Question
+        | Token::Colon
+        | Token::Open
+        | Token::Close
+        | Token::Semicolon => None,
+    }
+}
+
+/// A copy of a name.
+fn copied(alloc: Global, name: &Text) -> Result<Text, ReadFault>
+    ensures { IsCopied name.now result }
+{
+    Ok(Text::new(String::from_str(alloc, name.as_str())?))
+}
+
+/// The tree of a statement's tokens; `end` is the place of its end.
+///
+/// # Errors
+///
+/// `Syntax` with the place of the first token with which no statement goes on, or of the end where the tokens are no
+/// whole statement; `OutOfMemory` where no memory was left.
+pub(crate) fn parse(alloc: Global, tokens: &[Placed], end: u64) -> Result<Expression, ReadFault>
+    ensures { Parses (record { tokens = tokens.now; end = end }) result }
+{
+    let mut parser = Parser::new(alloc);
+    for placed in tokens {
+        if !parser.take(alloc, &placed.token)? {
+            return Err(ReadFault::Syntax(placed.place));
+        }
+    }
+    match parser.finish(alloc)? {
+        Some(tree) => Ok(tree),
+        None => Err(ReadFault::Syntax(end)),
+    }
+}

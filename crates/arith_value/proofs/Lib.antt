@@ -1,0 +1,3 @@
+pub mod EvaluateLemmas
+pub mod OwnLemmas
+pub mod VariablesLemmas

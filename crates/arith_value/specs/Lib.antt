@@ -1,0 +1,4 @@
+pub mod Operators
+pub mod Own
+pub mod Value
+pub mod Variables

@@ -1,0 +1,114 @@
+-- The value of a statement's tree: a whole number or a fault, and the assignments that were made on the way.
+--
+-- Left operands are evaluated before right ones. `&&`, `||` and `?:` evaluate only what they need.
+use Rattle.std.specs.Prelude.{◌≡◌, ℕ, ℤ, pos, List, [], ◌∷◌, ◌++◌, Result, Ok, Err, Option, Some, None, if◌then◌else◌}
+use Rattle.arith_syntax.specs.Grammar.{Tree, Number, Variable, Group, Unary, Binary, Conditional, Assignment}
+use Rattle.arith_syntax.specs.declared.operator.BinaryOperator.{BinaryOperator}
+use Rattle.arith_syntax.specs.declared.operator.BinaryOperator.TheVariants as binary
+use Rattle.arith_syntax.specs.declared.operator.AssignmentOperator.{AssignmentOperator}
+use Rattle.arith_syntax.specs.declared.operator.AssignmentOperator.TheVariants as assignment
+use Rattle.arith_value.specs.declared.fault.ValueFault.{ValueFault}
+use Rattle.arith_value.specs.declared.fault.ValueFault.TheVariants as fault
+use Rattle.arith_value.specs.Operators.{checked, is_true, unary, apply}
+use Rattle.arith_value.specs.Variables.{Bindings, read, after}
+
+-- what an evaluation comes to: its result, and the assignments that it made, in their order
+pub record Outcome : Type 0 where
+  pub result : Result ℤ ValueFault
+  pub made : Bindings
+
+-- what an evaluation comes to where the variables are these
+abbrev pub Evaluation : Type 0
+Evaluation = Bindings → Outcome
+
+-- a result with no assignment
+abbrev pub give : Result ℤ ValueFault → Evaluation
+give result variables = record { result = result; made = [] }
+
+-- the value of a name
+abbrev pub load : List ℕ → Evaluation
+load name variables = give (Ok (read name variables)) variables
+
+-- an assignment, whose value is what was assigned
+abbrev pub store : List ℕ → ℤ → Evaluation
+store name value variables = record { result = Ok value; made = (name, value) ∷ [] }
+
+-- an outcome, and where it has a value what comes of that, its assignments behind those already made
+abbrev pub followed : Result ℤ ValueFault → Bindings → (ℤ → Outcome) → Outcome
+followed (Ok value) made next = record { result = (next value).result; made = made ++ (next value).made }
+followed (Err fault) made next = record { result = Err fault; made = made }
+
+-- one evaluation, and then the next with its value and the variables after it; a fault ends both
+abbrev pub first_then : Evaluation → (ℤ → Evaluation) → Evaluation
+first_then first next variables =
+    followed (first variables).result (first variables).made (λ value. next value (after variables (first variables).made))
+
+-- the value that the left operand decides by itself: a false one that of `&&`, and a true one that of `||`
+abbrev pub decided : BinaryOperator → ℤ → Option ℤ
+decided binary.And a = if is_true a then None else Some (pos 0)
+decided binary.Or a = if is_true a then Some (pos 1) else None
+decided op a = None
+
+-- a value that is decided, or else an evaluation
+abbrev pub unless : Option ℤ → Evaluation → Evaluation
+unless None step = step
+unless (Some value) step = give (Ok value)
+
+-- the value of an operator: the right operand is evaluated unless the left one decides
+abbrev pub operate : BinaryOperator → ℤ → Evaluation → Evaluation
+operate op a right = unless (decided op a) (first_then right (λ b. give (apply op a b)))
+
+-- the operator that an assignment applies before it assigns, where it has one
+abbrev pub operator_of : AssignmentOperator → Option BinaryOperator
+operator_of assignment.Assign = None
+operator_of assignment.Add = Some binary.Add
+operator_of assignment.Subtract = Some binary.Subtract
+operator_of assignment.Multiply = Some binary.Multiply
+operator_of assignment.Divide = Some binary.Divide
+operator_of assignment.Remainder = Some binary.Remainder
+operator_of assignment.ShiftLeft = Some binary.ShiftLeft
+operator_of assignment.ShiftRight = Some binary.ShiftRight
+operator_of assignment.BitAnd = Some binary.BitAnd
+operator_of assignment.BitXor = Some binary.BitXor
+operator_of assignment.BitOr = Some binary.BitOr
+
+-- what an assignment assigns: its operand, or what its operator gives of the name's value, read now, and the operand
+abbrev pub combined : Option BinaryOperator → List ℕ → ℤ → Evaluation
+combined None name operand = give (Ok operand)
+combined (Some op) name operand = first_then (load name) (λ old. give (apply op old operand))
+
+-- an assignment whose operand has this value
+abbrev pub assignment_of : List ℕ → AssignmentOperator → ℤ → Evaluation
+assignment_of name op operand = first_then (combined (operator_of op) name operand) (λ value. store name value)
+
+-- the value of a tree
+abbrev pub value : Tree → Evaluation
+value (Number n) = give (checked (pos n))
+value (Variable name) = load name
+value (Group inner) = value inner
+value (Unary op operand) = first_then (value operand) (λ a. give (unary op a))
+value (Binary left op right) = first_then (value left) (λ a. operate op a (value right))
+value (Conditional condition if_so if_not) =
+    first_then (value condition) (λ a. if is_true a then value if_so else value if_not)
+value (Assignment name op operand) = first_then (value operand) (λ a. assignment_of name op a)
+
+-- the variables are `new` after all that an evaluation assigned, and this is its result
+pub record Comes (step : Evaluation) (old : Bindings) (answer : Result ℤ ValueFault) (new : Bindings) : Type 0 where
+  pub result : answer ≡ (step old).result
+  pub assigned : new ≡ after old (step old).made
+
+-- the variables are `new` after the beginning `done` of what an evaluation assigns
+pub record Stops (step : Evaluation) (old new : Bindings) : Type 0 where
+  pub done : Bindings
+  pub rest : Bindings
+  pub beginning : done ++ rest ≡ (step old).made
+  pub assigned : new ≡ after old done
+
+-- a program's answer and the variables that it leaves are those of an evaluation; want of memory leaves the variables after a
+-- beginning of the assignments
+abbrev pub Evaluates : Evaluation → Bindings → Result ℤ ValueFault → Bindings → Type 0
+Evaluates step old (Ok n) new = Comes step old (Ok n) new
+Evaluates step old (Err fault.Overflow) new = Comes step old (Err fault.Overflow) new
+Evaluates step old (Err fault.ZeroDivision) new = Comes step old (Err fault.ZeroDivision) new
+Evaluates step old (Err fault.Shift) new = Comes step old (Err fault.Shift) new
+Evaluates step old (Err fault.OutOfMemory) new = Stops step old new

@@ -1,0 +1,17 @@
+//! The values of POSIX shell arithmetic in 64 bits: operators, variables, and what a statement's tree is worth.
+#![tactic(auto)]
+
+mod evaluator;
+mod fault;
+mod laws;
+mod operators;
+mod variables;
+
+pub use evaluator::evaluate;
+pub use fault::ValueFault;
+pub use laws::values_are_their_own;
+pub use operators::{apply, unary};
+pub use variables::Variables;
+
+#[cfg(test)]
+mod tests;

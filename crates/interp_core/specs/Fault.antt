@@ -1,0 +1,35 @@
+-- The numbers and the words by which the faults of an interpreter are reported.
+use Rattle.std.specs.Prelude.{ℕ, List, ◌++◌, codes}
+use Rattle.std.specs.Fmt.{decimal}
+use Rattle.interp_core.specs.declared.fault.InterpFault.{InterpFault}
+use Rattle.interp_core.specs.declared.fault.InterpFault.TheVariants.{Syntax, Overflow, ZeroDivision, Shift, TooDeep, Interrupted, OutOfMemory}
+
+-- the number of a fault
+abbrev pub fault_number : InterpFault → ℕ
+fault_number (Syntax place) = 50
+fault_number Overflow = 51
+fault_number ZeroDivision = 52
+fault_number Shift = 53
+fault_number TooDeep = 54
+fault_number Interrupted = 55
+fault_number OutOfMemory = 56
+
+-- the name of a fault: `ename`
+abbrev pub fault_name : InterpFault → List ℕ
+fault_name (Syntax place) = codes "SyntaxError"
+fault_name Overflow = codes "OverflowError"
+fault_name ZeroDivision = codes "ZeroDivisionError"
+fault_name Shift = codes "ShiftError"
+fault_name TooDeep = codes "TooDeep"
+fault_name Interrupted = codes "Interrupted"
+fault_name OutOfMemory = codes "OutOfMemory"
+
+-- what is said of a fault: `evalue`
+abbrev pub fault_value : InterpFault → List ℕ
+fault_value (Syntax place) = codes "syntax error at " ++ decimal place
+fault_value Overflow = codes "result outside 64 bits"
+fault_value ZeroDivision = codes "division by zero"
+fault_value Shift = codes "shift refused"
+fault_value TooDeep = codes "more than 200 operators"
+fault_value Interrupted = codes "interrupted"
+fault_value OutOfMemory = codes "out of memory"
