@@ -1,7 +1,7 @@
 -- What is printed in turn.
 use Rattle.std.proofs.Common.{◌≡◌, ℕ, List, [], ◌++◌, true, false, Option, Some, None, OnOk, Result, Ok, Err, refl, sym, ap, ◌∙◌, append_assoc}
 use Rattle.std.proofs.lemmas.List.{append-nil}
-use Rattle.std.specs.Io.KnownBytes.{Appends}
+use Rattle.std.specs.Io.KnownBytes.{Appends, Keeps}
 use Rattle.interp_core.specs.declared.fault.InterpFault.{InterpFault}
 use Rattle.interp_core.specs.declared.fault.InterpFault.TheVariants as fault
 use Rattle.interp_core.specs.declared.answer.Next.{Next}
@@ -64,3 +64,15 @@ follows (Err e) P Q p f = tt
 pub both_follow : {T E : Type 0} (r : Result T E) (P Q R : Type 0) → OnOk r P → OnOk r Q → (P → Q → R) → OnOk r R
 both_follow (Ok v) P Q R p q f = f p q
 both_follow (Err e) P Q R p q f = tt
+
+-- a text that was printed stays
+pub appends_kept : (first middle last : Option (List ℕ)) (text : List ℕ) → Appends first middle text → Keeps middle last → Appends first last text
+appends_kept None middle last text before kept = tt
+appends_kept (Some xs) None last text before kept = absurd before
+appends_kept (Some xs) (Some ys) None text before kept = absurd kept
+appends_kept (Some xs) (Some ys) (Some zs) text before kept = kept ∙ before
+
+-- a fact that holds anyway holds on success
+pub on_success : {T E : Type 0} (r : Result T E) (P : Type 0) → P → OnOk r P
+on_success (Ok v) P p = p
+on_success (Err e) P p = tt

@@ -1,9 +1,14 @@
 //! Cells from lines.
 
+ghost use Rattle.std.specs.Prelude.{◌≡◌, OnOk, IfOk, IfSome};
+ghost use Rattle.std.specs.Io.BufRead.{strip_last};
+ghost use Rattle.arith_cells.specs.Printed.{InputPrints, LinePrints, Prints};
+
 use crate::cell::run_cell;
 use interp_core::Interpreter;
 use std::alloc::Global;
-use std::io::{self, BufRead, Write};
+use std::io::{self, BufRead, ErrorKind, Write};
+use std::str;
 
 /// Runs each line as a cell, its line feed aside, up to the end of what is read, and flushes what was printed.
 ///
@@ -18,19 +23,49 @@ pub fn run_lines<I: Interpreter, R: BufRead, W: Write>(
 ) -> io::Result<()>
 where
     I::Cell: Drop,
+    ensures { OnOk result (IfSome (R.remaining reader.old) (λ input. Prints (InputPrints I.meaning interpreter.old input)
+        (W.contents writer.old) (W.contents writer.new) interpreter.new)) }
 {
-    let mut line = String::new(alloc);
+    let mut line = Vec::new(alloc);
     'lines: for _ in 0..u64::MAX {
-        line.clear();
-        if reader.read_line(&mut line)? == 0 {
-            break;
+        if !run_line(alloc, interpreter, reader, writer, &mut line)? {
+            return writer.flush();
         }
-        run_cell(alloc, interpreter, without_line_feed(line.as_str()), writer)?;
     }
-    writer.flush()
+    Err(io::Error::other("input has no end"))
+}
+
+/// Runs the next line as a cell, or tells that there is none. It is read into `line`, whose octets are lost.
+fn run_line<I: Interpreter, R: BufRead, W: Write>(
+    alloc: Global,
+    interpreter: &mut I,
+    reader: &mut R,
+    writer: &mut W,
+    line: &mut Vec<u8>,
+) -> io::Result<bool>
+where
+    I::Cell: Drop,
+    ensures { IfOk result (λ more. IfSome (R.remaining reader.old) (λ input. LinePrints I.meaning more input
+        interpreter.old (W.contents writer.old) (W.contents writer.new) interpreter.new (R.remaining reader.new))) }
+{
+    line.clear();
+    if reader.read_until(b'\n', line)? == 0 {
+        return Ok(false);
+    }
+    let Ok(code) = str::from_utf8(without_line_feed(line.as_slice())) else {
+        return Err(io::Error::from(ErrorKind::InvalidData));
+    };
+    run_cell(alloc, interpreter, code, writer)?;
+    Ok(true)
 }
 
 /// A line without the line feed that ends it, if one does.
-fn without_line_feed(line: &str) -> &str {
-    line.strip_suffix('\n').unwrap_or(line)
+fn without_line_feed(line: &[u8]) -> &[u8]
+    ensures { result.now ≡ strip_last 10 line.now }
+{
+    if line.len() > 0 && line[line.len() - 1] == b'\n' {
+        &line[..line.len() - 1]
+    } else {
+        line
+    }
 }
