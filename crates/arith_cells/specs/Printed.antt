@@ -69,20 +69,24 @@ pub data CellPrints {State Cell : Type 0} (m : Meaning State Cell) : State → L
       → m.begins state code (Err fault) end → CellPrints m state code (fault_line fault) end
 
 -- a run of a cell printed what its meaning says
-pub record Prints {State : Type 0} (Says : List ℕ → State → Type 0) (old new : Option (List ℕ)) (end : State) : Type 0 where
-  pub text : List ℕ
-  pub appended : Appends old new text
-  pub said : Says text end
+pub record Prints {State : Type 0} (Says : List ℕ → State → Type 0) (old new : Option (List ℕ)) (end : State) : Type 0
+  where
+    pub text : List ℕ
+    pub appended : Appends old new text
+    pub said : Says text end
 
 -- what is printed of an input, each line of which is a cell, its line feed aside
 pub data InputPrints {State Cell : Type 0} (m : Meaning State Cell) : State → List ℕ → List ℕ → State → Type 0 where
   end : (state : State) → InputPrints m state [] [] state
   next_line : (state after last : State) (input text rest : List ℕ)
-      → input ≢ [] → CellPrints m state (first_piece 10 input) text after → InputPrints m after (drop_through 10 input) rest last
+      → input ≢ [] → CellPrints m state (first_piece 10 input) text after
+      → InputPrints m after (drop_through 10 input) rest last
       → InputPrints m state input (text ++ rest) last
 
 -- the first line of an input was run and printed, where there is one, and what is behind it is left
-abbrev pub LinePrints : {State Cell : Type 0} → Meaning State Cell → Bool → List ℕ → State → Option (List ℕ) → Option (List ℕ) → State → Option (List ℕ) → Type 0
+abbrev pub LinePrints : {State Cell : Type 0} → Meaning State Cell → Bool → List ℕ → State → Option (List ℕ)
+    → Option (List ℕ) → State → Option (List ℕ) → Type 0
 LinePrints m true input state old new after left =
-    (input ≢ []) × Prints (CellPrints m state (first_piece 10 input)) old new after × (left ≡ Some (drop_through 10 input))
+    (input ≢ []) × Prints (CellPrints m state (first_piece 10 input)) old new after
+    × (left ≡ Some (drop_through 10 input))
 LinePrints m false input state old new after left = (input ≡ []) × (new ≡ old) × (after ≡ state)

@@ -3,7 +3,8 @@
 ghost use Rattle.std.specs.Prelude.{◌≡◌, OnOk, IfOk};
 ghost use Rattle.std.specs.List.{flat_map};
 ghost use Rattle.std.specs.Io.KnownBytes.{Appends};
-ghost use Rattle.arith_cells.specs.Printed.{CellPrints, IsAnswered, IsReported, Prints, StepsPrint, fault_line, goes_on, line, next_text, output_text, step_text};
+ghost use Rattle.arith_cells.specs.Printed.{CellPrints, IsAnswered, IsReported, Prints, StepsPrint, fault_line};
+ghost use Rattle.arith_cells.specs.Printed.{goes_on, line, next_text, output_text, step_text};
 
 use interp_core::{InterpFault, Interpreter, Next, Output, Stepped, fault_words};
 use listed::Text;

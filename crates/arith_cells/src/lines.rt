@@ -23,7 +23,8 @@ pub fn run_lines<I: Interpreter, R: BufRead, W: Write>(
 ) -> io::Result<()>
 where
     I::Cell: Drop,
-    ensures { OnOk result (IfSome (R.remaining reader.old) (λ input. Prints (InputPrints I.meaning interpreter.old input)
+    ensures { OnOk result (IfSome (R.remaining reader.old)
+        (λ input. Prints (InputPrints I.meaning interpreter.old input)
         (W.contents writer.old) (W.contents writer.new) interpreter.new)) }
 {
     let mut line = Vec::new(alloc);

@@ -19,13 +19,16 @@ pub utf8_behind : (front rest : List ℕ) → All IsAsciiCharacter front → IsU
 utf8_behind [] rest ascii utf8 = utf8
 utf8_behind (c ∷ front) rest ascii utf8 =
     utf8_behind front rest (All-tail IsAsciiCharacter c front ascii)
-    (IsUtf8-past_char (c ∷ (front ++ rest)) (front ++ rest) c utf8 (ascii_front c (front ++ rest) (All-head IsAsciiCharacter c front ascii)))
+    (IsUtf8-past_char (c ∷ (front ++ rest)) (front ++ rest) c utf8
+    (ascii_front c (front ++ rest) (All-head IsAsciiCharacter c front ascii)))
 
 -- ASCII characters in front are the first code points
-pub chars_behind : (front rest : List ℕ) → All IsAsciiCharacter front → IsUtf8 (front ++ rest) → chars (front ++ rest) ≡ front ++ chars rest
+pub chars_behind : (front rest : List ℕ) → All IsAsciiCharacter front → IsUtf8 (front ++ rest) → chars (front ++ rest)
+    ≡ front ++ chars rest
 chars_behind [] rest ascii utf8 = refl
 chars_behind (c ∷ front) rest ascii utf8 =
-    let first : c ∷ (front ++ rest) ≡ encode c ++ (front ++ rest) = ascii_front c (front ++ rest) (All-head IsAsciiCharacter c front ascii) in
+    let first : c ∷ (front ++ rest) ≡ encode c ++ (front ++ rest) =
+    ascii_front c (front ++ rest) (All-head IsAsciiCharacter c front ascii) in
     chars_past_char (c ∷ (front ++ rest)) (front ++ rest) c utf8 first
     ∙ ap (λ (t : List ℕ). c ∷ t) (chars_behind front rest (All-tail IsAsciiCharacter c front ascii)
     (IsUtf8-past_char (c ∷ (front ++ rest)) (front ++ rest) c utf8 first))
@@ -43,7 +46,8 @@ pub record IsAsciiFront (octets front more : List ℕ) : Type 0 where
   pub utf8 : IsUtf8 rest
 
 -- ASCII code points in front are the first octets
-pub octets_of : (front octets more : List ℕ) → All IsAsciiCharacter front → IsUtf8 octets → chars octets ≡ front ++ more → IsAsciiFront octets front more
+pub octets_of : (front octets more : List ℕ) → All IsAsciiCharacter front → IsUtf8 octets → chars octets ≡ front ++ more
+    → IsAsciiFront octets front more
 octets_of [] octets more ascii utf8 same = record { rest = octets; all = refl; behind = same; utf8 = utf8 }
 octets_of (c ∷ front) [] more ascii utf8 same = let no : [] ≡ c ∷ (front ++ more) = sym chars-nil ∙ same in cc
 octets_of (c ∷ front) (b ∷ bs) more ascii utf8 same =
@@ -58,8 +62,10 @@ octets_of (c ∷ front) (b ∷ bs) more ascii utf8 same =
     let tails : bs ≡ rest = ap (λ (t : List ℕ). drop 1 t) plain in
     let first_is : b ≡ c = ap (λ (t : List ℕ). get_or t 0 0) plain ∙ heads in
     let behind : chars bs ≡ front ++ more = ap chars tails ∙ ap (λ (t : List ℕ). drop 1 t) chars_are in
-    let utf8_rest : IsUtf8 bs = subst (λ (t : List ℕ). IsUtf8 t) (sym tails) (IsUtf8-past_char (b ∷ bs) rest d utf8 spelled) in
-    let on : IsAsciiFront bs front more = octets_of front bs more (All-tail IsAsciiCharacter c front ascii) utf8_rest behind in
+    let utf8_rest : IsUtf8 bs = subst (λ (t : List ℕ). IsUtf8 t) (sym tails)
+    (IsUtf8-past_char (b ∷ bs) rest d utf8 spelled) in
+    let on : IsAsciiFront bs front more = octets_of front bs more (All-tail IsAsciiCharacter c front ascii) utf8_rest
+    behind in
     let all : b ∷ bs ≡ c ∷ (front ++ on.rest) = (let rest_is : bs ≡ front ++ on.rest = on.all in cc) in
     record { rest = on.rest; all = all; behind = on.behind; utf8 = on.utf8 }
 

@@ -5,9 +5,12 @@ use Rattle.arith_syntax.specs.declared.operator.UnaryOperator.{UnaryOperator}
 use Rattle.arith_syntax.specs.declared.operator.UnaryOperator.TheVariants as unary
 use Rattle.arith_syntax.specs.declared.token.Token.{Token}
 use Rattle.arith_syntax.specs.declared.token.Token.TheVariants.{Operator, Question, Colon, Close}
-use Rattle.arith_syntax.specs.Grammar.{Tree, Number, Variable, Group, Unary, Binary, Conditional, Assignment, operator_level, level, IsGrammatical, IsStatement, spelled, unary_sign}
-use Rattle.arith_syntax.specs.Machine.{Begun, Opened, Signed, Operated, Questioned, Divided, Named, room_of, Settled, settle, State, begin, take_due, divide, enclose, outermost, start, run, close}
-use Rattle.arith_syntax.proofs.MachineLemmas.{operator_level_least, operator_level_most, level_most, settle_ends, settle_stops, room_stops, run_append}
+use Rattle.arith_syntax.specs.Grammar.{Tree, Number, Variable, Group, Unary, Binary, Conditional, Assignment}
+use Rattle.arith_syntax.specs.Grammar.{operator_level, level, IsGrammatical, IsStatement, spelled, unary_sign}
+use Rattle.arith_syntax.specs.Machine.{Begun, Opened, Signed, Operated, Questioned, Divided, Named, room_of, Settled}
+use Rattle.arith_syntax.specs.Machine.{settle, State, begin, take_due, divide, enclose, outermost, start, run, close}
+use Rattle.arith_syntax.proofs.MachineLemmas.{operator_level_least, operator_level_most, level_most, settle_ends}
+use Rattle.arith_syntax.proofs.MachineLemmas.{settle_stops, room_stops, run_append}
 
 -- a state in which an operand is due
 abbrev due : List Begun → Option State
@@ -34,7 +37,12 @@ sign_taken unary.Not bs = refl
 -- each grammatical tree is taken where it fits
 pub tree_taken : (t : Tree) (bs : List Begun) → IsGrammatical t → level t ≤ room_of bs → IsTakenIn bs t
 tree_taken (Number n) bs good fits = record { begun = bs; operand = Number n; goes = refl; settles = λ weak h. refl }
-tree_taken (Variable x) bs good fits = record { begun = bs; operand = Variable x; goes = refl; settles = λ weak h. refl }
+tree_taken (Variable x) bs good fits = record {
+  begun = bs;
+  operand = Variable x;
+  goes = refl;
+  settles = λ weak h. refl;
+}
 tree_taken (Group e) bs good fits =
     let inner = tree_taken e (Opened ∷ bs) good (level_most e) in
     let whole : settle 13 inner.begun inner.operand ≡ record { begun = Opened ∷ bs; operand = e } =
@@ -61,7 +69,8 @@ tree_taken (Binary a op b) bs good fits =
     let right = tree_taken b (Operated a op ∷ bs) good.3 (omega (arith, good.1)) in
     let whole : settle (operator_level op) left.begun left.operand ≡ record { begun = bs; operand = a } =
     left.settles (operator_level op) good.0
-    ∙ settle_stops (operator_level op) bs a (room_stops (operator_level op) bs (operator_level_least op) (operator_level_most op) fits) in
+    ∙ settle_stops (operator_level op) bs a (room_stops (operator_level op) bs (operator_level_least op)
+    (operator_level_most op) fits) in
     record {
       begun = right.begun;
       operand = right.operand;
@@ -98,7 +107,8 @@ tree_taken (Assignment x op e) bs good fits =
     record {
       begun = inner.begun;
       operand = inner.operand;
-      goes = ap (λ fitting. run (cond fitting (begin (Named x op) bs) None) (spelled e)) (le-leb 13 (room_of bs) fits) ∙ inner.goes;
+      goes = ap (λ fitting. run (cond fitting (begin (Named x op) bs) None) (spelled e)) (le-leb 13 (room_of bs) fits)
+          ∙ inner.goes;
       settles = λ weak h. inner.settles weak (omega (arith, level_most e)) ∙ settle_ends weak (Named x op) bs e h;
     }
 

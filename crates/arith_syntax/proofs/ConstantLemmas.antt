@@ -1,5 +1,6 @@
 -- A constant behind `0`, and what digits are worth.
-use Rattle.std.proofs.Common.{◌≡◌, ℕ, ◌<◌, ◌≤◌, ◌-◌, inl, inr, List, [], ◌∷◌, get_or, drop, refl, sym, ◌∙◌, ap, subst, arith, Option, Some, None}
+use Rattle.std.proofs.Common.{◌≡◌, ℕ, ◌<◌, ◌≤◌, ◌-◌, inl, inr, List, [], ◌∷◌, get_or, drop, refl, sym, ◌∙◌, ap, subst}
+use Rattle.std.proofs.Common.{arith, Option, Some, None}
 use Rattle.std.specs.List.{All}
 use Rattle.std.proofs.lemmas.Bool.{le-leb, lt-leb}
 use Rattle.std.proofs.lemmas.List.Elements.{All-weaker}
@@ -33,17 +34,26 @@ digit_of_octal c digit =
     let worth : digit_value c ≡ c - 48 = value_of_digit c (omega arith) in (inl (digit.0, omega arith), omega arith)
 
 -- a word behind `0` that isn't marked is read to base 8
-pub octal_read : (word : List ℕ) (result : Option ℕ) → get_or word 0 0 ≡ 48 → (get_or word 1 0 ≡ 120 → ⊥) → (get_or word 1 0 ≡ 88 → ⊥)
+pub octal_read : (word : List ℕ) (result : Option ℕ) → get_or word 0 0 ≡ 48 → (get_or word 1 0 ≡ 120 → ⊥)
+    → (get_or word 1 0 ≡ 88 → ⊥)
     → ReadsNumber 8 (drop 1 word) result → ReadsConstant word result
 octal_read [] result zero lower upper reads = absurd (omega arith)
-octal_read (c ∷ cs) (Some n) zero lower upper reads =
-    (reads.fits, inr (inl (record { digits = cs; spelled = rw zero refl; octal = All-weaker (IsDigitOf 8) IsOctalDigit octal_digit cs reads.proper; value = reads.value })))
+octal_read (c ∷ cs) (Some n) zero lower upper reads = (
+  reads.fits,
+  inr (inl (record {
+    digits = cs;
+    spelled = rw zero refl;
+    octal = All-weaker (IsDigitOf 8) IsOctalDigit octal_digit cs reads.proper;
+    value = reads.value;
+  })),
+)
 octal_read (c ∷ cs) None zero lower upper reads = λ n constant. elim constant.1 [
   | inl decimal ↦ absurd (omega (arith, decimal.first.0))
   | inr (inl octal) ↦
       let same : octal.digits ≡ cs = sym (ap (λ (w : List ℕ). drop 1 w) octal.spelled) in
       reads n (record {
-        proper = subst (λ (w : List ℕ). All (IsDigitOf 8) w) same (All-weaker IsOctalDigit (IsDigitOf 8) digit_of_octal octal.digits octal.octal);
+        proper = subst (λ (w : List ℕ). All (IsDigitOf 8) w) same
+            (All-weaker IsOctalDigit (IsDigitOf 8) digit_of_octal octal.digits octal.octal);
         value = octal.value ∙ ap (λ (w : List ℕ). in_base 8 w) same;
         fits = constant.0;
       })

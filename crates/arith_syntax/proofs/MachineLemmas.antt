@@ -4,8 +4,10 @@ use Rattle.std.proofs.lemmas.Bool.{le-leb, lt-leb}
 use Rattle.arith_syntax.specs.declared.operator.BinaryOperator.{BinaryOperator}
 use Rattle.arith_syntax.specs.declared.operator.BinaryOperator.TheVariants as binary
 use Rattle.arith_syntax.specs.declared.token.Token.{Token}
-use Rattle.arith_syntax.specs.Grammar.{Tree, Number, Variable, Group, Unary, Binary, Conditional, Assignment, operator_level, level}
-use Rattle.arith_syntax.specs.Machine.{Begun, Opened, Signed, Operated, Questioned, Divided, Named, rank, room_of, built, settle, State, run, advance_on, StopsAt}
+use Rattle.arith_syntax.specs.Grammar.{Tree, Number, Variable, Group, Unary, Binary, Conditional, Assignment}
+use Rattle.arith_syntax.specs.Grammar.{operator_level, level}
+use Rattle.arith_syntax.specs.Machine.{Begun, Opened, Signed, Operated, Questioned, Divided, Named, rank, room_of}
+use Rattle.arith_syntax.specs.Machine.{built, settle, State, run, advance_on, StopsAt}
 
 -- an operator with two operands is weaker than any in front of one
 pub operator_level_least : (op : BinaryOperator) → 2 ≤ operator_level op

@@ -1,5 +1,6 @@
 -- A text that is tokens and white space is ASCII, so its octets are its code points.
-use Rattle.std.proofs.Common.{◌≡◌, ℕ, zero, suc, ◌<◌, Bool, true, ◌&&◌, List, [], ◌∷◌, ◌++◌, refl, sym, ◌∙◌, arith, nat_lt, subst}
+use Rattle.std.proofs.Common.{◌≡◌, ℕ, zero, suc, ◌<◌, Bool, true, ◌&&◌, List, [], ◌∷◌, ◌++◌, refl, sym, ◌∙◌, arith}
+use Rattle.std.proofs.Common.{nat_lt, subst}
 use Rattle.std.specs.Prelude.{codes}
 use Rattle.std.proofs.lemmas.Bool.Decides.{nat_tests}
 use Rattle.std.specs.List.{All}
@@ -11,9 +12,12 @@ use Rattle.arith_syntax.specs.declared.operator.BinaryOperator.TheVariants as bi
 use Rattle.arith_syntax.specs.declared.operator.AssignmentOperator.{AssignmentOperator}
 use Rattle.arith_syntax.specs.declared.operator.AssignmentOperator.TheVariants as assignment
 use Rattle.arith_syntax.specs.declared.token.Token.{Token}
-use Rattle.arith_syntax.specs.declared.token.Token.TheVariants.{Constant, Name, Operator, Assign, Complement, Not, Increment, Decrement, Question, Colon, Open, Close, Semicolon}
+use Rattle.arith_syntax.specs.declared.token.Token.TheVariants.{Constant, Name, Operator, Assign, Complement, Not}
+use Rattle.arith_syntax.specs.declared.token.Token.TheVariants.{Increment, Decrement, Question, Colon, Open, Close}
+use Rattle.arith_syntax.specs.declared.token.Token.TheVariants.{Semicolon}
 use Rattle.arith_syntax.specs.declared.token.Placed.{Placed}
-use Rattle.arith_syntax.specs.Tokens.{IsWhite, IsWordCharacter, IsSign, IsToken, IsTokens, Reads, operator_sign, assignment_sign}
+use Rattle.arith_syntax.specs.Tokens.{IsWhite, IsWordCharacter, IsSign, IsToken, IsTokens, Reads, operator_sign}
+use Rattle.arith_syntax.specs.Tokens.{assignment_sign}
 
 -- one more ASCII character
 pub one_more : (c : ℕ) (cs : List ℕ) → c < 128 → IsAscii cs → IsAscii (c ∷ cs)
@@ -112,7 +116,8 @@ token Close spelled rest h = sign Close spelled h.is_sign
 token Semicolon spelled rest h = sign Semicolon spelled h.is_sign
 
 -- what is read is ASCII where the rest is
-pub read : (tokens : List Placed) (place : ℕ) (text : List ℕ) (end : ℕ) (rest : List ℕ) → Reads place text tokens end rest → IsAscii rest → IsAscii text
+pub read : (tokens : List Placed) (place : ℕ) (text : List ℕ) (end : ℕ) (rest : List ℕ)
+    → Reads place text tokens end rest → IsAscii rest → IsAscii text
 read [] place text end rest r h = subst IsAscii r.1 h
 read (t ∷ ts) place text end rest (blank, spelled, more, all, is_blank, is_token, there, behind) h =
     subst IsAscii (sym all) (IsAscii-append blank (spelled ++ more) (of_kind IsWhite white blank is_blank)
@@ -121,5 +126,6 @@ read (t ∷ ts) place text end rest (blank, spelled, more, all, is_blank, is_tok
 -- the octets of a text that is tokens are its code points
 pub octets : (text : List ℕ) (tokens : List Placed) → IsUtf8 text → IsTokens (chars text) tokens → chars text ≡ text
 octets text tokens utf8 is =
-    let ascii : IsAscii (chars text) = read tokens 0 (chars text) is.end is.rest is.reads (of_kind IsWhite white is.rest is.white) in
+    let ascii : IsAscii (chars text) = read tokens 0 (chars text) is.end is.rest is.reads
+    (of_kind IsWhite white is.rest is.white) in
     sym (encodes-IsAscii (chars text) ascii) ∙ encodes-chars text utf8

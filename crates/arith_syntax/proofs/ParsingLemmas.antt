@@ -1,5 +1,6 @@
 -- What the parser gives is what the grammar says.
-use Rattle.std.proofs.Common.{◌≡◌, ℕ, suc, ◌+◌, ◌<◌, ◌≤◌, Bool, true, false, length, get_or, take, drop, drop-cons, Ok, List, [], ◌∷◌, ◌++◌, Option, Some, None, refl, sym, subst, ap, ◌∙◌}
+use Rattle.std.proofs.Common.{◌≡◌, ℕ, suc, ◌+◌, ◌<◌, ◌≤◌, Bool, true, false, length, get_or, take, drop, drop-cons, Ok}
+use Rattle.std.proofs.Common.{List, [], ◌∷◌, ◌++◌, Option, Some, None, refl, sym, subst, ap, ◌∙◌}
 use Rattle.std.proofs.lemmas.List.{take_more, take-append-drop, map-append, take_all}
 use Rattle.arith_syntax.specs.declared.token.Token.{Token}
 use Rattle.arith_syntax.specs.declared.token.Placed.{Placed}
@@ -16,7 +17,8 @@ reached_sound : (tokens : List Token) (s : State) → run (Some start) tokens �
 reached_sound tokens s reached = subst (IsSound tokens) reached (run_sound [] tokens (Some start) (tt, refl))
 
 -- the tree that the end gives is that of the tokens
-pub closed_is_statement : (tokens : List Token) (s : State) (t : Tree) → run (Some start) tokens ≡ Some s → close s ≡ Some t
+pub closed_is_statement : (tokens : List Token) (s : State) (t : Tree) → run (Some start) tokens ≡ Some s → close s
+    ≡ Some t
     → IsStatement tokens t
 closed_is_statement tokens s t reached closed =
     subst (ClosesWell tokens) closed (close_well tokens s (reached_sound tokens s reached))
@@ -38,7 +40,8 @@ whole_closes tokens s t reached said =
 
 -- a token that doesn't fit is the first that begins no statement
 pub refused_fails : (sentence : Sentence) (before : List Placed) (token : Placed) (after : List Placed) (s : State)
-    → sentence.tokens ≡ before ++ (token ∷ after) → run (Some start) (tokens_of before) ≡ Some s → advance s token.token ≡ None
+    → sentence.tokens ≡ before ++ (token ∷ after) → run (Some start) (tokens_of before) ≡ Some s → advance s token.token
+    ≡ None
     → FailsAtToken sentence token.place
 refused_fails sentence before token after s all reached refused = record {
   before = before;
@@ -51,7 +54,8 @@ refused_fails sentence before token after s all reached refused = record {
       let none : run (Some start) ((tokens_of before ++ (token.token ∷ [])) ++ begun.more) ≡ None =
       run_append (Some start) (tokens_of before ++ (token.token ∷ [])) begun.more
       ∙ ap (λ o. run o begun.more)
-      (run_append (Some start) (tokens_of before) (token.token ∷ []) ∙ ap (λ o. run o (token.token ∷ [])) reached ∙ refused)
+      (run_append (Some start) (tokens_of before) (token.token ∷ []) ∙ ap (λ o. run o (token.token ∷ [])) reached
+      ∙ refused)
       ∙ run_none begun.more in
       let clash : None ≡ Some whole.state = sym none ∙ whole.goes in
       absurd (cc);
@@ -59,7 +63,8 @@ refused_fails sentence before token after s all reached refused = record {
 }
 
 -- an end that gives nothing is the end of no statement
-pub unclosed_fails : (sentence : Sentence) (s : State) → run (Some start) (tokens_of sentence.tokens) ≡ Some s → close s ≡ None
+pub unclosed_fails : (sentence : Sentence) (s : State) → run (Some start) (tokens_of sentence.tokens) ≡ Some s → close s
+    ≡ None
     → FailsAtEnd sentence sentence.end
 unclosed_fails sentence s reached unclosed = record {
   begins = sound_begins (tokens_of sentence.tokens) s (reached_sound (tokens_of sentence.tokens) s reached);
@@ -77,7 +82,8 @@ one_tree tokens one other said also =
     cc
 
 -- a token more is taken
-pub one_more_taken : (tokens : List Placed) (i : ℕ) (token : Placed) (s next : State) → i < length tokens → token ≡ get_or tokens i token
+pub one_more_taken : (tokens : List Placed) (i : ℕ) (token : Placed) (s next : State) → i < length tokens → token
+    ≡ get_or tokens i token
     → run (Some start) (tokens_of (take i tokens)) ≡ Some s → advance s token.token ≡ Some next
     → run (Some start) (tokens_of (take (i + 1) tokens)) ≡ Some next
 one_more_taken tokens i token s next within there reached taken =
@@ -89,17 +95,20 @@ one_more_taken tokens i token s next within there reached taken =
     ∙ taken
 
 -- where a token was taken, the state is the next
-pub taken_leads : (took : Bool) (next : Option State) (new : State) → LeadsTo next (Ok took) new → took ≡ true → next ≡ Some new
+pub taken_leads : (took : Bool) (next : Option State) (new : State) → LeadsTo next (Ok took) new → took ≡ true → next
+    ≡ Some new
 taken_leads true next new leads took = leads
 taken_leads false next new leads took = absurd (cc)
 
 -- where it was refused, there is none
-pub refused_leads : (took : Bool) (next : Option State) (new : State) → LeadsTo next (Ok took) new → took ≡ false → next ≡ None
+pub refused_leads : (took : Bool) (next : Option State) (new : State) → LeadsTo next (Ok took) new → took ≡ false → next
+    ≡ None
 refused_leads true next new leads took = absurd (cc)
 refused_leads false next new leads took = leads
 
 -- the token at which the parser stops is the first fault
-pub refused_at : (tokens : List Placed) (end i : ℕ) (token : Placed) (s : State) → i < length tokens → token ≡ get_or tokens i token
+pub refused_at : (tokens : List Placed) (end i : ℕ) (token : Placed) (s : State) → i < length tokens → token
+    ≡ get_or tokens i token
     → run (Some start) (tokens_of (take i tokens)) ≡ Some s → advance s token.token ≡ None
     → FailsAtToken (record { tokens = tokens; end = end }) token.place
 refused_at tokens end i token s within there reached refused =
@@ -107,9 +116,12 @@ refused_at tokens end i token s within there reached refused =
     sym (take-append-drop i tokens)
     ∙ ap (λ (xs : List Placed). take i tokens ++ xs)
     (drop-cons tokens i token within ∙ ap (λ (t : Placed). t ∷ drop (suc i) tokens) (sym there)) in
-    refused_fails (record { tokens = tokens; end = end }) (take i tokens) token (drop (suc i) tokens) s all reached refused
+    refused_fails (record { tokens = tokens; end = end }) (take i tokens) token (drop (suc i) tokens) s all reached
+    refused
 
 -- all tokens are taken
-pub all_taken : (tokens : List Placed) (i : ℕ) (s : State) → length tokens ≤ i → run (Some start) (tokens_of (take i tokens)) ≡ Some s
+pub all_taken : (tokens : List Placed) (i : ℕ) (s : State) → length tokens ≤ i
+    → run (Some start) (tokens_of (take i tokens)) ≡ Some s
     → run (Some start) (tokens_of tokens) ≡ Some s
-all_taken tokens i s past reached = ap (λ (xs : List Placed). run (Some start) (tokens_of xs)) (sym (take_all i tokens past)) ∙ reached
+all_taken tokens i s past reached = ap (λ (xs : List Placed). run (Some start) (tokens_of xs))
+    (sym (take_all i tokens past)) ∙ reached

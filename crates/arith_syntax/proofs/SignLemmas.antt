@@ -1,5 +1,6 @@
 -- What all signs have in common, and which of them is the longest that stands somewhere.
-use Rattle.std.proofs.Common.{◌≡◌, ℕ, ◌<◌, ◌≤◌, ◌⊎◌, inl, inr, ◌&&◌, ◌||◌, nat_lt, nat_eq, Bool, true, false, List, [], ◌∷◌, ◌++◌, length, get_or, take, drop, refl, sym, ◌∙◌, ap, subst, arith, None}
+use Rattle.std.proofs.Common.{◌≡◌, ℕ, ◌<◌, ◌≤◌, ◌⊎◌, inl, inr, ◌&&◌, ◌||◌, nat_lt, nat_eq, Bool, true, false, List, []}
+use Rattle.std.proofs.Common.{◌∷◌, ◌++◌, length, get_or, take, drop, refl, sym, ◌∙◌, ap, subst, arith, None}
 use Rattle.std.proofs.lemmas.Bool.Decides.{nat_tests}
 use Rattle.std.proofs.lemmas.List.{take-append-drop}
 use Rattle.arith_syntax.specs.declared.operator.BinaryOperator.{BinaryOperator}
@@ -7,13 +8,16 @@ use Rattle.arith_syntax.specs.declared.operator.BinaryOperator.TheVariants as bi
 use Rattle.arith_syntax.specs.declared.operator.AssignmentOperator.{AssignmentOperator}
 use Rattle.arith_syntax.specs.declared.operator.AssignmentOperator.TheVariants as assignment
 use Rattle.arith_syntax.specs.declared.token.Token.{Token}
-use Rattle.arith_syntax.specs.declared.token.Token.TheVariants.{Constant, Name, Operator, Assign, Complement, Not, Increment, Decrement, Question, Colon, Open, Close, Semicolon}
+use Rattle.arith_syntax.specs.declared.token.Token.TheVariants.{Constant, Name, Operator, Assign, Complement, Not}
+use Rattle.arith_syntax.specs.declared.token.Token.TheVariants.{Increment, Decrement, Question, Colon, Open, Close}
+use Rattle.arith_syntax.specs.declared.token.Token.TheVariants.{Semicolon}
 use Rattle.arith_syntax.specs.Tokens.{IsWordCharacter, operator_sign, assignment_sign, IsSign, IsLongestSign}
 use Rattle.arith_syntax.specs.Lexed.{Spells}
 
 -- a character that may stand in a sign
 abbrev pub is_sign_character : ℕ → Bool
-is_sign_character c = (nat_lt 32 c && nat_lt c 48) || (nat_lt 57 c && nat_lt c 64) || nat_eq c 94 || (nat_lt 123 c && nat_lt c 127)
+is_sign_character c = (nat_lt 32 c && nat_lt c 48) || (nat_lt 57 c && nat_lt c 64) || nat_eq c 94 ||
+    (nat_lt 123 c && nat_lt c 127)
 
 -- one, two or three characters that may stand in a sign
 abbrev pub may_be_sign : List ℕ → Bool
@@ -62,8 +66,10 @@ pub record IsFront (text : List ℕ) (a b c : ℕ) : Type 0 where
   pub third : c ≡ get_or text 2 0
 
 -- the sign that a text begins with is of its first one, two or three characters
-pub sign_at_front : (text : List ℕ) (a b c : ℕ) → IsFront text a b c → (token : Token) (sign more : List ℕ) → text ≡ sign ++ more → IsSign token sign
-    → (IsSign token (a ∷ []) × (length sign ≡ 1)) ⊎ (IsSign token (a ∷ b ∷ []) × (length sign ≡ 2)) ⊎ (IsSign token (a ∷ b ∷ c ∷ []) × (length sign ≡ 3))
+pub sign_at_front : (text : List ℕ) (a b c : ℕ) → IsFront text a b c → (token : Token) (sign more : List ℕ) → text
+    ≡ sign ++ more → IsSign token sign
+    → (IsSign token (a ∷ []) × (length sign ≡ 1)) ⊎ (IsSign token (a ∷ b ∷ []) × (length sign ≡ 2))
+    ⊎ (IsSign token (a ∷ b ∷ c ∷ []) × (length sign ≡ 3))
 sign_at_front text a b c front token [] more all is = let no : false ≡ true = sign_may_be token [] is in cc
 sign_at_front text a b c front token (x ∷ []) more all is =
     let first : x ≡ a = sym (front.first ∙ ap (λ (t : List ℕ). get_or t 0 0) all) in
@@ -88,7 +94,8 @@ front_of_one [] a first there = absurd (omega arith)
 front_of_one (x ∷ xs) a first there = (cc, omega arith)
 
 -- two characters in front of a text are there where the second isn't 0
-front_of_two : (text : List ℕ) (a b : ℕ) → a ≡ get_or text 0 0 → b ≡ get_or text 1 0 → 32 < b → (a ∷ b ∷ [] ≡ take 2 text) × (2 ≤ length text)
+front_of_two : (text : List ℕ) (a b : ℕ) → a ≡ get_or text 0 0 → b ≡ get_or text 1 0 → 32 < b
+    → (a ∷ b ∷ [] ≡ take 2 text) × (2 ≤ length text)
 front_of_two [] a b first second there = absurd (omega arith)
 front_of_two (x ∷ []) a b first second there = absurd (omega arith)
 front_of_two (x ∷ y ∷ ys) a b first second there = (cc, omega arith)
@@ -107,27 +114,32 @@ both_true true q both = (refl, both)
 both_true false q both = let no : false ≡ true = both in cc
 
 -- a sign of three characters is the longest
-pub three_is_longest : (text : List ℕ) (a b c : ℕ) → IsFront text a b c → (token : Token) → IsSign token (a ∷ b ∷ c ∷ [])
+pub three_is_longest : (text : List ℕ) (a b c : ℕ) → IsFront text a b c → (token : Token)
+    → IsSign token (a ∷ b ∷ c ∷ [])
     → (3 ≤ length text) × IsLongestSign token (take 3 text) (drop 3 text)
 three_is_longest text a b c front token is =
     let may : (is_sign_character a && is_sign_character b ≡ true) × (is_sign_character c ≡ true) =
-    both_true (is_sign_character a && is_sign_character b) (is_sign_character c) (sign_may_be token (a ∷ b ∷ c ∷ []) is) in
+    both_true (is_sign_character a && is_sign_character b) (is_sign_character c) (sign_may_be token (a ∷ b ∷ c ∷ []) is)
+    in
     let there : (32 < c) × (c < 128) = sign_character_bounds c may.1 in
-    let all : (a ∷ b ∷ c ∷ [] ≡ take 3 text) × (3 ≤ length text) = front_of_three text a b c front.first front.second front.third there.0 in
+    let all : (a ∷ b ∷ c ∷ [] ≡ take 3 text) × (3 ≤ length text) =
+    front_of_three text a b c front.first front.second front.third there.0 in
     let size : length (take 3 text) ≡ 3 = ap length (sym all.0) in (
       all.1,
       record {
         is_sign = subst (λ (s : List ℕ). IsSign token s) all.0 is;
-        longest = λ other sign more is_other same. elim (sign_at_front text a b c front other sign more (sym (take-append-drop 3 text) ∙ same) is_other) [
-          | inl found ↦ omega (arith, found.1)
-          | inr (inl found) ↦ omega (arith, found.1)
-          | inr (inr found) ↦ omega (arith, found.1)
-        ];
+        longest = λ other sign more is_other same. elim
+            (sign_at_front text a b c front other sign more (sym (take-append-drop 3 text) ∙ same) is_other) [
+              | inl found ↦ omega (arith, found.1)
+              | inr (inl found) ↦ omega (arith, found.1)
+              | inr (inr found) ↦ omega (arith, found.1)
+            ];
       },
     )
 
 -- a sign of two characters is the longest where the first three are none
-pub two_is_longest : (text : List ℕ) (a b c : ℕ) → IsFront text a b c → Spells (a ∷ b ∷ c ∷ []) None → (token : Token) → IsSign token (a ∷ b ∷ [])
+pub two_is_longest : (text : List ℕ) (a b c : ℕ) → IsFront text a b c → Spells (a ∷ b ∷ c ∷ []) None → (token : Token)
+    → IsSign token (a ∷ b ∷ [])
     → (2 ≤ length text) × IsLongestSign token (take 2 text) (drop 2 text)
 two_is_longest text a b c front no_three token is =
     let may : (is_sign_character a ≡ true) × (is_sign_character b ≡ true) =
@@ -138,16 +150,18 @@ two_is_longest text a b c front no_three token is =
       all.1,
       record {
         is_sign = subst (λ (s : List ℕ). IsSign token s) all.0 is;
-        longest = λ other sign more is_other same. elim (sign_at_front text a b c front other sign more (sym (take-append-drop 2 text) ∙ same) is_other) [
-          | inl found ↦ omega (arith, found.1)
-          | inr (inl found) ↦ omega (arith, found.1)
-          | inr (inr found) ↦ absurd (no_three other found.0)
-        ];
+        longest = λ other sign more is_other same. elim
+            (sign_at_front text a b c front other sign more (sym (take-append-drop 2 text) ∙ same) is_other) [
+              | inl found ↦ omega (arith, found.1)
+              | inr (inl found) ↦ omega (arith, found.1)
+              | inr (inr found) ↦ absurd (no_three other found.0)
+            ];
       },
     )
 
 -- a sign of one character is the longest where the first two and the first three are none
-pub one_is_longest : (text : List ℕ) (a b c : ℕ) → IsFront text a b c → Spells (a ∷ b ∷ c ∷ []) None → Spells (a ∷ b ∷ []) None
+pub one_is_longest : (text : List ℕ) (a b c : ℕ) → IsFront text a b c → Spells (a ∷ b ∷ c ∷ []) None
+    → Spells (a ∷ b ∷ []) None
     → (token : Token) → IsSign token (a ∷ []) → (1 ≤ length text) × IsLongestSign token (take 1 text) (drop 1 text)
 one_is_longest text a b c front no_three no_two token is =
     let there : (32 < a) × (a < 128) = sign_character_bounds a (sign_may_be token (a ∷ []) is) in
@@ -156,10 +170,11 @@ one_is_longest text a b c front no_three no_two token is =
       all.1,
       record {
         is_sign = subst (λ (s : List ℕ). IsSign token s) all.0 is;
-        longest = λ other sign more is_other same. elim (sign_at_front text a b c front other sign more (sym (take-append-drop 1 text) ∙ same) is_other) [
-          | inl found ↦ omega (arith, found.1)
-          | inr (inl found) ↦ absurd (no_two other found.0)
-          | inr (inr found) ↦ absurd (no_three other found.0)
-        ];
+        longest = λ other sign more is_other same. elim
+            (sign_at_front text a b c front other sign more (sym (take-append-drop 1 text) ∙ same) is_other) [
+              | inl found ↦ omega (arith, found.1)
+              | inr (inl found) ↦ absurd (no_two other found.0)
+              | inr (inr found) ↦ absurd (no_three other found.0)
+            ];
       },
     )

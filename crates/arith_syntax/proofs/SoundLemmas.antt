@@ -1,11 +1,15 @@
 -- What the parser holds spells the tokens that it has taken, is grammatical, and can be made a whole statement.
-use Rattle.std.proofs.Common.{◌≡◌, ℕ, ◌≤◌, Bool, true, false, cond, List, [], ◌∷◌, ◌++◌, refl, sym, ap, ◌∙◌, arith, append_assoc, nat_le}
+use Rattle.std.proofs.Common.{◌≡◌, ℕ, ◌≤◌, Bool, true, false, cond, List, [], ◌∷◌, ◌++◌, refl, sym, ap, ◌∙◌, arith}
+use Rattle.std.proofs.Common.{append_assoc, nat_le}
 use Rattle.std.proofs.lemmas.Bool.{leb-true, leb-false}
 use Rattle.std.proofs.lemmas.List.{append-nil}
 use Rattle.arith_syntax.specs.declared.token.Token.{Token}
-use Rattle.arith_syntax.specs.declared.token.Token.TheVariants.{Constant, Name, Operator, Assign, Question, Colon, Open, Close}
-use Rattle.arith_syntax.specs.Grammar.{Tree, Number, operator_level, level, IsGrammatical, BeginsStatement, spelled, unary_sign}
-use Rattle.arith_syntax.specs.Machine.{Begun, Opened, Signed, Operated, Questioned, Divided, Named, rank, room, room_of, built, Settled, settle, StopsAt}
+use Rattle.arith_syntax.specs.declared.token.Token.TheVariants.{Constant, Name, Operator, Assign, Question, Colon}
+use Rattle.arith_syntax.specs.declared.token.Token.TheVariants.{Open, Close}
+use Rattle.arith_syntax.specs.Grammar.{Tree, Number, operator_level, level, IsGrammatical, BeginsStatement, spelled}
+use Rattle.arith_syntax.specs.Grammar.{unary_sign}
+use Rattle.arith_syntax.specs.Machine.{Begun, Opened, Signed, Operated, Questioned, Divided, Named, rank, room}
+use Rattle.arith_syntax.specs.Machine.{room_of, built, Settled, settle, StopsAt}
 use Rattle.arith_syntax.proofs.MachineLemmas.{operator_level_least, level_most}
 
 -- the tokens that began a construct
@@ -81,10 +85,16 @@ built_good (Named x op) u good said fits = said
 built_spelled : (b : Begun) (u : Tree) → spelled (built b u) ≡ front b ++ (spelled u ++ ending b)
 built_spelled Opened u = refl
 built_spelled (Signed sign) u = rw (append-nil (spelled u)) refl
-built_spelled (Operated a op) u = rw (append-nil (spelled u), append_assoc (spelled a) (Operator op ∷ []) (spelled u)) refl
-built_spelled (Questioned c) u = rw (append_assoc (spelled c) (Question ∷ []) (spelled u ++ (Colon ∷ Constant 0 ∷ []))) refl
+built_spelled (Operated a op) u = rw (append-nil (spelled u), append_assoc (spelled a) (Operator op ∷ []) (spelled u))
+    refl
+built_spelled (Questioned c) u = rw (append_assoc (spelled c) (Question ∷ []) (spelled u ++ (Colon ∷ Constant 0 ∷ [])))
+    refl
 built_spelled (Divided c a) u =
-    rw (append-nil (spelled u), append_assoc (spelled c) (Question ∷ (spelled a ++ (Colon ∷ []))) (spelled u), append_assoc (spelled a) (Colon ∷ []) (spelled u)) refl
+    rw (
+      append-nil (spelled u),
+      append_assoc (spelled c) (Question ∷ (spelled a ++ (Colon ∷ []))) (spelled u),
+      append_assoc (spelled a) (Colon ∷ []) (spelled u),
+    ) refl
 built_spelled (Named x op) u = rw (append-nil (spelled u)) refl
 
 -- what ends at an operator is of its rank, and needs no token more
@@ -102,7 +112,8 @@ finished [] u = u
 finished (b ∷ bs) u = finished bs (built b u)
 
 -- it is grammatical where the operand fits
-finished_good : (bs : List Begun) (u : Tree) → AreGood bs → IsGrammatical u → level u ≤ room_of bs → IsGrammatical (finished bs u)
+finished_good : (bs : List Begun) (u : Tree) → AreGood bs → IsGrammatical u → level u ≤ room_of bs
+    → IsGrammatical (finished bs u)
 unfolding finished
 finished_good [] u good said fits = said
 finished_good (b ∷ bs) u good said fits =
@@ -162,7 +173,8 @@ pub record SettlesWell (weak : ℕ) (tokens : List Token) (s : Settled) : Type 0
   pub stops : StopsAt weak s.begun
 
 -- what is held stays held as it settles
-pub settles_well : (weak : ℕ) (tokens : List Token) (bs : List Begun) (u : Tree) → weak ≤ 13 → level u ≤ weak → Holds tokens bs u
+pub settles_well : (weak : ℕ) (tokens : List Token) (bs : List Begun) (u : Tree) → weak ≤ 13 → level u ≤ weak
+    → Holds tokens bs u
     → SettlesWell weak tokens (settle weak bs u)
 settles_well weak tokens [] u most strong held = record { held = held; strong = strong; stops = tt }
 settles_well weak tokens (b ∷ bs) u most strong held =
@@ -177,7 +189,8 @@ settles_well weak tokens (b ∷ bs) u most strong held =
             spells =
                 held.spells ∙ append_assoc (fronts bs) (front b) (spelled u)
                 ∙ ap (λ (xs : List Token). fronts bs ++ xs)
-                (ap (λ (xs : List Token). front b ++ xs) (sym (append-nil (spelled u)) ∙ ap (λ (xs : List Token). spelled u ++ xs) (sym graded.1))
+                (ap (λ (xs : List Token). front b ++ xs)
+                (sym (append-nil (spelled u)) ∙ ap (λ (xs : List Token). spelled u ++ xs) (sym graded.1))
                 ∙ sym (built_spelled b u));
             grammatical = built_good b u held.good.0 held.grammatical held.fits;
             fits = omega (arith, built_level b u, held.good.1);

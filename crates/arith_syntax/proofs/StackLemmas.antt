@@ -1,12 +1,14 @@
 -- The stack of frames, its innermost last, as constructs.
-use Rattle.std.proofs.Common.{◌≡◌, ℕ, suc, ◌+◌, ◌-◌, List, [], ◌∷◌, ◌++◌, length, Option, Some, None, nat_le, false, refl, sym, ap, ◌∙◌, arith}
+use Rattle.std.proofs.Common.{◌≡◌, ℕ, suc, ◌+◌, ◌-◌, List, [], ◌∷◌, ◌++◌, length, Option, Some, None, nat_le, false}
+use Rattle.std.proofs.Common.{refl, sym, ap, ◌∙◌, arith}
 use Rattle.std.specs.Bool.{◌==◌}
 use Rattle.std.proofs.lemmas.Bool.{ne_eqb}
 use Rattle.std.specs.Option.{MatchOption, option_to_list}
 use Rattle.std.specs.List.{slice_get}
 use Rattle.arith_syntax.specs.declared.parser.Frame.{Frame}
 use Rattle.arith_syntax.specs.Grammar.{Tree}
-use Rattle.arith_syntax.specs.Machine.{Begun, begun_of, stack_of, rank, room, room_of, ends_at, outermost, Pops, IsWholeStack}
+use Rattle.arith_syntax.specs.Machine.{Begun, begun_of, stack_of, rank, room, room_of, ends_at, outermost, Pops}
+use Rattle.arith_syntax.specs.Machine.{IsWholeStack}
 
 -- a frame more stands for the innermost construct
 pub stack_of-push : (fs : List Frame) (f : Frame) → stack_of (fs ++ (f ∷ [])) ≡ begun_of f ∷ stack_of fs
@@ -19,7 +21,8 @@ no_frame [] none = refl
 no_frame (f ∷ fs) none = absurd (omega arith)
 
 -- the frame that is taken off
-pub stack_of-pop : (old new : List Frame) (popped : Option Frame) (before after : ℕ) → before ≡ length old → after ≡ length new
+pub stack_of-pop : (old new : List Frame) (popped : Option Frame) (before after : ℕ) → before ≡ length old → after
+    ≡ length new
     → old ≡ new ++ option_to_list popped → MatchOption popped ((before ≡ 0) × (after ≡ 0)) (λ _. after + 1 ≡ before)
     → Pops (stack_of old) popped (stack_of new)
 stack_of-pop old new None before after old_count new_count all counts =
@@ -35,10 +38,12 @@ not_outermost (c ∷ bs) b u = refl
 pub whole_stack : (fs : List Frame) (count : ℕ) → count ≡ length fs → IsWholeStack (stack_of fs) (count == 0)
 whole_stack [] count counted = rw counted refl
 whole_stack (f ∷ fs) count counted =
-    let none : (count == 0) ≡ false = ne_eqb count 0 (omega arith) in rw none (λ u. not_outermost (stack_of fs) (begun_of f) u)
+    let none : (count == 0) ≡ false = ne_eqb count 0 (omega arith) in
+    rw none (λ u. not_outermost (stack_of fs) (begun_of f) u)
 
 -- the last of some frames isn't the first of them
-last_behind : (g h : Frame) (fs : List Frame) → slice_get (g ∷ h ∷ fs) (length (g ∷ h ∷ fs) - 1) ≡ slice_get (h ∷ fs) (length (h ∷ fs) - 1)
+last_behind : (g h : Frame) (fs : List Frame) → slice_get (g ∷ h ∷ fs) (length (g ∷ h ∷ fs) - 1)
+    ≡ slice_get (h ∷ fs) (length (h ∷ fs) - 1)
 last_behind g h fs =
     let at : length (g ∷ h ∷ fs) - 1 ≡ suc (length (h ∷ fs) - 1) = omega arith in
     ap (λ i. slice_get (g ∷ h ∷ fs) i) {y = suc (length (h ∷ fs) - 1)} at

@@ -1,5 +1,6 @@
 -- Each token that is taken keeps what the parser holds: it spells the tokens that were taken and begins a statement.
-use Rattle.std.proofs.Common.{◌≡◌, ℕ, ◌≤◌, Bool, true, false, cond, List, [], ◌∷◌, ◌++◌, Option, Some, None, refl, sym, subst, ap, ◌∙◌, arith, append_assoc, nat_le}
+use Rattle.std.proofs.Common.{◌≡◌, ℕ, ◌≤◌, Bool, true, false, cond, List, [], ◌∷◌, ◌++◌, Option, Some, None, refl, sym}
+use Rattle.std.proofs.Common.{subst, ap, ◌∙◌, arith, append_assoc, nat_le}
 use Rattle.std.proofs.lemmas.Bool.{leb-true}
 use Rattle.std.proofs.lemmas.List.{append-nil}
 use Rattle.arith_syntax.specs.declared.operator.BinaryOperator.{BinaryOperator}
@@ -7,11 +8,15 @@ use Rattle.arith_syntax.specs.declared.operator.BinaryOperator.TheVariants as bi
 use Rattle.arith_syntax.specs.declared.operator.AssignmentOperator.{AssignmentOperator}
 use Rattle.arith_syntax.specs.declared.operator.UnaryOperator.TheVariants as unary
 use Rattle.arith_syntax.specs.declared.token.Token.{Token}
-use Rattle.arith_syntax.specs.declared.token.Token.TheVariants.{Constant, Name, Operator, Assign, Complement, Not, Question, Colon, Open, Close}
+use Rattle.arith_syntax.specs.declared.token.Token.TheVariants.{Constant, Name, Operator, Assign, Complement, Not}
+use Rattle.arith_syntax.specs.declared.token.Token.TheVariants.{Question, Colon, Open, Close}
 use Rattle.arith_syntax.specs.Grammar.{Tree, Variable, operator_level, level, IsStatement, BeginsStatement, spelled}
-use Rattle.arith_syntax.specs.Machine.{Begun, Opened, Signed, Operated, Questioned, Divided, Named, room_of, settle, State, begin, begin_sign, sign_of, take_due, take_behind, take_at, divide, enclose, assign, advance_on, outermost, run, close_at, close, StopsAt}
+use Rattle.arith_syntax.specs.Machine.{Begun, Opened, Signed, Operated, Questioned, Divided, Named, room_of, settle}
+use Rattle.arith_syntax.specs.Machine.{State, begin, begin_sign, sign_of, take_due, take_behind, take_at, divide}
+use Rattle.arith_syntax.specs.Machine.{enclose, assign, advance_on, outermost, run, close_at, close, StopsAt}
 use Rattle.arith_syntax.proofs.MachineLemmas.{operator_level_least, operator_level_most}
-use Rattle.arith_syntax.proofs.SoundLemmas.{front, fronts, grade, IsGood, AreGood, Holds, settles_well, held_begins, due_begins}
+use Rattle.arith_syntax.proofs.SoundLemmas.{front, fronts, grade, IsGood, AreGood, Holds, settles_well, held_begins}
+use Rattle.arith_syntax.proofs.SoundLemmas.{due_begins}
 
 -- what a parser holds where an operand is due, or behind one
 abbrev IsSoundAt : List Token → List Begun → Option Tree → Type 0
@@ -62,9 +67,11 @@ begun_sound tokens b bs good held fits spells = ((held, fits, good), spells)
 operator_sound : (tokens : List Token) (bs : List Begun) (op : BinaryOperator) → AreGood bs → tokens ≡ fronts bs
     → IsSound (tokens ++ (Operator op ∷ [])) (begin_sign (sign_of (Operator op)) bs)
 operator_sound tokens bs binary.Add good spells =
-    begun_sound (tokens ++ (Operator binary.Add ∷ [])) (Signed unary.Plus) bs good tt (room_least bs) (ap (λ (xs : List Token). xs ++ (Operator binary.Add ∷ [])) spells)
+    begun_sound (tokens ++ (Operator binary.Add ∷ [])) (Signed unary.Plus) bs good tt (room_least bs)
+    (ap (λ (xs : List Token). xs ++ (Operator binary.Add ∷ [])) spells)
 operator_sound tokens bs binary.Subtract good spells =
-    begun_sound (tokens ++ (Operator binary.Subtract ∷ [])) (Signed unary.Minus) bs good tt (room_least bs) (ap (λ (xs : List Token). xs ++ (Operator binary.Subtract ∷ [])) spells)
+    begun_sound (tokens ++ (Operator binary.Subtract ∷ [])) (Signed unary.Minus) bs good tt (room_least bs)
+    (ap (λ (xs : List Token). xs ++ (Operator binary.Subtract ∷ [])) spells)
 operator_sound tokens bs _ good spells = tt
 
 -- a token where an operand is due
@@ -89,11 +96,14 @@ due_sound tokens bs (Name x) good spells = (
   refl,
 )
 due_sound tokens bs Open good spells =
-    begun_sound (tokens ++ (Open ∷ [])) Opened bs good tt (omega arith) (ap (λ (xs : List Token). xs ++ (Open ∷ [])) spells)
+    begun_sound (tokens ++ (Open ∷ [])) Opened bs good tt (omega arith)
+    (ap (λ (xs : List Token). xs ++ (Open ∷ [])) spells)
 due_sound tokens bs Complement good spells =
-    begun_sound (tokens ++ (Complement ∷ [])) (Signed unary.Complement) bs good tt (room_least bs) (ap (λ (xs : List Token). xs ++ (Complement ∷ [])) spells)
+    begun_sound (tokens ++ (Complement ∷ [])) (Signed unary.Complement) bs good tt (room_least bs)
+    (ap (λ (xs : List Token). xs ++ (Complement ∷ [])) spells)
 due_sound tokens bs Not good spells =
-    begun_sound (tokens ++ (Not ∷ [])) (Signed unary.Not) bs good tt (room_least bs) (ap (λ (xs : List Token). xs ++ (Not ∷ [])) spells)
+    begun_sound (tokens ++ (Not ∷ [])) (Signed unary.Not) bs good tt (room_least bs)
+    (ap (λ (xs : List Token). xs ++ (Not ∷ [])) spells)
 due_sound tokens bs (Operator op) good spells = operator_sound tokens bs op good spells
 due_sound tokens bs _ good spells = tt
 
@@ -108,7 +118,8 @@ divide_sound : (tokens : List Token) (bs : List Begun) (u : Tree) → Holds toke
     → IsSound (tokens ++ (Colon ∷ [])) (divide bs u)
 divide_sound tokens [] u held = tt
 divide_sound tokens (Questioned c ∷ bs) u held =
-    begun_sound (tokens ++ (Colon ∷ [])) (Divided c u) bs held.good.2 (held.good.0.0, held.good.0.1, held.grammatical) held.good.1
+    begun_sound (tokens ++ (Colon ∷ [])) (Divided c u) bs held.good.2 (held.good.0.0, held.good.0.1, held.grammatical)
+    held.good.1
     (more_spelled tokens (Questioned c ∷ bs) u Colon held.spells
     ∙ append_assoc (fronts bs) (spelled c ++ (Question ∷ [])) (spelled u ++ (Colon ∷ []))
     ∙ ap (λ (xs : List Token). fronts bs ++ xs) (append_assoc (spelled c) (Question ∷ []) (spelled u ++ (Colon ∷ []))))
@@ -150,14 +161,16 @@ behind_sound : (tokens : List Token) (bs : List Begun) (u : Tree) (token : Token
 behind_sound tokens bs u (Operator op) held none =
     let s = settles_well (operator_level op) tokens bs u (omega (arith, operator_level_most op)) (omega arith) held in
     let settled = settle (operator_level op) bs u in
-    begun_sound (tokens ++ (Operator op ∷ [])) (Operated settled.operand op) settled.begun s.held.good (s.strong, s.held.grammatical)
+    begun_sound (tokens ++ (Operator op ∷ [])) (Operated settled.operand op) settled.begun s.held.good
+    (s.strong, s.held.grammatical)
     (stops_room (operator_level op) settled.begun (operator_level_least op) (operator_level_most op) s.stops)
     (more_spelled tokens settled.begun settled.operand (Operator op) s.held.spells)
 behind_sound tokens bs u (Assign op) held none = assign_sound tokens op bs u held
 behind_sound tokens bs u Question held none =
     let s = settles_well 11 tokens bs u (omega arith) (omega arith) held in
     let settled = settle 11 bs u in
-    begun_sound (tokens ++ (Question ∷ [])) (Questioned settled.operand) settled.begun s.held.good (s.strong, s.held.grammatical)
+    begun_sound (tokens ++ (Question ∷ [])) (Questioned settled.operand) settled.begun s.held.good
+    (s.strong, s.held.grammatical)
     (question_room settled.begun s.stops)
     (more_spelled tokens settled.begun settled.operand Question s.held.spells)
 behind_sound tokens bs u Colon held none =
@@ -183,7 +196,8 @@ advance_sound tokens None token sound = tt
 advance_sound tokens (Some s) token sound = at_sound tokens s.begun s.operand token sound
 
 -- tokens in turn
-pub run_sound : (before tokens : List Token) (s : Option State) → IsSound before s → IsSound (before ++ tokens) (run s tokens)
+pub run_sound : (before tokens : List Token) (s : Option State) → IsSound before s
+    → IsSound (before ++ tokens) (run s tokens)
 run_sound before [] s sound = rw (append-nil before) sound
 run_sound before (token ∷ tokens) s sound =
     let Goal : List Token → Type 0 = λ all. IsSound all (run s (token ∷ tokens)) in
@@ -191,7 +205,8 @@ run_sound before (token ∷ tokens) s sound =
     (run_sound (before ++ (token ∷ [])) tokens (advance_on s token) (advance_sound before s token sound))
 
 -- what a sound state holds begins a statement
-sound_begins_at : (tokens : List Token) (bs : List Begun) (operand : Option Tree) → IsSoundAt tokens bs operand → BeginsStatement tokens
+sound_begins_at : (tokens : List Token) (bs : List Begun) (operand : Option Tree) → IsSoundAt tokens bs operand
+    → BeginsStatement tokens
 sound_begins_at tokens bs None sound =
     let Goal : List Token → Type 0 = λ all. BeginsStatement all in subst Goal (sym sound.1) (due_begins bs sound.0)
 sound_begins_at tokens bs (Some u) sound = held_begins tokens bs u sound.0
@@ -206,12 +221,14 @@ ClosesWell tokens None = Unit {0}
 ClosesWell tokens (Some t) = IsStatement tokens t
 
 -- what no construct is around is that of the tokens
-outermost_well : (tokens : List Token) (bs : List Begun) (u : Tree) → Holds tokens bs u → ClosesWell tokens (outermost bs u)
+outermost_well : (tokens : List Token) (bs : List Begun) (u : Tree) → Holds tokens bs u
+    → ClosesWell tokens (outermost bs u)
 outermost_well tokens [] u held = record { spells = held.spells; fits = held.fits; grammatical = held.grammatical }
 outermost_well tokens (b ∷ bs) u held = tt
 
 -- the end of sound tokens gives their tree
-close_well_at : (tokens : List Token) (bs : List Begun) (operand : Option Tree) → IsSoundAt tokens bs operand → ClosesWell tokens (close_at bs operand)
+close_well_at : (tokens : List Token) (bs : List Begun) (operand : Option Tree) → IsSoundAt tokens bs operand
+    → ClosesWell tokens (close_at bs operand)
 close_well_at tokens bs None sound = tt
 close_well_at tokens bs (Some u) sound =
     let s = settles_well 13 tokens bs u (omega arith) (omega (arith, sound.1)) sound.0 in

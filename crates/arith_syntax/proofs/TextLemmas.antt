@@ -5,17 +5,25 @@ use Rattle.arith_syntax.specs.declared.fault.ReadFault.{ReadFault}
 use Rattle.arith_syntax.specs.declared.token.Placed.{Placed}
 use Rattle.arith_syntax.specs.Grammar.{Tree}
 use Rattle.arith_syntax.specs.Tokens.{IsTokens}
-use Rattle.arith_syntax.specs.Reading.{sentence_of, sentences, has_tokens, AllMean, CellMeans, FailsFirst, Means, OrMemory, StatementMeans}
+use Rattle.arith_syntax.specs.Reading.{sentence_of, sentences, has_tokens, AllMean, CellMeans, FailsFirst, Means}
+use Rattle.arith_syntax.specs.Reading.{OrMemory, StatementMeans}
 use Rattle.arith_syntax.proofs.OctetLemmas.{octets}
 use Rattle.arith_syntax.proofs.ReadingLemmas.{OrMemory-map}
 
 -- a result of a call, from another fact of it
-pub result_map : {T : Type 0} (r : Result T ReadFault) (P Q : T → Type 0) (F G : ReadFault → Type 0) → ((t : T) → P t → Q t) → ((fault : ReadFault) → F fault → G fault) → MatchResult r P (OrMemory F) → MatchResult r Q (OrMemory G)
+pub result_map : {T : Type 0} (r : Result T ReadFault) (P Q : T → Type 0) (F G : ReadFault → Type 0)
+    → ((t : T) → P t → Q t) → ((fault : ReadFault) → F fault → G fault) → MatchResult r P (OrMemory F)
+    → MatchResult r Q (OrMemory G)
 result_map (Ok t) P Q F G f g h = f t h
 result_map (Err fault) P Q F G f g h = OrMemory-map F G g fault h
 
 -- one statement: `read` are the tokens as they were handed on
-pub statement_means : {T : Type 0} (tree : T → Tree) (text : List ℕ) (read tokens : List Placed) → IsUtf8 text → read ≡ tokens → IsTokens (chars text) tokens → (r : Result T ReadFault) → MatchResult r (λ t. Means (sentence_of read (length text)) (Ok (tree t))) (OrMemory (λ fault. Means (sentence_of read (length text)) (Err fault))) → MatchResult r (λ t. StatementMeans (chars text) (Ok (tree t))) (OrMemory (λ fault. StatementMeans (chars text) (Err fault)))
+pub statement_means : {T : Type 0} (tree : T → Tree) (text : List ℕ) (read tokens : List Placed) → IsUtf8 text → read
+    ≡ tokens → IsTokens (chars text) tokens → (r : Result T ReadFault)
+    → MatchResult r (λ t. Means (sentence_of read (length text)) (Ok (tree t)))
+    (OrMemory (λ fault. Means (sentence_of read (length text)) (Err fault)))
+    → MatchResult r (λ t. StatementMeans (chars text) (Ok (tree t)))
+    (OrMemory (λ fault. StatementMeans (chars text) (Err fault)))
 statement_means tree text read tokens utf8 same is r =
     let is_read : IsTokens (chars text) read = subst (IsTokens (chars text)) (sym same) is in
     let long : length text ≡ length (chars text) = ap length (sym (octets text read utf8 is_read)) in
@@ -26,12 +34,18 @@ statement_means tree text read tokens utf8 same is r =
     (λ fault h. inr (read, is_read, subst (λ n. Means (sentence_of read n) (Err fault)) long h))
 
 -- a cell
-pub cell_means : {T : Type 0} (trees : T → List Tree) (text : List ℕ) (read tokens : List Placed) → IsUtf8 text → read ≡ tokens → IsTokens (chars text) tokens → (r : Result T ReadFault) → MatchResult r (λ t. AllMean (filter has_tokens (sentences (length text) read)) (trees t)) (OrMemory (FailsFirst (filter has_tokens (sentences (length text) read)))) → MatchResult r (λ t. CellMeans (chars text) (Ok (trees t))) (OrMemory (λ fault. CellMeans (chars text) (Err fault)))
+pub cell_means : {T : Type 0} (trees : T → List Tree) (text : List ℕ) (read tokens : List Placed) → IsUtf8 text → read
+    ≡ tokens → IsTokens (chars text) tokens → (r : Result T ReadFault)
+    → MatchResult r (λ t. AllMean (filter has_tokens (sentences (length text) read)) (trees t))
+    (OrMemory (FailsFirst (filter has_tokens (sentences (length text) read))))
+    → MatchResult r (λ t. CellMeans (chars text) (Ok (trees t)))
+    (OrMemory (λ fault. CellMeans (chars text) (Err fault)))
 cell_means trees text read tokens utf8 same is r =
     let is_read : IsTokens (chars text) read = subst (IsTokens (chars text)) (sym same) is in
     let long : length text ≡ length (chars text) = ap length (sym (octets text read utf8 is_read)) in
     result_map r
-    (λ t. AllMean (filter has_tokens (sentences (length text) read)) (trees t)) (λ t. CellMeans (chars text) (Ok (trees t)))
+    (λ t. AllMean (filter has_tokens (sentences (length text) read)) (trees t))
+    (λ t. CellMeans (chars text) (Ok (trees t)))
     (FailsFirst (filter has_tokens (sentences (length text) read))) (λ fault. CellMeans (chars text) (Err fault))
     (λ t h. (read, is_read, subst (λ n. AllMean (filter has_tokens (sentences n read)) (trees t)) long h))
     (λ fault h. inr (read, is_read, subst (λ n. FailsFirst (filter has_tokens (sentences n read)) fault) long h))

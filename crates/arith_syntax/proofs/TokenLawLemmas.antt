@@ -1,5 +1,6 @@
 -- A text is read as tokens in one way.
-use Rattle.std.proofs.Common.{◌≡◌, ℕ, ◌+◌, ◌<◌, ◌≤◌, ◌⊎◌, inl, inr, ◌&&◌, nat_eq, cond, map, codes, Bool, true, false, List, [], ◌∷◌, ◌++◌, length, get_or, take, drop, refl, sym, ◌∙◌, ap, subst, arith}
+use Rattle.std.proofs.Common.{◌≡◌, ℕ, ◌+◌, ◌<◌, ◌≤◌, ◌⊎◌, inl, inr, ◌&&◌, nat_eq, cond, map, codes, Bool, true, false}
+use Rattle.std.proofs.Common.{List, [], ◌∷◌, ◌++◌, length, get_or, take, drop, refl, sym, ◌∙◌, ap, subst, arith}
 use Rattle.std.specs.List.{All}
 use Rattle.std.proofs.lemmas.List.{append-nil, take_at, drop_at}
 use Rattle.std.proofs.lemmas.List.Elements.{All-head, All-tail}
@@ -8,12 +9,17 @@ use Rattle.arith_syntax.specs.declared.operator.BinaryOperator.TheVariants as bi
 use Rattle.arith_syntax.specs.declared.operator.AssignmentOperator.{AssignmentOperator}
 use Rattle.arith_syntax.specs.declared.operator.AssignmentOperator.TheVariants as assignment
 use Rattle.arith_syntax.specs.declared.token.Token.{Token}
-use Rattle.arith_syntax.specs.declared.token.Token.TheVariants.{Constant, Name, Operator, Assign, Complement, Not, Increment, Decrement, Question, Colon, Open, Close, Semicolon}
+use Rattle.arith_syntax.specs.declared.token.Token.TheVariants.{Constant, Name, Operator, Assign, Complement, Not}
+use Rattle.arith_syntax.specs.declared.token.Token.TheVariants.{Increment, Decrement, Question, Colon, Open, Close}
+use Rattle.arith_syntax.specs.declared.token.Token.TheVariants.{Semicolon}
 use Rattle.arith_syntax.specs.declared.token.Placed.{Placed}
-use Rattle.arith_syntax.specs.Tokens.{BeginsWith, IsWhite, IsDigit, IsOctalDigit, IsWordCharacter, in_base, IsConstant, operator_sign, assignment_sign, IsSign, IsLongestSign, IsToken, Reads, IsWrongAt}
+use Rattle.arith_syntax.specs.Tokens.{BeginsWith, IsWhite, IsDigit, IsOctalDigit, IsWordCharacter, in_base, IsConstant}
+use Rattle.arith_syntax.specs.Tokens.{operator_sign, assignment_sign, IsSign, IsLongestSign, IsToken, Reads, IsWrongAt}
 use Rattle.arith_syntax.specs.TokenLaws.{TextsHaveOneLexing, TokensAreNowhereWrong, TextsHaveOneWrongPlace}
 use Rattle.arith_syntax.proofs.SignLemmas.{is_sign_character, sign_character_no_word, sign_character_bounds}
-use Rattle.arith_syntax.proofs.TokenLemmas.{run_once, word_once, constant_begins, sign_begins, IsConstantToken, IsNameToken, token_cases, constant_begins_word, name_begins_word, no_letter}
+use Rattle.arith_syntax.proofs.TokenLemmas.{run_once, word_once, constant_begins, sign_begins, IsConstantToken}
+use Rattle.arith_syntax.proofs.TokenLemmas.{IsNameToken, token_cases, constant_begins_word, name_begins_word}
+use Rattle.arith_syntax.proofs.TokenLemmas.{no_letter}
 
 -- whether two texts are the same
 abbrev same_text : List ℕ → List ℕ → Bool
@@ -25,20 +31,24 @@ same_text (x ∷ xs) (y ∷ ys) = nat_eq x y && same_text xs ys
 -- the operators with two operands
 operators : List BinaryOperator
 operators =
-    binary.Multiply ∷ binary.Divide ∷ binary.Remainder ∷ binary.Add ∷ binary.Subtract ∷ binary.ShiftLeft ∷ binary.ShiftRight ∷ binary.Less ∷ binary.LessOrEqual
-    ∷ binary.Greater ∷ binary.GreaterOrEqual ∷ binary.Equal ∷ binary.NotEqual ∷ binary.BitAnd ∷ binary.BitXor ∷ binary.BitOr ∷ binary.And ∷ binary.Or ∷ []
+    binary.Multiply ∷ binary.Divide ∷ binary.Remainder ∷ binary.Add ∷ binary.Subtract ∷ binary.ShiftLeft
+    ∷ binary.ShiftRight ∷ binary.Less ∷ binary.LessOrEqual
+    ∷ binary.Greater ∷ binary.GreaterOrEqual ∷ binary.Equal ∷ binary.NotEqual ∷ binary.BitAnd ∷ binary.BitXor
+    ∷ binary.BitOr ∷ binary.And ∷ binary.Or ∷ []
 
 -- the operators that assign
 assignments : List AssignmentOperator
 assignments =
-    assignment.Assign ∷ assignment.Add ∷ assignment.Subtract ∷ assignment.Multiply ∷ assignment.Divide ∷ assignment.Remainder ∷ assignment.ShiftLeft ∷ assignment.ShiftRight
+    assignment.Assign ∷ assignment.Add ∷ assignment.Subtract ∷ assignment.Multiply ∷ assignment.Divide
+    ∷ assignment.Remainder ∷ assignment.ShiftLeft ∷ assignment.ShiftRight
     ∷ assignment.BitAnd ∷ assignment.BitXor ∷ assignment.BitOr ∷ []
 
 -- the signs with their tokens
 signs : List (List ℕ × Token)
 signs =
     map (λ op. (operator_sign op, Operator op)) operators ++ (map (λ op. (assignment_sign op, Assign op)) assignments
-    ++ ((codes "~", Complement) ∷ (codes "!", Not) ∷ (codes "++", Increment) ∷ (codes "--", Decrement) ∷ (codes "?", Question) ∷ (codes ":", Colon) ∷ (codes "(", Open)
+    ++ ((codes "~", Complement) ∷ (codes "!", Not) ∷ (codes "++", Increment) ∷ (codes "--", Decrement)
+    ∷ (codes "?", Question) ∷ (codes ":", Colon) ∷ (codes "(", Open)
     ∷ (codes ")", Close) ∷ (codes ";", Semicolon) ∷ []))
 
 -- the first of some tokens that is spelled so
@@ -58,7 +68,8 @@ token_of_operator op = elim op as (λ o. token_of (operator_sign o) ≡ Operator
 -- the sign of an assignment spells it
 token_of_assignment : (op : AssignmentOperator) → token_of (assignment_sign op) ≡ Assign op
 unfolding token_of signs operators assignments
-token_of_assignment op = elim op as (λ o. token_of (assignment_sign o) ≡ Assign o) [ assignment.Assign ↦ refl | _ ↦ refl ]
+token_of_assignment op = elim op as (λ o. token_of (assignment_sign o) ≡ Assign o)
+    [ assignment.Assign ↦ refl | _ ↦ refl ]
 
 -- a sign spells its token
 sign_spells : (token : Token) (sign : List ℕ) → IsSign token sign → token_of sign ≡ token
@@ -78,16 +89,20 @@ sign_spells Close sign is = ap token_of is
 sign_spells Semicolon sign is = ap token_of is
 
 -- the first character of the digits behind `0x` is none of an octal constant
-no_octal_mark : (word octal digits : List ℕ) (mark : ℕ) → word ≡ 48 ∷ octal → All IsOctalDigit octal → word ≡ 48 ∷ mark ∷ digits → (mark ≡ 120) ⊎ (mark ≡ 88) → ⊥
+no_octal_mark : (word octal digits : List ℕ) (mark : ℕ) → word ≡ 48 ∷ octal → All IsOctalDigit octal → word ≡ 48 ∷ mark
+    ∷ digits → (mark ≡ 120) ⊎ (mark ≡ 88) → ⊥
 no_octal_mark word octal digits mark spelled all other marked =
-    let same : octal ≡ mark ∷ digits = sym (ap (λ (w : List ℕ). drop 1 w) spelled) ∙ ap (λ (w : List ℕ). drop 1 w) other in
-    let digit : IsOctalDigit mark = All-head IsOctalDigit mark digits (subst (λ (w : List ℕ). All IsOctalDigit w) same all) in
+    let same : octal ≡ mark ∷ digits = sym (ap (λ (w : List ℕ). drop 1 w) spelled)
+    ∙ ap (λ (w : List ℕ). drop 1 w) other in
+    let digit : IsOctalDigit mark = All-head IsOctalDigit mark digits
+    (subst (λ (w : List ℕ). All IsOctalDigit w) same all) in
     elim marked [ inl lower ↦ omega arith | inr upper ↦ omega arith ]
 
 -- no decimal constant begins with `0`
 no_decimal_zero : (word digits : List ℕ) → BeginsWith (λ d. (49 ≤ d) × (d ≤ 57)) word → word ≡ 48 ∷ digits → ⊥
 no_decimal_zero word digits first spelled =
-    let begins : (49 ≤ 48) × (48 ≤ 57) = subst (λ (w : List ℕ). BeginsWith (λ d. (49 ≤ d) × (d ≤ 57)) w) spelled first in
+    let begins : (49 ≤ 48) × (48 ≤ 57) = subst (λ (w : List ℕ). BeginsWith (λ d. (49 ≤ d) × (d ≤ 57)) w) spelled first
+    in
     omega arith
 
 -- a word is one constant at most
@@ -125,36 +140,49 @@ no_word_and_sign (c ∷ a) x (d ∷ b) y t same begins is =
     sign_character_no_word d (sign_begins t (d ∷ b) is) (subst (λ (k : ℕ). IsWordCharacter k) heads begins)
 
 -- two longest signs in front of one text are one token
-signs_once : (s t : Token) (a x b y : List ℕ) → a ++ x ≡ b ++ y → IsLongestSign s a x → IsLongestSign t b y → IsOneToken s t a x b y
+signs_once : (s t : Token) (a x b y : List ℕ) → a ++ x ≡ b ++ y → IsLongestSign s a x → IsLongestSign t b y
+    → IsOneToken s t a x b y
 signs_once s t a x b y same one other =
     let up : length b ≤ length a = one.longest t b y other.is_sign same in
     let down : length a ≤ length b = other.longest s a x one.is_sign (sym same) in
     let size : length a ≡ length b = omega arith in
-    let spelled : a ≡ b = sym (take_at a x (length a) refl) ∙ (ap (λ (w : List ℕ). take (length a) w) same ∙ take_at b y (length a) (sym size)) in
-    let rest : x ≡ y = sym (drop_at a x (length a) refl) ∙ (ap (λ (w : List ℕ). drop (length a) w) same ∙ drop_at b y (length a) (sym size)) in
-    record { token = sym (sign_spells s a one.is_sign) ∙ (ap token_of spelled ∙ sign_spells t b other.is_sign); spelled = spelled; rest = rest }
+    let spelled : a ≡ b = sym (take_at a x (length a) refl)
+    ∙ (ap (λ (w : List ℕ). take (length a) w) same ∙ take_at b y (length a) (sym size)) in
+    let rest : x ≡ y = sym (drop_at a x (length a) refl)
+    ∙ (ap (λ (w : List ℕ). drop (length a) w) same ∙ drop_at b y (length a) (sym size)) in
+    record {
+      token = sym (sign_spells s a one.is_sign) ∙ (ap token_of spelled ∙ sign_spells t b other.is_sign);
+      spelled = spelled;
+      rest = rest;
+    }
 
 -- two constants in front of one text are one token
-constants_once : (s t : Token) (a x b y : List ℕ) → a ++ x ≡ b ++ y → IsConstantToken s a x → IsConstantToken t b y → IsOneToken s t a x b y
+constants_once : (s t : Token) (a x b y : List ℕ) → a ++ x ≡ b ++ y → IsConstantToken s a x → IsConstantToken t b y
+    → IsOneToken s t a x b y
 constants_once s t a x b y same one other =
     let word : (a ≡ b) × (x ≡ y) = word_once a x b y same one.word other.word in
-    let value : one.value ≡ other.value = constant_once b one.value other.value (subst (λ (w : List ℕ). IsConstant w one.value) word.0 one.constant) other.constant in
+    let value : one.value ≡ other.value = constant_once b one.value other.value
+    (subst (λ (w : List ℕ). IsConstant w one.value) word.0 one.constant) other.constant in
     record { token = one.is ∙ (ap Constant value ∙ sym other.is); spelled = word.0; rest = word.1 }
 
 -- two names in front of one text are one token
-names_once : (s t : Token) (a x b y : List ℕ) → a ++ x ≡ b ++ y → IsNameToken s a x → IsNameToken t b y → IsOneToken s t a x b y
+names_once : (s t : Token) (a x b y : List ℕ) → a ++ x ≡ b ++ y → IsNameToken s a x → IsNameToken t b y
+    → IsOneToken s t a x b y
 names_once s t a x b y same one other =
     let word : (a ≡ b) × (x ≡ y) = word_once a x b y same one.word other.word in
     record { token = one.is ∙ (ap Name word.0 ∙ sym other.is); spelled = word.0; rest = word.1 }
 
 -- no text begins with a constant and with a name
-no_constant_and_name : (s t : Token) (a x b y : List ℕ) → a ++ x ≡ b ++ y → IsConstantToken s a x → IsNameToken t b y → ⊥
+no_constant_and_name : (s t : Token) (a x b y : List ℕ) → a ++ x ≡ b ++ y → IsConstantToken s a x → IsNameToken t b y
+    → ⊥
 no_constant_and_name s t a x b y same one other =
     let word : (a ≡ b) × (x ≡ y) = word_once a x b y same one.word other.word in
-    no_letter b (subst (λ (w : List ℕ). BeginsWith IsDigit w) word.0 (constant_begins a one.value one.constant)) other.letter
+    no_letter b (subst (λ (w : List ℕ). BeginsWith IsDigit w) word.0 (constant_begins a one.value one.constant))
+    other.letter
 
 -- a text begins with one token at most
-pub token_once : (s t : Token) (a x b y : List ℕ) → a ++ x ≡ b ++ y → IsToken s a x → IsToken t b y → IsOneToken s t a x b y
+pub token_once : (s t : Token) (a x b y : List ℕ) → a ++ x ≡ b ++ y → IsToken s a x → IsToken t b y
+    → IsOneToken s t a x b y
 token_once s t a x b y same one other = elim (token_cases s a x one) [
   | inl p ↦ elim (token_cases t b y other) [
     | inl q ↦ constants_once s t a x b y same p q
@@ -190,16 +218,19 @@ no_white_sign c (inl space) is = let bounds : (32 < c) × (c < 128) = sign_chara
 no_white_sign c (inr control) is = let bounds : (32 < c) × (c < 128) = sign_character_bounds c is in omega arith
 
 -- a text doesn't begin with two kinds of characters that have none in common
-not_both : (P Q : ℕ → Type 0) → ((c : ℕ) → P c → Q c → ⊥) → (front rest : List ℕ) → BeginsWith Q front → BeginsWith P (front ++ rest) → ⊥
+not_both : (P Q : ℕ → Type 0) → ((c : ℕ) → P c → Q c → ⊥) → (front rest : List ℕ) → BeginsWith Q front
+    → BeginsWith P (front ++ rest) → ⊥
 not_both P Q never [] rest begins other = begins
 not_both P Q never (c ∷ front) rest begins other = never c other begins
 
 -- no token begins with white space
 token_visible : (t : Token) (spelled rest : List ℕ) → IsToken t spelled rest → BeginsWith IsWhite (spelled ++ rest) → ⊥
 token_visible t spelled rest is = elim (token_cases t spelled rest is) [
-  | inl constant ↦ not_both IsWhite IsWordCharacter no_white_word spelled rest (constant_begins_word t spelled rest constant)
+  | inl constant ↦ not_both IsWhite IsWordCharacter no_white_word spelled rest
+      (constant_begins_word t spelled rest constant)
   | inr (inl name) ↦ not_both IsWhite IsWordCharacter no_white_word spelled rest (name_begins_word t spelled rest name)
-  | inr (inr longest) ↦ not_both IsWhite (λ c. is_sign_character c ≡ true) no_white_sign spelled rest (sign_begins t spelled longest.is_sign)
+  | inr (inr longest) ↦ not_both IsWhite (λ c. is_sign_character c ≡ true) no_white_sign spelled rest
+      (sign_begins t spelled longest.is_sign)
 ]
 
 -- a text in which behind white space no token stands
@@ -212,19 +243,23 @@ pub record IsStuck (rest : List ℕ) : Type 0 where
   pub no_token : (token : Token) (spelled more : List ℕ) → wrong ≡ spelled ++ more → IsToken token spelled more → ⊥
 
 -- a text that is stuck begins with no token
-stuck_stops : (text rest white spelled more : List ℕ) (t : Token) → rest ≡ text → IsStuck rest → text ≡ white ++ (spelled ++ more) → All IsWhite white
+stuck_stops : (text rest white spelled more : List ℕ) (t : Token) → rest ≡ text → IsStuck rest → text ≡ white
+    ++ (spelled ++ more) → All IsWhite white
     → IsToken t spelled more → ⊥
 stuck_stops text rest white spelled more t same stuck all blank is =
     let cut : stuck.white ++ stuck.wrong ≡ white ++ (spelled ++ more) = sym stuck.all ∙ (same ∙ all) in
     let once : (stuck.white ≡ white) × (stuck.wrong ≡ spelled ++ more) =
-    run_once IsWhite stuck.white stuck.wrong white (spelled ++ more) cut stuck.blank stuck.visible blank (token_visible t spelled more is) in
+    run_once IsWhite stuck.white stuck.wrong white (spelled ++ more) cut stuck.blank stuck.visible blank
+    (token_visible t spelled more is) in
     stuck.no_token t spelled more once.1 is
 
 -- placed tokens with the same parts are the same
 same_placed : (t u : Placed) → t.token ≡ u.token → t.place ≡ u.place → t ≡ u
 same_placed t u token place =
-    let first : t ≡ record { token = u.token; place = t.place } = ap (λ (k : Token). let p : Placed = record { token = k; place = t.place } in p) token in
-    let second : record { token = u.token; place = t.place } ≡ u = ap (λ (n : ℕ). let p : Placed = record { token = u.token; place = n } in p) place in
+    let first : t ≡ record { token = u.token; place = t.place } =
+    ap (λ (k : Token). let p : Placed = record { token = k; place = t.place } in p) token in
+    let second : record { token = u.token; place = t.place } ≡ u =
+    ap (λ (n : ℕ). let p : Placed = record { token = u.token; place = n } in p) place in
     first ∙ second
 
 -- two readings that read the same tokens and leave the same rest at the same place
@@ -235,7 +270,8 @@ pub record IsOneReading (one other : List Placed) (end last : ℕ) (rest behind 
 
 -- two readings of one text that both go on to where it is stuck are one
 pub reads_once : (place : ℕ) (text : List ℕ) (one other : List Placed) (end last : ℕ) (rest behind : List ℕ)
-    → Reads place text one end rest → IsStuck rest → Reads place text other last behind → IsStuck behind → IsOneReading one other end last rest behind
+    → Reads place text one end rest → IsStuck rest → Reads place text other last behind → IsStuck behind
+    → IsOneReading one other end last rest behind
 reads_once place text [] [] end last rest behind a stuck b held =
     record { tokens = refl; place = a.0 ∙ sym b.0; left = a.1 ∙ sym b.1 }
 reads_once place text [] (u ∷ other) end last rest behind a stuck b held =
@@ -244,11 +280,14 @@ reads_once place text (t ∷ one) [] end last rest behind a stuck b held =
     absurd (stuck_stops text behind a.0 a.1 a.2 t.token b.1 held a.3 a.4 a.5)
 reads_once place text (t ∷ one) (u ∷ other) end last rest behind a stuck b held =
     let white : (a.0 ≡ b.0) × (a.1 ++ a.2 ≡ b.1 ++ b.2) =
-    run_once IsWhite a.0 (a.1 ++ a.2) b.0 (b.1 ++ b.2) (sym a.3 ∙ b.3) a.4 (token_visible t.token a.1 a.2 a.5) b.4 (token_visible u.token b.1 b.2 b.5) in
-    let token : IsOneToken t.token u.token a.1 a.2 b.1 b.2 = token_once t.token u.token a.1 a.2 b.1 b.2 white.1 a.5 b.5 in
+    run_once IsWhite a.0 (a.1 ++ a.2) b.0 (b.1 ++ b.2) (sym a.3 ∙ b.3) a.4 (token_visible t.token a.1 a.2 a.5) b.4
+    (token_visible u.token b.1 b.2 b.5) in
+    let token : IsOneToken t.token u.token a.1 a.2 b.1 b.2 =
+    token_once t.token u.token a.1 a.2 b.1 b.2 white.1 a.5 b.5 in
     let gap : length a.0 ≡ length b.0 = ap length white.0 in
     let size : length a.1 ≡ length b.1 = ap length token.spelled in
-    let at : t.place ≡ u.place = (let p : t.place ≡ place + length a.0 = a.6 in let q : u.place ≡ place + length b.0 = b.6 in omega arith) in
+    let at : t.place ≡ u.place = (let p : t.place ≡ place + length a.0 = a.6 in let q : u.place
+    ≡ place + length b.0 = b.6 in omega arith) in
     let next : place + length b.0 + length b.1 ≡ place + length a.0 + length a.1 = omega arith in
     let moved : Reads (place + length a.0 + length a.1) b.2 other last behind =
     subst (λ (n : ℕ). Reads n b.2 other last behind) next b.7 in
@@ -294,7 +333,8 @@ stuck_wrong text place wrong = record {
 -- a text is only one list of tokens
 pub one_lexing : TextsHaveOneLexing
 one_lexing text one other a b =
-    (reads_once 0 text one other a.end b.end a.rest b.rest a.reads (stuck_white a.rest a.white) b.reads (stuck_white b.rest b.white)).tokens
+    (reads_once 0 text one other a.end b.end a.rest b.rest a.reads (stuck_white a.rest a.white) b.reads
+    (stuck_white b.rest b.white)).tokens
 
 -- what stands behind white space in white space begins with it
 white_behind : (white wrong : List ℕ) → All IsWhite (white ++ wrong) → 0 < length wrong → BeginsWith IsWhite wrong
@@ -306,15 +346,18 @@ white_behind (d ∷ white) wrong blank some = white_behind white wrong (All-tail
 pub nowhere_wrong : TokensAreNowhereWrong
 nowhere_wrong text tokens place a b =
     let read : IsOneReading tokens b.tokens a.end b.end a.rest (b.white ++ b.wrong) =
-    reads_once 0 text tokens b.tokens a.end b.end a.rest (b.white ++ b.wrong) a.reads (stuck_white a.rest a.white) b.reads (stuck_wrong text place b) in
+    reads_once 0 text tokens b.tokens a.end b.end a.rest (b.white ++ b.wrong) a.reads (stuck_white a.rest a.white)
+    b.reads (stuck_wrong text place b) in
     b.visible (white_behind b.white b.wrong (subst (λ (w : List ℕ). All IsWhite w) read.left a.white) b.some)
 
 -- a text is wrong at one place at most
 pub one_wrong_place : TextsHaveOneWrongPlace
 one_wrong_place text one other a b =
     let read : IsOneReading a.tokens b.tokens a.end b.end (a.white ++ a.wrong) (b.white ++ b.wrong) =
-    reads_once 0 text a.tokens b.tokens a.end b.end (a.white ++ a.wrong) (b.white ++ b.wrong) a.reads (stuck_wrong text one a) b.reads (stuck_wrong text other b) in
-    let once : (a.white ≡ b.white) × (a.wrong ≡ b.wrong) = run_once IsWhite a.white a.wrong b.white b.wrong read.left a.blank a.visible b.blank b.visible in
+    reads_once 0 text a.tokens b.tokens a.end b.end (a.white ++ a.wrong) (b.white ++ b.wrong) a.reads
+    (stuck_wrong text one a) b.reads (stuck_wrong text other b) in
+    let once : (a.white ≡ b.white) × (a.wrong ≡ b.wrong) =
+    run_once IsWhite a.white a.wrong b.white b.wrong read.left a.blank a.visible b.blank b.visible in
     let size : length a.white ≡ length b.white = ap length once.0 in
     let last : a.end ≡ b.end = read.place in
     let here : one ≡ a.end + length a.white = a.there in

@@ -1,15 +1,21 @@
 -- How a token begins, and that a text begins with one token at most.
-use Rattle.std.proofs.Common.{◌≡◌, ℕ, ◌≤◌, ◌⊎◌, inl, inr, ◌&&◌, true, false, List, [], ◌∷◌, ◌++◌, get_or, drop, refl, sym, ap, subst, arith}
+use Rattle.std.proofs.Common.{◌≡◌, ℕ, ◌≤◌, ◌⊎◌, inl, inr, ◌&&◌, true, false, List, [], ◌∷◌, ◌++◌, get_or, drop, refl}
+use Rattle.std.proofs.Common.{sym, ap, subst, arith}
 use Rattle.std.specs.List.{All}
 use Rattle.std.proofs.lemmas.List.Elements.{All-nil, All-cons, All-head, All-tail, All-weaker}
 use Rattle.arith_syntax.specs.declared.token.Token.{Token}
-use Rattle.arith_syntax.specs.declared.token.Token.TheVariants.{Constant, Name, Operator, Assign, Complement, Not, Increment, Decrement, Question, Colon, Open, Close, Semicolon}
-use Rattle.arith_syntax.specs.Tokens.{BeginsWith, IsDigit, IsLetter, IsWordCharacter, IsConstant, IsWord, IsSign, IsLongestSign, IsToken}
-use Rattle.arith_syntax.proofs.SignLemmas.{is_sign_character, may_be_sign, sign_may_be, sign_character_bounds, both_true}
+use Rattle.arith_syntax.specs.declared.token.Token.TheVariants.{Constant, Name, Operator, Assign, Complement, Not}
+use Rattle.arith_syntax.specs.declared.token.Token.TheVariants.{Increment, Decrement, Question, Colon, Open, Close}
+use Rattle.arith_syntax.specs.declared.token.Token.TheVariants.{Semicolon}
+use Rattle.arith_syntax.specs.Tokens.{BeginsWith, IsDigit, IsLetter, IsWordCharacter, IsConstant, IsWord, IsSign}
+use Rattle.arith_syntax.specs.Tokens.{IsLongestSign, IsToken}
+use Rattle.arith_syntax.proofs.SignLemmas.{is_sign_character, may_be_sign, sign_may_be, sign_character_bounds}
+use Rattle.arith_syntax.proofs.SignLemmas.{both_true}
 use Rattle.arith_syntax.proofs.AsciiLemmas.{IsAsciiCharacter}
 
 -- two runs of one kind that stand in front of one text are one run
-pub run_once : (P : ℕ → Type 0) (a x b y : List ℕ) → a ++ x ≡ b ++ y → All P a → (BeginsWith P x → ⊥) → All P b → (BeginsWith P y → ⊥) → (a ≡ b) × (x ≡ y)
+pub run_once : (P : ℕ → Type 0) (a x b y : List ℕ) → a ++ x ≡ b ++ y → All P a → (BeginsWith P x → ⊥) → All P b
+    → (BeginsWith P y → ⊥) → (a ≡ b) × (x ≡ y)
 run_once P [] x [] y same one ends other stops = (refl, same)
 run_once P [] x (d ∷ b) y same one ends other stops =
     absurd (ends (subst (λ (t : List ℕ). BeginsWith P t) (sym same) (All-head P d b other)))
@@ -17,13 +23,15 @@ run_once P (c ∷ a) x [] y same one ends other stops =
     absurd (stops (subst (λ (t : List ℕ). BeginsWith P t) same (All-head P c a one)))
 run_once P (c ∷ a) x (d ∷ b) y same one ends other stops =
     let heads : c ≡ d = ap (λ (t : List ℕ). get_or t 0 0) same in
-    let rest : (a ≡ b) × (x ≡ y) = run_once P a x b y (ap (λ (t : List ℕ). drop 1 t) same) (All-tail P c a one) ends (All-tail P d b other) stops in
+    let rest : (a ≡ b) × (x ≡ y) = run_once P a x b y (ap (λ (t : List ℕ). drop 1 t) same) (All-tail P c a one) ends
+    (All-tail P d b other) stops in
     let all : c ∷ a ≡ d ∷ b = (let tails : a ≡ b = rest.0 in cc) in
     (all, rest.1)
 
 -- two words that stand in front of one text are one word
 pub word_once : (a x b y : List ℕ) → a ++ x ≡ b ++ y → IsWord a x → IsWord b y → (a ≡ b) × (x ≡ y)
-word_once a x b y same one other = run_once IsWordCharacter a x b y same one.characters one.longest other.characters other.longest
+word_once a x b y same one other = run_once IsWordCharacter a x b y same one.characters one.longest other.characters
+    other.longest
 
 -- what a text that begins so begins with
 begins_at : (P Q : ℕ → Type 0) → ((c : ℕ) → P c → Q c) → (text : List ℕ) → BeginsWith P text → BeginsWith Q text
@@ -35,7 +43,8 @@ pub constant_begins : (word : List ℕ) (n : ℕ) → IsConstant word n → Begi
 constant_begins word n constant = elim constant.1 [
   | inl decimal ↦ begins_at (λ d. (49 ≤ d) × (d ≤ 57)) IsDigit (λ d digit. (omega arith, digit.1)) word decimal.first
   | inr (inl octal) ↦ subst (λ (t : List ℕ). BeginsWith IsDigit t) (sym octal.spelled) (omega arith, omega arith)
-  | inr (inr hexadecimal) ↦ subst (λ (t : List ℕ). BeginsWith IsDigit t) (sym hexadecimal.spelled) (omega arith, omega arith)
+  | inr (inr hexadecimal) ↦ subst (λ (t : List ℕ). BeginsWith IsDigit t) (sym hexadecimal.spelled)
+      (omega arith, omega arith)
 ]
 
 -- a digit is no letter
@@ -57,7 +66,8 @@ begins_sign (a ∷ b ∷ c ∷ []) may =
 begins_sign (a ∷ b ∷ c ∷ d ∷ rest) may = let no : false ≡ true = may in cc
 
 -- a sign begins with a character of a sign
-pub sign_begins : (token : Token) (sign : List ℕ) → IsSign token sign → BeginsWith (λ c. is_sign_character c ≡ true) sign
+pub sign_begins : (token : Token) (sign : List ℕ) → IsSign token sign
+    → BeginsWith (λ c. is_sign_character c ≡ true) sign
 sign_begins token sign is = begins_sign sign (sign_may_be token sign is)
 
 -- a token that is a constant
@@ -91,11 +101,14 @@ token_cases Close spelled rest is = inr (inr is)
 token_cases Semicolon spelled rest is = inr (inr is)
 
 -- a constant's word begins with a character of a word
-pub constant_begins_word : (token : Token) (spelled rest : List ℕ) → IsConstantToken token spelled rest → BeginsWith IsWordCharacter spelled
-constant_begins_word token spelled rest is = begins_at IsDigit IsWordCharacter (λ c digit. inl digit) spelled (constant_begins spelled is.value is.constant)
+pub constant_begins_word : (token : Token) (spelled rest : List ℕ) → IsConstantToken token spelled rest
+    → BeginsWith IsWordCharacter spelled
+constant_begins_word token spelled rest is = begins_at IsDigit IsWordCharacter (λ c digit. inl digit) spelled
+    (constant_begins spelled is.value is.constant)
 
 -- a name begins with a character of a word
-pub name_begins_word : (token : Token) (spelled rest : List ℕ) → IsNameToken token spelled rest → BeginsWith IsWordCharacter spelled
+pub name_begins_word : (token : Token) (spelled rest : List ℕ) → IsNameToken token spelled rest
+    → BeginsWith IsWordCharacter spelled
 name_begins_word token spelled rest is = begins_at IsLetter IsWordCharacter (λ c letter. inr letter) spelled is.letter
 
 -- the longest sign is a token
@@ -130,14 +143,17 @@ ascii_sign : (text : List ℕ) → may_be_sign text ≡ true → All IsAsciiChar
 ascii_sign [] may = All-nil IsAsciiCharacter
 ascii_sign (a ∷ []) may = All-cons IsAsciiCharacter a [] (sign_character_ascii a may) (All-nil IsAsciiCharacter)
 ascii_sign (a ∷ b ∷ []) may =
-    let front : (is_sign_character a ≡ true) × (is_sign_character b ≡ true) = both_true (is_sign_character a) (is_sign_character b) may in
+    let front : (is_sign_character a ≡ true) × (is_sign_character b ≡ true) =
+    both_true (is_sign_character a) (is_sign_character b) may in
     All-cons IsAsciiCharacter a (b ∷ []) (sign_character_ascii a front.0) (ascii_sign (b ∷ []) front.1)
 ascii_sign (a ∷ b ∷ c ∷ []) may =
     let last : (is_sign_character a && is_sign_character b ≡ true) × (is_sign_character c ≡ true) =
     both_true (is_sign_character a && is_sign_character b) (is_sign_character c) may in
-    let front : (is_sign_character a ≡ true) × (is_sign_character b ≡ true) = both_true (is_sign_character a) (is_sign_character b) last.0 in
+    let front : (is_sign_character a ≡ true) × (is_sign_character b ≡ true) =
+    both_true (is_sign_character a) (is_sign_character b) last.0 in
     All-cons IsAsciiCharacter a (b ∷ c ∷ []) (sign_character_ascii a front.0)
-    (All-cons IsAsciiCharacter b (c ∷ []) (sign_character_ascii b front.1) (All-cons IsAsciiCharacter c [] (sign_character_ascii c last.1) (All-nil IsAsciiCharacter)))
+    (All-cons IsAsciiCharacter b (c ∷ []) (sign_character_ascii b front.1)
+    (All-cons IsAsciiCharacter c [] (sign_character_ascii c last.1) (All-nil IsAsciiCharacter)))
 ascii_sign (a ∷ b ∷ c ∷ d ∷ rest) may = let no : false ≡ true = may in cc
 
 -- a sign is ASCII
@@ -154,7 +170,8 @@ token_ascii token spelled rest is = elim (token_cases token spelled rest is) [
 
 -- a token stays one before another text where its word or its sign does
 pub token_behind : (token : Token) (spelled rest other : List ℕ) → (IsWord spelled rest → IsWord spelled other)
-    → (IsLongestSign token spelled rest → IsLongestSign token spelled other) → IsToken token spelled rest → IsToken token spelled other
+    → (IsLongestSign token spelled rest → IsLongestSign token spelled other) → IsToken token spelled rest
+    → IsToken token spelled other
 token_behind (Constant n) spelled rest other word sign is = (word is.0, is.1)
 token_behind (Name x) spelled rest other word sign is = (word is.0, is.1, is.2)
 token_behind (Operator op) spelled rest other word sign is = sign is

@@ -22,7 +22,8 @@ use Rattle.arith_syntax.specs.declared.operator.AssignmentOperator.{AssignmentOp
 use Rattle.arith_syntax.specs.declared.expression.Expression.{Expression}
 use Rattle.arith_syntax.specs.declared.expression.Expression.TheVariants as expression
 use Rattle.arith_syntax.specs.declared.token.Token.{Token}
-use Rattle.arith_syntax.specs.declared.token.Token.TheVariants.{Constant, Name, Operator, Assign, Complement, Not, Question, Colon, Open, Close}
+use Rattle.arith_syntax.specs.declared.token.Token.TheVariants.{Constant, Name, Operator, Assign, Complement, Not}
+use Rattle.arith_syntax.specs.declared.token.Token.TheVariants.{Question, Colon, Open, Close}
 
 -- a tree of the grammar
 pub data Tree : Type 0 where

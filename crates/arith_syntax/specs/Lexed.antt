@@ -1,5 +1,6 @@
 -- What the lexer answers, whole and in parts.
-use Rattle.std.specs.Prelude.{◌≡◌, ℕ, ◌≤◌, ◌<◌, ◌^◌, ⊤, List, ◌++◌, length, take, drop, Option, Some, None, Result, Ok, Err}
+use Rattle.std.specs.Prelude.{◌≡◌, ℕ, ◌≤◌, ◌<◌, ◌^◌, ⊤, List, ◌++◌, length, take, drop, Option, Some, None, Result, Ok}
+use Rattle.std.specs.Prelude.{Err}
 use Rattle.std.specs.List.{All}
 use Rattle.std.specs.Global.{Vec}
 use Rattle.arith_syntax.specs.declared.fault.ReadFault.{ReadFault}
@@ -7,7 +8,8 @@ use Rattle.arith_syntax.specs.declared.fault.ReadFault.TheVariants.{Syntax, TooD
 use Rattle.arith_syntax.specs.declared.token.Token.{Token}
 use Rattle.arith_syntax.specs.declared.token.Placed.{Placed}
 use Rattle.arith_syntax.specs.declared.spelled.Spelled.{Spelled}
-use Rattle.arith_syntax.specs.Tokens.{BeginsWith, IsHexadecimalDigit, digit_value, in_base, IsConstant, IsSign, IsLongestSign, IsToken, IsTokens, IsWrongAt}
+use Rattle.arith_syntax.specs.Tokens.{BeginsWith, IsHexadecimalDigit, digit_value, in_base, IsConstant, IsSign}
+use Rattle.arith_syntax.specs.Tokens.{IsLongestSign, IsToken, IsTokens, IsWrongAt}
 
 -- what a text is as tokens: these, or wrong at a place
 abbrev pub Lexes : List ℕ → Result (Vec Placed) ReadFault → Type 0

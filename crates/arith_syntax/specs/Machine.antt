@@ -1,21 +1,24 @@
 -- How the parser goes from token to token. Private contracts alone cite this file, and no public one: what the parser
 -- gives is said by `Parses`, in terms of the grammar.
 use Rattle.std.specs.Bool.{nat_le}
-use Rattle.std.specs.Prelude.{◌≡◌, ℕ, ◌-◌, ◌≤◌, ◌<◌, ⊤, List, [], ◌∷◌, ◌++◌, Bool, true, false, cond, Option, Some, None, Result, Ok, Err}
+use Rattle.std.specs.Prelude.{◌≡◌, ℕ, ◌-◌, ◌≤◌, ◌<◌, ⊤, List, [], ◌∷◌, ◌++◌, Bool, true, false, cond, Option, Some}
+use Rattle.std.specs.Prelude.{None, Result, Ok, Err}
 use Rattle.arith_syntax.specs.declared.operator.BinaryOperator.{BinaryOperator}
 use Rattle.arith_syntax.specs.declared.operator.BinaryOperator.TheVariants as binary
 use Rattle.arith_syntax.specs.declared.operator.UnaryOperator.{UnaryOperator}
 use Rattle.arith_syntax.specs.declared.operator.UnaryOperator.TheVariants as unary
 use Rattle.arith_syntax.specs.declared.operator.AssignmentOperator.{AssignmentOperator}
 use Rattle.arith_syntax.specs.declared.token.Token.{Token}
-use Rattle.arith_syntax.specs.declared.token.Token.TheVariants.{Constant, Name, Operator, Assign, Complement, Not, Question, Colon, Open, Close}
+use Rattle.arith_syntax.specs.declared.token.Token.TheVariants.{Constant, Name, Operator, Assign, Complement, Not}
+use Rattle.arith_syntax.specs.declared.token.Token.TheVariants.{Question, Colon, Open, Close}
 use Rattle.arith_syntax.specs.declared.expression.Expression.{Expression}
 use Rattle.arith_syntax.specs.declared.fault.ReadFault.{ReadFault}
 use Rattle.arith_syntax.specs.declared.fault.ReadFault.TheVariants.{Syntax, TooDeep, OutOfMemory}
 use Rattle.arith_syntax.specs.declared.parser.Frame.{Frame}
 use Rattle.arith_syntax.specs.declared.parser.Frame.TheVariants as frame
 use Rattle.arith_syntax.specs.declared.parser.Parser.{Parser}
-use Rattle.arith_syntax.specs.Grammar.{Tree, Number, Variable, Group, Unary, Binary, Conditional, Assignment, operator_level, tree_of}
+use Rattle.arith_syntax.specs.Grammar.{Tree, Number, Variable, Group, Unary, Binary, Conditional, Assignment}
+use Rattle.arith_syntax.specs.Grammar.{operator_level, tree_of}
 
 -- a construct that has begun and waits for the operand that ends it, or for the middle of `?` and `:`
 pub data Begun : Type 0 where
@@ -71,7 +74,8 @@ pub record Settled : Type 0 where
 -- the innermost constructs end that aren't weaker than a level
 abbrev pub settle : ℕ → List Begun → Tree → Settled
 settle weak [] u = record { begun = []; operand = u }
-settle weak (b ∷ bs) u = cond (nat_le (rank b) weak) (settle weak bs (built b u)) (record { begun = b ∷ bs; operand = u })
+settle weak (b ∷ bs) u = cond (nat_le (rank b) weak) (settle weak bs (built b u))
+    (record { begun = b ∷ bs; operand = u })
 
 -- an operand is due once more, inside one construct more
 abbrev pub begin : Begun → List Begun → Option State

@@ -1,6 +1,7 @@
 -- What a text means as statements: its trees, or its first fault.
 use Rattle.std.specs.Bool.{nat_lt}
-use Rattle.std.specs.Prelude.{◌≡◌, ℕ, ◌<◌, ⊤, Bool, true, false, List, [], ◌∷◌, ◌++◌, ◌⊎◌, map, length, filter, count_by, if◌then◌else◌, Result, Ok, Err}
+use Rattle.std.specs.Prelude.{◌≡◌, ℕ, ◌<◌, ⊤, Bool, true, false, List, [], ◌∷◌, ◌++◌, ◌⊎◌, map, length, filter}
+use Rattle.std.specs.Prelude.{count_by, if◌then◌else◌, Result, Ok, Err}
 use Rattle.arith_syntax.specs.declared.fault.ReadFault.{ReadFault}
 use Rattle.arith_syntax.specs.declared.fault.ReadFault.TheVariants.{Syntax, TooDeep, OutOfMemory}
 use Rattle.arith_syntax.specs.declared.token.Token.{Token}
@@ -116,9 +117,11 @@ CellMeans text (Err fault) =
 
 -- what a text means as one statement
 abbrev pub StatementMeans : List ℕ → Result Tree ReadFault → Type 0
-StatementMeans text (Ok tree) = (tokens : List Placed) × IsTokens text tokens × Means (whole_sentence text tokens) (Ok tree)
+StatementMeans text (Ok tree) = (tokens : List Placed) × IsTokens text tokens
+    × Means (whole_sentence text tokens) (Ok tree)
 StatementMeans text (Err fault) =
-    IsWrong text fault ⊎ ((tokens : List Placed) × IsTokens text tokens × Means (whole_sentence text tokens) (Err fault))
+    IsWrong text fault ⊎ ((tokens : List Placed) × IsTokens text tokens
+    × Means (whole_sentence text tokens) (Err fault))
 
 -- a fault that a definition has, or want of memory, of which none speaks
 abbrev pub OrMemory : (ReadFault → Type 0) → ReadFault → Type 0

@@ -9,7 +9,8 @@ TextsHaveOneLexing = (text : List ℕ) (one other : List Placed) → IsTokens te
 
 -- a text that is tokens is wrong nowhere
 abbrev pub TokensAreNowhereWrong : Type 0
-TokensAreNowhereWrong = (text : List ℕ) (tokens : List Placed) (place : ℕ) → IsTokens text tokens → IsWrongAt text place → ⊥
+TokensAreNowhereWrong = (text : List ℕ) (tokens : List Placed) (place : ℕ) → IsTokens text tokens → IsWrongAt text place
+    → ⊥
 
 -- a text is wrong at one place at most
 abbrev pub TextsHaveOneWrongPlace : Type 0

@@ -1,6 +1,7 @@
 -- The tokens of a text of POSIX shell arithmetic. At each place the longest token counts; a place is the number of code
 -- points before it.
-use Rattle.std.specs.Prelude.{◌≡◌, ℕ, ◌+◌, ◌-◌, ◌*◌, ◌^◌, ◌≤◌, ◌<◌, ◌⊎◌, List, [], ◌∷◌, ◌++◌, length, codes, if◌then◌else◌}
+use Rattle.std.specs.Prelude.{◌≡◌, ℕ, ◌+◌, ◌-◌, ◌*◌, ◌^◌, ◌≤◌, ◌<◌, ◌⊎◌, List, [], ◌∷◌, ◌++◌, length, codes}
+use Rattle.std.specs.Prelude.{if◌then◌else◌}
 use Rattle.std.specs.Bool.{nat_le}
 use Rattle.std.specs.List.{All}
 use Rattle.arith_syntax.specs.declared.operator.BinaryOperator.{BinaryOperator}
@@ -8,7 +9,9 @@ use Rattle.arith_syntax.specs.declared.operator.BinaryOperator.TheVariants as bi
 use Rattle.arith_syntax.specs.declared.operator.AssignmentOperator.{AssignmentOperator}
 use Rattle.arith_syntax.specs.declared.operator.AssignmentOperator.TheVariants as assignment
 use Rattle.arith_syntax.specs.declared.token.Token.{Token}
-use Rattle.arith_syntax.specs.declared.token.Token.TheVariants.{Constant, Name, Operator, Assign, Complement, Not, Increment, Decrement, Question, Colon, Open, Close, Semicolon}
+use Rattle.arith_syntax.specs.declared.token.Token.TheVariants.{Constant, Name, Operator, Assign, Complement, Not}
+use Rattle.arith_syntax.specs.declared.token.Token.TheVariants.{Increment, Decrement, Question, Colon, Open, Close}
+use Rattle.arith_syntax.specs.declared.token.Token.TheVariants.{Semicolon}
 use Rattle.arith_syntax.specs.declared.token.Placed.{Placed}
 
 -- white space: space, tab, line feed, vertical tab, form feed, carriage return
@@ -135,7 +138,8 @@ IsSign Semicolon text = text ≡ codes ";"
 -- the longest sign that stands here
 pub record IsLongestSign (token : Token) (sign rest : List ℕ) : Type 0 where
   pub is_sign : IsSign token sign
-  pub longest : (other : Token) (text more : List ℕ) → IsSign other text → sign ++ rest ≡ text ++ more → length text ≤ length sign
+  pub longest : (other : Token) (text more : List ℕ) → IsSign other text → sign ++ rest ≡ text ++ more
+      → length text ≤ length sign
 
 -- a token, what spells it, and what follows that
 abbrev pub IsToken : Token → List ℕ → List ℕ → Type 0

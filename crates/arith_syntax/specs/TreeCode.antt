@@ -1,4 +1,5 @@
--- Trees as lists, by which a proof tells them apart: the parts of a tree, each behind the parts that it is assembled of.
+-- Trees as lists, by which a proof tells them apart: the parts of a tree, each behind the parts that it is assembled
+-- of.
 use Rattle.std.specs.Prelude.{◌≡◌, ℕ, Bool, true, false, List, [], ◌∷◌, ◌++◌, ◌⊎◌, refl}
 use Rattle.std.specs.Coded.{Coded, code_by, coded_ℕ, coded_bool, coded_list, coded×, coded⊎}
 use Rattle.std.proofs.Common.{inl, inr, ap, sym, ◌∙◌, append_assoc, append-nil}
@@ -66,12 +67,15 @@ last_of [] = Number 0
 last_of (e ∷ trees) = e
 
 -- the parts of a tree make it
-pub assembled-parts : (e : Tree) (trees : List Tree) (more : List Part) → assembled trees (parts e ++ more) ≡ assembled (e ∷ trees) more
+pub assembled-parts : (e : Tree) (trees : List Tree) (more : List Part) → assembled trees (parts e ++ more)
+    ≡ assembled (e ∷ trees) more
 assembled-parts (Number n) trees more = refl
 assembled-parts (Variable x) trees more = refl
 assembled-parts (Group e) trees more =
-    ap (assembled trees) (append_assoc (parts e) (inr (inr (inr (inr (inr false)))) ∷ []) more) ∙ assembled-parts e trees _
-assembled-parts (Unary op e) trees more = ap (assembled trees) (append_assoc (parts e) (inr (inr (inl op)) ∷ []) more) ∙ assembled-parts e trees _
+    ap (assembled trees) (append_assoc (parts e) (inr (inr (inr (inr (inr false)))) ∷ []) more)
+    ∙ assembled-parts e trees _
+assembled-parts (Unary op e) trees more = ap (assembled trees) (append_assoc (parts e) (inr (inr (inl op)) ∷ []) more)
+    ∙ assembled-parts e trees _
 assembled-parts (Binary a op b) trees more =
     let last : List Part = inr (inr (inr (inl op))) ∷ [] in
     ap (assembled trees) (append_assoc (parts a) (parts b ++ last) more) ∙ assembled-parts a trees _
@@ -82,7 +86,8 @@ assembled-parts (Conditional c a b) trees more =
     ∙ ap (assembled (c ∷ trees)) (append_assoc (parts a) (parts b ++ last) more) ∙ assembled-parts a (c ∷ trees) _
     ∙ ap (assembled (a ∷ c ∷ trees)) (append_assoc (parts b) last more) ∙ assembled-parts b (a ∷ c ∷ trees) _
 assembled-parts (Assignment x op e) trees more =
-    ap (assembled trees) (append_assoc (parts e) (inr (inr (inr (inr (inl (x, op))))) ∷ []) more) ∙ assembled-parts e trees _
+    ap (assembled trees) (append_assoc (parts e) (inr (inr (inr (inr (inl (x, op))))) ∷ []) more)
+    ∙ assembled-parts e trees _
 
 -- the code of trees
 abbrev pub tree_code : Coded Tree

@@ -58,7 +58,8 @@ fn with_digit(value: u64, base: u64, worth: u64) -> Option<u64>
 
 /// What a digit is worth, if it is one of the base.
 fn digit(octet: u8, base: u64) -> Option<u64>
-    ensures { MatchOption result (IsDigitOf base octet → ⊥) (λ worth. (worth ≡ digit_value octet) × IsDigitOf base octet) }
+    ensures { MatchOption result (IsDigitOf base octet → ⊥)
+        (λ worth. (worth ≡ digit_value octet) × IsDigitOf base octet) }
 {
     let worth = match octet {
         b'0'..=b'9' => octet - b'0',

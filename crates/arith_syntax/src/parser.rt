@@ -2,7 +2,10 @@
 ghost use Rattle.std.specs.Bool.{nat_le};
 ghost use Rattle.std.specs.Prelude.{◌≡◌, ◌≤◌};
 ghost use Rattle.arith_syntax.specs.Grammar.{operator_level, tree_of};
-ghost use Rattle.arith_syntax.specs.Machine.{rank, room, room_of, settle, start, advance, sign_of, take_due, take_behind, divide, enclose, assign, close, begun_of, stack_of, state_of, ends_at, IsBuilt, IsCopied, IsCondition, IsOpen, IsWholeStack, PushesTo, Pops, PopsEnding, PopsCondition, PopsOpen, SettlesTo, LeadsTo, ClosesTo};
+ghost use Rattle.arith_syntax.specs.Machine.{rank, room, room_of, settle, start, advance, sign_of, take_due};
+ghost use Rattle.arith_syntax.specs.Machine.{take_behind, divide, enclose, assign, close, begun_of, stack_of, state_of};
+ghost use Rattle.arith_syntax.specs.Machine.{ends_at, IsBuilt, IsCopied, IsCondition, IsOpen, IsWholeStack, PushesTo};
+ghost use Rattle.arith_syntax.specs.Machine.{Pops, PopsEnding, PopsCondition, PopsOpen, SettlesTo, LeadsTo, ClosesTo};
 ghost use Rattle.arith_syntax.specs.Parsing.{Parses};
 
 use crate::expression::Expression;
@@ -183,7 +186,8 @@ impl Parser {
         token: &Token,
     ) -> Result<bool, ReadFault>
         requires { self.old.operand ≡ None }
-        ensures { LeadsTo (take_behind (stack_of self.old.frames.items) (tree_of operand) token.now) result (state_of self.new) }
+        ensures { LeadsTo (take_behind (stack_of self.old.frames.items) (tree_of operand) token.now) result
+            (state_of self.new) }
     {
         match token {
             Token::Operator(operator) => {
@@ -224,7 +228,8 @@ impl Parser {
         operand: Expression,
     ) -> Result<Expression, ReadFault>
         requires { weakest ≤ 13 }
-        ensures tree { SettlesTo (settle weakest (stack_of self.old.frames.items) (tree_of operand)) result (stack_of self.new.frames.items) }
+        ensures tree { SettlesTo (settle weakest (stack_of self.old.frames.items) (tree_of operand)) result
+            (stack_of self.new.frames.items) }
         ensures operand { self.new.operand ≡ self.old.operand }
     {
         let mut operand = operand;
@@ -236,7 +241,8 @@ impl Parser {
 
     /// Begins a construct.
     fn push(&mut self, frame: Frame) -> Result<(), ReadFault>
-        ensures frame { PushesTo (begun_of frame) (stack_of self.old.frames.items) result (stack_of self.new.frames.items) }
+        ensures frame { PushesTo (begun_of frame) (stack_of self.old.frames.items) result
+            (stack_of self.new.frames.items) }
         ensures operand { self.new.operand ≡ self.old.operand }
     {
         self.frames.push(frame)?;
@@ -324,7 +330,8 @@ impl Parser {
         operand: Expression,
     ) -> Result<bool, ReadFault>
         requires { self.old.operand ≡ None }
-        ensures { LeadsTo (assign operator (stack_of self.old.frames.items) (tree_of operand)) result (state_of self.new) }
+        ensures { LeadsTo (assign operator (stack_of self.old.frames.items) (tree_of operand)) result
+            (state_of self.new) }
     {
         let Expression::Variable(name) = operand else {
             return Ok(false)

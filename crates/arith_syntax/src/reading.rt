@@ -1,9 +1,11 @@
-ghost use Rattle.std.specs.Prelude.{◌≡◌, ◌<◌, ℕ, ◌∷◌, [], length, Ok, Err, map, filter, count_by, MatchOption, MatchResult, IfSome};
+ghost use Rattle.std.specs.Prelude.{◌≡◌, ◌<◌, ℕ, ◌∷◌, [], length, Ok, Err, map, filter, count_by, MatchOption};
+ghost use Rattle.std.specs.Prelude.{MatchResult, IfSome};
 ghost use Rattle.std.specs.List.{position};
 ghost use Rattle.std.specs.Str.{chars};
 ghost use Rattle.arith_syntax.specs.declared.token.Placed.{Placed};
 ghost use Rattle.arith_syntax.specs.Grammar.{tree_of};
-ghost use Rattle.arith_syntax.specs.Reading.{is_operator, is_semicolon, has_tokens, sentences, AllMean, CellMeans, Fails, FailsFirst, Means, OrMemory, sentence_of, StatementMeans, Adds};
+ghost use Rattle.arith_syntax.specs.Reading.{is_operator, is_semicolon, has_tokens, sentences, AllMean, CellMeans};
+ghost use Rattle.arith_syntax.specs.Reading.{Fails, FailsFirst, Means, OrMemory, sentence_of, StatementMeans, Adds};
 
 use crate::expression::Expression;
 use crate::fault::ReadFault;
@@ -46,7 +48,8 @@ pub fn read_statement(alloc: Global, text: &str) -> Result<Expression, ReadFault
 
 // The trees of the statements that `;` cuts tokens into; the last one ends at `end`.
 fn statements(alloc: Global, tokens: &[Placed], end: u64) -> Result<VecDeque<Expression>, ReadFault>
-    ensures { MatchResult result (λ trees. AllMean (filter has_tokens (sentences end tokens.now)) (map tree_of trees.items))
+    ensures { MatchResult result (λ trees. AllMean (filter has_tokens (sentences end tokens.now))
+        (map tree_of trees.items))
         (OrMemory (FailsFirst (filter has_tokens (sentences end tokens.now)))) }
 {
     let mut trees = VecDeque::new(alloc);
@@ -80,7 +83,8 @@ fn add(
 
 // The tree of a statement's tokens.
 fn statement(alloc: Global, tokens: &[Placed], end: u64) -> Result<Expression, ReadFault>
-    ensures { MatchResult result (λ tree. Means (sentence_of tokens.now end) (Ok (tree_of tree))) (OrMemory (λ fault. Means (sentence_of tokens.now end) (Err fault))) }
+    ensures { MatchResult result (λ tree. Means (sentence_of tokens.now end) (Ok (tree_of tree)))
+        (OrMemory (λ fault. Means (sentence_of tokens.now end) (Err fault))) }
 {
     if operator_count(tokens) > MOST_OPERATORS {
         Err(ReadFault::TooDeep)

@@ -1,11 +1,13 @@
 -- Evaluations one after the other: how a program's answers join to that of the whole.
-use Rattle.std.proofs.Common.{◌≡◌, ℤ, [], ◌∷◌, ◌++◌, Result, Ok, Err, Option, None, refl, ap, sym, subst, ◌∙◌, append_assoc}
+use Rattle.std.proofs.Common.{◌≡◌, ℤ, [], ◌∷◌, ◌++◌, Result, Ok, Err, Option, None, refl, ap, sym, subst, ◌∙◌}
+use Rattle.std.proofs.Common.{append_assoc}
 use Rattle.arith_syntax.specs.declared.operator.BinaryOperator.{BinaryOperator}
 use Rattle.arith_value.specs.Operators.{apply}
 use Rattle.arith_value.specs.declared.fault.ValueFault.{ValueFault}
 use Rattle.arith_value.specs.declared.fault.ValueFault.TheVariants.{Overflow, ZeroDivision, Shift, OutOfMemory}
 use Rattle.arith_value.specs.Variables.{Bindings, assign, after}
-use Rattle.arith_value.specs.Value.{Outcome, Evaluation, give, followed, first_then, decided, unless, operate, Comes, Stops, Evaluates}
+use Rattle.arith_value.specs.Value.{Outcome, Evaluation, give, followed, first_then, decided, unless, operate, Comes}
+use Rattle.arith_value.specs.Value.{Stops, Evaluates}
 
 -- assignments and then more are all of them in their order
 pub after-append : (variables xs ys : Bindings) → after (after variables xs) ys ≡ after variables (xs ++ ys)
@@ -14,7 +16,8 @@ after-append variables (x ∷ xs) ys = after-append (assign x.0 x.1 variables) x
 
 -- an evaluation that had a value leaves it and its assignments to what comes next
 followed_by : (outcome : Outcome) (next : ℤ → Outcome) (a : ℤ) → Ok a ≡ outcome.result
-    → followed outcome.result outcome.made next ≡ record { result = (next a).result; made = outcome.made ++ (next a).made }
+    → followed outcome.result outcome.made next ≡ record
+    { result = (next a).result; made = outcome.made ++ (next a).made }
 followed_by outcome next a had = rw (sym had) refl
 
 -- an evaluation that had a fault ends there
@@ -31,7 +34,8 @@ given (Err Shift) variables = record { result = refl; assigned = refl }
 given (Err OutOfMemory) variables = record { done = []; rest = []; beginning = refl; assigned = refl }
 
 -- what comes after a value comes of both
-comes_then : (first : Evaluation) (next : ℤ → Evaluation) (old mid new : Bindings) (a : ℤ) (answer : Result ℤ ValueFault)
+comes_then : (first : Evaluation) (next : ℤ → Evaluation) (old mid new : Bindings) (a : ℤ)
+    (answer : Result ℤ ValueFault)
     → Comes first old (Ok a) mid → Comes (next a) mid answer new → Comes (first_then first next) old answer new
 comes_then first next old mid new a answer before behind =
     let both = followed_by (first old) (λ n. next n (after old (first old).made)) a before.result in
@@ -54,16 +58,22 @@ stops_then first next old mid new a before behind =
       beginning = append_assoc (first old).made behind.done behind.rest
           ∙ ap (λ more. (first old).made ++ more) (behind.beginning ∙ ap (λ m. (next a m).made) before.assigned)
           ∙ sym (ap (λ (o : Outcome). o.made) both);
-      assigned = behind.assigned ∙ ap (λ m. after m behind.done) before.assigned ∙ after-append old (first old).made behind.done;
+      assigned = behind.assigned ∙ ap (λ m. after m behind.done) before.assigned
+          ∙ after-append old (first old).made behind.done;
     }
 
 -- an evaluation with a value, and then the next
-pub chained : (first : Evaluation) (next : ℤ → Evaluation) (old mid new : Bindings) (a : ℤ) (answer : Result ℤ ValueFault)
-    → Evaluates first old (Ok a) mid → Evaluates (next a) mid answer new → Evaluates (first_then first next) old answer new
+pub chained : (first : Evaluation) (next : ℤ → Evaluation) (old mid new : Bindings) (a : ℤ)
+    (answer : Result ℤ ValueFault)
+    → Evaluates first old (Ok a) mid → Evaluates (next a) mid answer new
+    → Evaluates (first_then first next) old answer new
 chained first next old mid new a (Ok n) before behind = comes_then first next old mid new a (Ok n) before behind
-chained first next old mid new a (Err Overflow) before behind = comes_then first next old mid new a (Err Overflow) before behind
-chained first next old mid new a (Err ZeroDivision) before behind = comes_then first next old mid new a (Err ZeroDivision) before behind
-chained first next old mid new a (Err Shift) before behind = comes_then first next old mid new a (Err Shift) before behind
+chained first next old mid new a (Err Overflow) before behind =
+    comes_then first next old mid new a (Err Overflow) before behind
+chained first next old mid new a (Err ZeroDivision) before behind =
+    comes_then first next old mid new a (Err ZeroDivision) before behind
+chained first next old mid new a (Err Shift) before behind =
+    comes_then first next old mid new a (Err Shift) before behind
 chained first next old mid new a (Err OutOfMemory) before behind = stops_then first next old mid new a before behind
 
 -- a fault ends both
@@ -77,16 +87,19 @@ faults first next old new fault before =
     }
 
 -- a beginning of the first assignments is one of all
-begins_all : (result : Result ℤ ValueFault) (made : Bindings) (next : ℤ → Outcome) (done rest : Bindings) → done ++ rest ≡ made
+begins_all : (result : Result ℤ ValueFault) (made : Bindings) (next : ℤ → Outcome) (done rest : Bindings) → done ++ rest
+    ≡ made
     → (more : Bindings) × (done ++ more ≡ (followed result made next).made)
 begins_all (Ok a) made next done rest all =
     (rest ++ (next a).made, sym (append_assoc done rest (next a).made) ∙ ap (λ front. front ++ (next a).made) all)
 begins_all (Err fault) made next done rest all = (rest, all)
 
 -- what stops the first stops both
-stops_first : (first : Evaluation) (next : ℤ → Evaluation) (old new : Bindings) → Stops first old new → Stops (first_then first next) old new
+stops_first : (first : Evaluation) (next : ℤ → Evaluation) (old new : Bindings) → Stops first old new
+    → Stops (first_then first next) old new
 stops_first first next old new before =
-    let all = begins_all (first old).result (first old).made (λ n. next n (after old (first old).made)) before.done before.rest before.beginning in
+    let all = begins_all (first old).result (first old).made (λ n. next n (after old (first old).made)) before.done
+    before.rest before.beginning in
     record { done = before.done; rest = all.0; beginning = all.1; assigned = before.assigned }
 
 -- an evaluation with a fault, and then nothing
@@ -99,7 +112,9 @@ broken first next old new OutOfMemory before = stops_first first next old new be
 
 -- an operator that the left operand does not decide goes on with the right one
 pub goes_on : (op : BinaryOperator) (a : ℤ) (right : Evaluation) (old new : Bindings) (answer : Result ℤ ValueFault)
-    → decided op a ≡ None → Evaluates (first_then right (λ b. give (apply op a b))) old answer new → Evaluates (operate op a right) old answer new
+    → decided op a ≡ None → Evaluates (first_then right (λ b. give (apply op a b))) old answer new
+    → Evaluates (operate op a right) old answer new
 goes_on op a right old new answer undecided evaluated =
-    let P : Option ℤ → Type 0 = λ d. Evaluates (unless d (first_then right (λ b. give (apply op a b)))) old answer new in
+    let P : Option ℤ → Type 0 = λ d. Evaluates (unless d (first_then right (λ b. give (apply op a b)))) old answer new
+    in
     subst P (sym undecided) evaluated

@@ -1,5 +1,6 @@
 -- The faults of values are their own: operator by operator, and then down a tree.
-use Rattle.std.proofs.Common.{ℕ, ◌*◌, ◌^◌, ℤ, pos, negsuc, Bool, true, false, List, Result, Ok, Err, Option, Some, None, nat_lt, int_div, int_rem, ◌+ℤ◌, ◌-ℤ◌, ◌*ℤ◌, neg_ℤ}
+use Rattle.std.proofs.Common.{ℕ, ◌*◌, ◌^◌, ℤ, pos, negsuc, Bool, true, false, List, Result, Ok, Err, Option, Some}
+use Rattle.std.proofs.Common.{None, nat_lt, int_div, int_rem, ◌+ℤ◌, ◌-ℤ◌, ◌*ℤ◌, neg_ℤ}
 use Rattle.std.specs.Prelude.{if◌then◌else◌}
 use Rattle.arith_syntax.specs.Grammar.{Tree, Number, Variable, Group, Unary, Binary, Conditional, Assignment}
 use Rattle.arith_syntax.specs.declared.operator.BinaryOperator.{BinaryOperator}
@@ -9,9 +10,11 @@ use Rattle.arith_syntax.specs.declared.operator.UnaryOperator.TheVariants as pre
 use Rattle.arith_syntax.specs.declared.operator.AssignmentOperator.{AssignmentOperator}
 use Rattle.arith_value.specs.declared.fault.ValueFault.{ValueFault}
 use Rattle.arith_value.specs.declared.fault.ValueFault.TheVariants.{Overflow, ZeroDivision, Shift, OutOfMemory}
-use Rattle.arith_value.specs.Operators.{apply, beside, checked, count_of, is_true, lowered, quotient, raised, shift_left, unary}
+use Rattle.arith_value.specs.Operators.{apply, beside, checked, count_of, is_true, lowered, quotient, raised}
+use Rattle.arith_value.specs.Operators.{shift_left, unary}
 use Rattle.arith_value.specs.Own.{IsOwn}
-use Rattle.arith_value.specs.Value.{Outcome, Evaluation, assignment_of, combined, decided, first_then, followed, give, load, operate, operator_of, store, unless, value}
+use Rattle.arith_value.specs.Value.{Outcome, Evaluation, assignment_of, combined, decided, first_then, followed, give}
+use Rattle.arith_value.specs.Value.{load, operate, operator_of, store, unless, value}
 use Rattle.arith_value.specs.Variables.{Bindings, after}
 
 -- one of two results that are their own
@@ -82,13 +85,16 @@ own_apply binary.Or a b = tt
 abbrev AlwaysOwn : Evaluation → Type 0
 AlwaysOwn step = (variables : Bindings) → IsOwn (step variables).result
 
-own_followed : (result : Result ℤ ValueFault) (made : Bindings) (next : ℤ → Outcome) → IsOwn result → ((n : ℤ) → IsOwn (next n).result) → IsOwn (followed result made next).result
+own_followed : (result : Result ℤ ValueFault) (made : Bindings) (next : ℤ → Outcome) → IsOwn result
+    → ((n : ℤ) → IsOwn (next n).result) → IsOwn (followed result made next).result
 own_followed (Ok n) made next h k = k n
 own_followed (Err fault) made next h k = h
 
-own_then : (first : Evaluation) (next : ℤ → Evaluation) → AlwaysOwn first → ((n : ℤ) → AlwaysOwn (next n)) → AlwaysOwn (first_then first next)
+own_then : (first : Evaluation) (next : ℤ → Evaluation) → AlwaysOwn first → ((n : ℤ) → AlwaysOwn (next n))
+    → AlwaysOwn (first_then first next)
 own_then first next h k variables =
-    own_followed (first variables).result (first variables).made (λ n. next n (after variables (first variables).made)) (h variables) (λ n. k n _)
+    own_followed (first variables).result (first variables).made (λ n. next n (after variables (first variables).made))
+    (h variables) (λ n. k n _)
 
 own_unless : (known : Option ℤ) (step : Evaluation) → AlwaysOwn step → AlwaysOwn (unless known step)
 own_unless None step h = h
@@ -96,19 +102,23 @@ own_unless (Some n) step h = λ variables. tt
 
 own_operate : (op : BinaryOperator) (a : ℤ) (right : Evaluation) → AlwaysOwn right → AlwaysOwn (operate op a right)
 own_operate op a right h =
-    own_unless (decided op a) (first_then right (λ b. give (apply op a b))) (own_then right (λ b. give (apply op a b)) h (λ b variables. own_apply op a b))
+    own_unless (decided op a) (first_then right (λ b. give (apply op a b)))
+    (own_then right (λ b. give (apply op a b)) h (λ b variables. own_apply op a b))
 
 own_combined : (op : Option BinaryOperator) (name : List ℕ) (operand : ℤ) → AlwaysOwn (combined op name operand)
 own_combined None name operand = λ variables. tt
 own_combined (Some op) name operand =
-    own_then (load name) (λ old. give (apply op old operand)) (λ variables. tt) (λ old variables. own_apply op old operand)
+    own_then (load name) (λ old. give (apply op old operand)) (λ variables. tt)
+    (λ old variables. own_apply op old operand)
 
 own_assignment : (name : List ℕ) (op : AssignmentOperator) (operand : ℤ) → AlwaysOwn (assignment_of name op operand)
 own_assignment name op operand =
-    own_then (combined (operator_of op) name operand) (λ n. store name n) (own_combined (operator_of op) name operand) (λ n variables. tt)
+    own_then (combined (operator_of op) name operand) (λ n. store name n) (own_combined (operator_of op) name operand)
+    (λ n variables. tt)
 
 -- one of two evaluations
-own_branch : (b : Bool) (if_so if_not : Evaluation) → AlwaysOwn if_so → AlwaysOwn if_not → AlwaysOwn (if b then if_so else if_not)
+own_branch : (b : Bool) (if_so if_not : Evaluation) → AlwaysOwn if_so → AlwaysOwn if_not
+    → AlwaysOwn (if b then if_so else if_not)
 own_branch true if_so if_not p q = p
 own_branch false if_so if_not p q = q
 
@@ -120,7 +130,8 @@ own_values (Group inner) = own_values inner
 own_values (Unary op operand) =
     own_then (value operand) (λ a. give (unary op a)) (own_values operand) (λ a variables. own_unary op a)
 own_values (Binary left op right) =
-    own_then (value left) (λ a. operate op a (value right)) (own_values left) (λ a. own_operate op a (value right) (own_values right))
+    own_then (value left) (λ a. operate op a (value right)) (own_values left)
+    (λ a. own_operate op a (value right) (own_values right))
 own_values (Conditional condition if_so if_not) =
     own_then (value condition) (λ a. if is_true a then value if_so else value if_not) (own_values condition)
     (λ a. own_branch (is_true a) (value if_so) (value if_not) (own_values if_so) (own_values if_not))

@@ -41,7 +41,8 @@ followed (Err fault) made next = record { result = Err fault; made = made }
 -- one evaluation, and then the next with its value and the variables after it; a fault ends both
 abbrev pub first_then : Evaluation → (ℤ → Evaluation) → Evaluation
 first_then first next variables =
-    followed (first variables).result (first variables).made (λ value. next value (after variables (first variables).made))
+    followed (first variables).result (first variables).made
+    (λ value. next value (after variables (first variables).made))
 
 -- the value that the left operand decides by itself: a false one that of `&&`, and a true one that of `||`
 abbrev pub decided : BinaryOperator → ℤ → Option ℤ
@@ -104,7 +105,8 @@ pub record Stops (step : Evaluation) (old new : Bindings) : Type 0 where
   pub beginning : done ++ rest ≡ (step old).made
   pub assigned : new ≡ after old done
 
--- a program's answer and the variables that it leaves are those of an evaluation; want of memory leaves the variables after a
+-- a program's answer and the variables that it leaves are those of an evaluation; want of memory leaves the variables
+-- after a
 -- beginning of the assignments
 abbrev pub Evaluates : Evaluation → Bindings → Result ℤ ValueFault → Bindings → Type 0
 Evaluates step old (Ok n) new = Comes step old (Ok n) new

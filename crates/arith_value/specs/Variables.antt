@@ -1,5 +1,6 @@
 -- The variables of a shell: names with their values, each name once, in the order of the names' octets.
-use Rattle.std.specs.Prelude.{◌≡◌, ℕ, Bool, ℤ, pos, List, [], ◌∷◌, map, Option, None, Result, Ok, Err, is_some, nat_eq, string_bytes, if◌then◌else◌, ⊤}
+use Rattle.std.specs.Prelude.{◌≡◌, ℕ, Bool, ℤ, pos, List, [], ◌∷◌, map, Option, None, Result, Ok, Err, is_some, nat_eq}
+use Rattle.std.specs.Prelude.{string_bytes, if◌then◌else◌, ⊤}
 use Rattle.std.specs.List.{filter, starts_with}
 use Rattle.std.specs.List.Sorted.{IsStrictlySortedBy}
 use Rattle.std.specs.declared.alloc.Global.{Global}

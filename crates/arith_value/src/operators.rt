@@ -1,5 +1,6 @@
 ghost use Rattle.std.specs.Prelude.{◌≡◌, pos, ◌+ℤ◌, ◌-ℤ◌, ◌*ℤ◌};
-ghost use Rattle.arith_value.specs.Operators.{apply, checked, count_of, is_true, quotient, remainder, shift_left, shift_right, truth, unary};
+ghost use Rattle.arith_value.specs.Operators.{apply, checked, count_of, is_true, quotient, remainder, shift_left};
+ghost use Rattle.arith_value.specs.Operators.{shift_right, truth, unary};
 ghost use Rattle.arith_value.specs.Value.{decided};
 
 use crate::fault::ValueFault;

@@ -23,13 +23,16 @@ on_memory fault.Interrupted P h = tt
 on_memory fault.OutOfMemory P h = h
 
 -- a fault of a cell's text
-pub read_fails : (text : List ℕ) (f : ReadFault) → OrMemory (λ g. CellMeans (chars text) (Err g)) f → IfMemory (from_read f) ⊤ (IsRead text (Err (from_read f)))
+pub read_fails : (text : List ℕ) (f : ReadFault) → OrMemory (λ g. CellMeans (chars text) (Err g)) f
+    → IfMemory (from_read f) ⊤ (IsRead text (Err (from_read f)))
 read_fails text (read_fault.Syntax place) h = record { cell = Err (read_fault.Syntax place); means = h; answers = refl }
 read_fails text read_fault.TooDeep h = record { cell = Err read_fault.TooDeep; means = h; answers = refl }
 read_fails text read_fault.OutOfMemory h = tt
 
 -- a fault of a statement's text
-pub statement_fails : (old : Bindings) (text : List ℕ) (f : ReadFault) → OrMemory (λ g. StatementMeans (chars text) (Err g)) f → IfMemory (from_read f) ⊤ (IsEvaluated old text (Err (from_read f)) old)
+pub statement_fails : (old : Bindings) (text : List ℕ) (f : ReadFault)
+    → OrMemory (λ g. StatementMeans (chars text) (Err g)) f
+    → IfMemory (from_read f) ⊤ (IsEvaluated old text (Err (from_read f)) old)
 statement_fails old text (read_fault.Syntax place) h =
     record { statement = Err (read_fault.Syntax place); means = h; evaluates = (refl, refl) }
 statement_fails old text read_fault.TooDeep h =
@@ -37,18 +40,24 @@ statement_fails old text read_fault.TooDeep h =
 statement_fails old text read_fault.OutOfMemory h = tt
 
 -- a statement that was evaluated
-pub answered : (old new : Bindings) (text : List ℕ) (tree : Tree) → StatementMeans (chars text) (Ok tree) → (answer : Result (List ℕ) InterpFault) → IsPrinted tree old answer new → Answers (λ a. IsEvaluated old text a new) answer
+pub answered : (old new : Bindings) (text : List ℕ) (tree : Tree) → StatementMeans (chars text) (Ok tree)
+    → (answer : Result (List ℕ) InterpFault) → IsPrinted tree old answer new
+    → Answers (λ a. IsEvaluated old text a new) answer
 answered old new text tree means (Ok printed) h = record { statement = Ok tree; means = means; evaluates = h }
-answered old new text tree means (Err (fault.Syntax place)) h = record { statement = Ok tree; means = means; evaluates = h }
+answered old new text tree means (Err (fault.Syntax place)) h =
+    record { statement = Ok tree; means = means; evaluates = h }
 answered old new text tree means (Err fault.Overflow) h = record { statement = Ok tree; means = means; evaluates = h }
-answered old new text tree means (Err fault.ZeroDivision) h = record { statement = Ok tree; means = means; evaluates = h }
+answered old new text tree means (Err fault.ZeroDivision) h =
+    record { statement = Ok tree; means = means; evaluates = h }
 answered old new text tree means (Err fault.Shift) h = record { statement = Ok tree; means = means; evaluates = h }
 answered old new text tree means (Err fault.TooDeep) h = record { statement = Ok tree; means = means; evaluates = h }
-answered old new text tree means (Err fault.Interrupted) h = record { statement = Ok tree; means = means; evaluates = h }
+answered old new text tree means (Err fault.Interrupted) h =
+    record { statement = Ok tree; means = means; evaluates = h }
 answered old new text tree means (Err fault.OutOfMemory) h = tt
 
 -- a statement whose evaluation found no memory
-pub gave_up : (old new : Bindings) (text : List ℕ) (tree : Tree) → StatementMeans (chars text) (Ok tree) → (answer : Result (List ℕ) InterpFault) → IsPrinted tree old answer new → OnMemory answer (GivesUp old text new)
+pub gave_up : (old new : Bindings) (text : List ℕ) (tree : Tree) → StatementMeans (chars text) (Ok tree)
+    → (answer : Result (List ℕ) InterpFault) → IsPrinted tree old answer new → OnMemory answer (GivesUp old text new)
 gave_up old new text tree means (Ok printed) h = tt
 gave_up old new text tree means (Err (fault.Syntax place)) h = tt
 gave_up old new text tree means (Err fault.Overflow) h = tt

@@ -2,7 +2,8 @@
 use Rattle.std.specs.Prelude.{ℕ, List, ◌++◌, codes}
 use Rattle.std.specs.Fmt.{decimal}
 use Rattle.interp_core.specs.declared.fault.InterpFault.{InterpFault}
-use Rattle.interp_core.specs.declared.fault.InterpFault.TheVariants.{Syntax, Overflow, ZeroDivision, Shift, TooDeep, Interrupted, OutOfMemory}
+use Rattle.interp_core.specs.declared.fault.InterpFault.TheVariants.{Syntax, Overflow, ZeroDivision, Shift, TooDeep}
+use Rattle.interp_core.specs.declared.fault.InterpFault.TheVariants.{Interrupted, OutOfMemory}
 
 -- the number of a fault
 abbrev pub fault_number : InterpFault → ℕ

@@ -64,7 +64,8 @@ ByMemory More memory other = other
 ByMemory (Done value) memory other = other
 ByMemory (Failed fault) memory other = IfMemory fault memory other
 
--- a fault that a definition may have: an interruption is for who runs the cell to say, and want of memory for the program
+-- a fault that a definition may have: an interruption is for who runs the cell to say, and want of memory for the
+-- program
 abbrev pub IsOwn : InterpFault → Type 0
 IsOwn (fault.Syntax place) = ⊤
 IsOwn fault.Overflow = ⊤
@@ -85,22 +86,37 @@ FailsOwn More = ⊤
 FailsOwn (Done value) = ⊤
 FailsOwn (Failed fault) = IsOwn fault
 
--- the laws of an interpreter: each definition has at most one value, and no fault that isn't its own; a step lessens the
+-- the laws of an interpreter: each definition has at most one value, and no fault that isn't its own; a step lessens
+-- the
 -- steps that are left by one, and the one that leaves none ends the cell
 pub record Laws {State Cell : Type 0} (m : Meaning State Cell) : Type 0 where
   pub one_info : (state : State) (a b : Result Info InterpFault) → m.tells state a → m.tells state b → a ≡ b
-  pub one_begin : (state : State) (text : List ℕ) (a b : Result Cell InterpFault) (after other : State) → m.begins state text a after → m.begins state text b other → (a ≡ b) × (after ≡ other)
-  pub one_step : (state : State) (cell : Cell) (a b : Stepped) (after other : State) (left rest : Cell) → m.runs state cell a after left → m.runs state cell b other rest → (a ≡ b) × (after ≡ other) × (left ≡ rest)
-  pub lessened : (state : State) (cell : Cell) (stepped : Stepped) (after : State) (left : Cell) → m.runs state cell stepped after left → m.steps cell ≡ suc (m.steps left)
-  pub ended : (state : State) (cell : Cell) (stepped : Stepped) (after : State) (left : Cell) → m.runs state cell stepped after left → m.steps left ≡ 0 → IsEnd stepped.next
-  pub one_completion : (state : State) (text : List ℕ) (cursor : ℕ) (a b : Result Completion InterpFault) → m.completes state text cursor a → m.completes state text cursor b → a ≡ b
-  pub one_inspection : (state : State) (text : List ℕ) (cursor : ℕ) (a b : Result (Option (List ℕ)) InterpFault) → m.inspects state text cursor a → m.inspects state text cursor b → a ≡ b
-  pub one_judgement : (state : State) (text : List ℕ) (a b : Result Completeness InterpFault) → m.judges state text a → m.judges state text b → a ≡ b
-  pub one_evaluation : (state : State) (text : List ℕ) (a b : Result (List ℕ) InterpFault) (after other : State) → m.evaluates state text a after → m.evaluates state text b other → (a ≡ b) × (after ≡ other)
+  pub one_begin : (state : State) (text : List ℕ) (a b : Result Cell InterpFault) (after other : State)
+      → m.begins state text a after → m.begins state text b other → (a ≡ b) × (after ≡ other)
+  pub one_step : (state : State) (cell : Cell) (a b : Stepped) (after other : State) (left rest : Cell)
+      → m.runs state cell a after left → m.runs state cell b other rest → (a ≡ b) × (after ≡ other) × (left ≡ rest)
+  pub lessened : (state : State) (cell : Cell) (stepped : Stepped) (after : State) (left : Cell)
+      → m.runs state cell stepped after left → m.steps cell ≡ suc (m.steps left)
+  pub ended : (state : State) (cell : Cell) (stepped : Stepped) (after : State) (left : Cell)
+      → m.runs state cell stepped after left → m.steps left ≡ 0 → IsEnd stepped.next
+  pub one_completion : (state : State) (text : List ℕ) (cursor : ℕ) (a b : Result Completion InterpFault)
+      → m.completes state text cursor a → m.completes state text cursor b → a ≡ b
+  pub one_inspection : (state : State) (text : List ℕ) (cursor : ℕ) (a b : Result (Option (List ℕ)) InterpFault)
+      → m.inspects state text cursor a → m.inspects state text cursor b → a ≡ b
+  pub one_judgement : (state : State) (text : List ℕ) (a b : Result Completeness InterpFault) → m.judges state text a
+      → m.judges state text b → a ≡ b
+  pub one_evaluation : (state : State) (text : List ℕ) (a b : Result (List ℕ) InterpFault) (after other : State)
+      → m.evaluates state text a after → m.evaluates state text b other → (a ≡ b) × (after ≡ other)
   pub own_info : (state : State) (answer : Result Info InterpFault) → m.tells state answer → HasOwn answer
-  pub own_begin : (state : State) (text : List ℕ) (answer : Result Cell InterpFault) (after : State) → m.begins state text answer after → HasOwn answer
-  pub own_step : (state : State) (cell : Cell) (stepped : Stepped) (after : State) (left : Cell) → m.runs state cell stepped after left → FailsOwn stepped.next
-  pub own_completion : (state : State) (text : List ℕ) (cursor : ℕ) (answer : Result Completion InterpFault) → m.completes state text cursor answer → HasOwn answer
-  pub own_inspection : (state : State) (text : List ℕ) (cursor : ℕ) (answer : Result (Option (List ℕ)) InterpFault) → m.inspects state text cursor answer → HasOwn answer
-  pub own_judgement : (state : State) (text : List ℕ) (answer : Result Completeness InterpFault) → m.judges state text answer → HasOwn answer
-  pub own_evaluation : (state : State) (text : List ℕ) (answer : Result (List ℕ) InterpFault) (after : State) → m.evaluates state text answer after → HasOwn answer
+  pub own_begin : (state : State) (text : List ℕ) (answer : Result Cell InterpFault) (after : State)
+      → m.begins state text answer after → HasOwn answer
+  pub own_step : (state : State) (cell : Cell) (stepped : Stepped) (after : State) (left : Cell)
+      → m.runs state cell stepped after left → FailsOwn stepped.next
+  pub own_completion : (state : State) (text : List ℕ) (cursor : ℕ) (answer : Result Completion InterpFault)
+      → m.completes state text cursor answer → HasOwn answer
+  pub own_inspection : (state : State) (text : List ℕ) (cursor : ℕ) (answer : Result (Option (List ℕ)) InterpFault)
+      → m.inspects state text cursor answer → HasOwn answer
+  pub own_judgement : (state : State) (text : List ℕ) (answer : Result Completeness InterpFault)
+      → m.judges state text answer → HasOwn answer
+  pub own_evaluation : (state : State) (text : List ℕ) (answer : Result (List ℕ) InterpFault) (after : State)
+      → m.evaluates state text answer after → HasOwn answer

@@ -1,5 +1,6 @@
 -- What shell arithmetic answers as an interpreter: its state is its variables, and a cell the trees of its statements.
-use Rattle.std.specs.Prelude.{◌≡◌, ◌≢◌, ℕ, ℤ, ◌<◌, Bool, true, false, List, [], ◌∷◌, ◌++◌, ◌⊎◌, length, take, filter, codes, Option, Some, None, Result, Ok, Err}
+use Rattle.std.specs.Prelude.{◌≡◌, ◌≢◌, ℕ, ℤ, ◌<◌, Bool, true, false, List, [], ◌∷◌, ◌++◌, ◌⊎◌, length, take, filter}
+use Rattle.std.specs.Prelude.{codes, Option, Some, None, Result, Ok, Err}
 use Rattle.std.specs.Fmt.{signed_decimal}
 use Rattle.std.specs.Str.{chars}
 use Rattle.arith_syntax.specs.declared.fault.ReadFault.{ReadFault}
@@ -104,7 +105,8 @@ completion variables text cursor = record {
 }
 
 -- these are what is offered, and they ascend by their octets, so that no name stands twice
-pub record Completes (variables : Bindings) (text : List ℕ) (cursor : ℕ) (answer : Result Completion InterpFault) : Type 0 where
+pub record Completes (variables : Bindings) (text : List ℕ) (cursor : ℕ) (answer : Result Completion InterpFault) : Type
+    0 where
   pub answers : answer ≡ Ok (completion variables text cursor)
   pub ascending : IsAscending (completion variables text cursor).matches
 
@@ -132,15 +134,17 @@ IsWorth old text (Ok tree) answer new =
 IsWorth old text (Err fault) answer new = (answer ≡ Err (from_read fault)) × (new ≡ old)
 
 -- a text means a statement, or a fault, and this is what it is worth
-pub record IsEvaluated (old : Bindings) (text : List ℕ) (answer : Result (List ℕ) InterpFault) (new : Bindings) : Type 0 where
-  pub statement : Result Tree ReadFault
-  pub means : StatementMeans (chars text) statement
-  pub evaluates : IsWorth old text statement answer new
+pub record IsEvaluated (old : Bindings) (text : List ℕ) (answer : Result (List ℕ) InterpFault) (new : Bindings) : Type 0
+  where
+    pub statement : Result Tree ReadFault
+    pub means : StatementMeans (chars text) statement
+    pub evaluates : IsWorth old text statement answer new
 
 -- an evaluation that found no memory: no variable has changed, or the variables are those after a beginning of the
 -- statement's assignments
 abbrev pub GivesUp : Bindings → List ℕ → Bindings → Type 0
-GivesUp old text new = (new ≡ old) ⊎ ((tree : Tree) × StatementMeans (chars text) (Ok tree) × Stops (value tree) old new)
+GivesUp old text new = (new ≡ old) ⊎ ((tree : Tree) × StatementMeans (chars text) (Ok tree)
+    × Stops (value tree) old new)
 
 -- shell arithmetic as an interpreter
 abbrev pub shell_meaning : Meaning Bindings (List Tree)

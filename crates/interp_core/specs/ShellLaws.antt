@@ -1,5 +1,6 @@
 -- The laws of shell arithmetic as an interpreter, where a text has one reading.
-use Rattle.std.proofs.Common.{◌≡◌, ℕ, zero, suc, List, [], ◌∷◌, length, Result, Ok, Err, inl, inr, refl, sym, ◌∙◌, ap, subst, ℤ}
+use Rattle.std.proofs.Common.{◌≡◌, ℕ, zero, suc, List, [], ◌∷◌, length, Result, Ok, Err, inl, inr, refl, sym, ◌∙◌, ap}
+use Rattle.std.proofs.Common.{subst, ℤ}
 use Rattle.std.specs.Str.{chars}
 use Rattle.arith_syntax.specs.declared.fault.ReadFault.{ReadFault}
 use Rattle.arith_syntax.specs.declared.fault.ReadFault.TheVariants as read_fault
@@ -17,15 +18,18 @@ use Rattle.arith_value.specs.declared.fault.ValueFault.TheVariants as value_faul
 use Rattle.arith_value.specs.Own as values
 use Rattle.arith_value.proofs.OwnLemmas.{own_values}
 use Rattle.interp_core.specs.Interpreter.{FailsOwn, HasOwn, IsEnd, Laws}
-use Rattle.interp_core.specs.ShellArithmetic.{Begins, IsWorth, IsEvaluated, Judges, Runs, printed, reading, shell_meaning, shows}
+use Rattle.interp_core.specs.ShellArithmetic.{Begins, IsWorth, IsEvaluated, Judges, Runs, printed, reading}
+use Rattle.interp_core.specs.ShellArithmetic.{shell_meaning, shows}
 
 -- a step comes to one thing
-step_once : (state : Bindings) (cell : List Tree) (a b : Stepped) (after other : Bindings) (left rest : List Tree) → Runs state cell a after left → Runs state cell b other rest → (a ≡ b) × (after ≡ other) × (left ≡ rest)
+step_once : (state : Bindings) (cell : List Tree) (a b : Stepped) (after other : Bindings) (left rest : List Tree)
+    → Runs state cell a after left → Runs state cell b other rest → (a ≡ b) × (after ≡ other) × (left ≡ rest)
 step_once state [] a b after other left rest p q = absurd p
 step_once state (tree ∷ trees) a b after other left rest p q = (p.0 ∙ sym q.0, p.1 ∙ sym q.1, p.2 ∙ sym q.2)
 
 -- a step takes one statement
-step_lessens : (state : Bindings) (cell : List Tree) (stepped : Stepped) (after : Bindings) (left : List Tree) → Runs state cell stepped after left → length cell ≡ suc (length left)
+step_lessens : (state : Bindings) (cell : List Tree) (stepped : Stepped) (after : Bindings) (left : List Tree)
+    → Runs state cell stepped after left → length cell ≡ suc (length left)
 step_lessens state [] stepped after left p = absurd p
 step_lessens state (tree ∷ trees) stepped after left p = ap (λ (ts : List Tree). suc (length ts)) (sym p.2)
 
@@ -57,14 +61,18 @@ shows_end (Ok text) (tree ∷ trees) none = absurd (not_empty tree trees none)
 shows_end (Err fault) left none = tt
 
 -- the last step ends its cell
-step_ends : (state : Bindings) (cell : List Tree) (stepped : Stepped) (after : Bindings) (left : List Tree) → Runs state cell stepped after left → length left ≡ 0 → IsEnd stepped.next
+step_ends : (state : Bindings) (cell : List Tree) (stepped : Stepped) (after : Bindings) (left : List Tree)
+    → Runs state cell stepped after left → length left ≡ 0 → IsEnd stepped.next
 step_ends state [] stepped after left p none = absurd p
 step_ends state (tree ∷ trees) stepped after left p none =
-    let ended : IsEnd (shows (printed (value tree state).result) trees).next = shows_end (printed (value tree state).result) trees (ap length (sym p.2) ∙ none) in
+    let ended : IsEnd (shows (printed (value tree state).result) trees).next =
+    shows_end (printed (value tree state).result) trees (ap length (sym p.2) ∙ none) in
     subst (λ (s : Stepped). IsEnd s.next) (sym p.0) ended
 
 -- an evaluation comes to one thing
-evaluates_once : (old : Bindings) (text : List ℕ) (statement : Result Tree ReadFault) (a b : Result (List ℕ) InterpFault) (after other : Bindings) → IsWorth old text statement a after → IsWorth old text statement b other → (a ≡ b) × (after ≡ other)
+evaluates_once : (old : Bindings) (text : List ℕ) (statement : Result Tree ReadFault)
+    (a b : Result (List ℕ) InterpFault) (after other : Bindings) → IsWorth old text statement a after
+    → IsWorth old text statement b other → (a ≡ b) × (after ≡ other)
 evaluates_once old text (Ok tree) a b after other p q = (p.0 ∙ sym q.0, p.1 ∙ sym q.1)
 evaluates_once old text (Err fault) a b after other p q = (p.0 ∙ sym q.0, p.1 ∙ sym q.1)
 
@@ -93,13 +101,17 @@ own_shows (Ok text) (tree ∷ trees) h = tt
 own_shows (Err fault) left h = h
 
 -- a step's fault is its statement's
-step_own : (state : Bindings) (cell : List Tree) (stepped : Stepped) (after : Bindings) (left : List Tree) → Runs state cell stepped after left → FailsOwn stepped.next
+step_own : (state : Bindings) (cell : List Tree) (stepped : Stepped) (after : Bindings) (left : List Tree)
+    → Runs state cell stepped after left → FailsOwn stepped.next
 step_own state [] stepped after left p = absurd p
 step_own state (tree ∷ trees) stepped after left p =
-    subst (λ (s : Stepped). FailsOwn s.next) (sym p.0) (own_shows (printed (value tree state).result) trees (own_value tree state))
+    subst (λ (s : Stepped). FailsOwn s.next) (sym p.0) (own_shows (printed (value tree state).result) trees
+    (own_value tree state))
 
 -- an evaluation's fault is its text's or its statement's
-own_statement : (old : Bindings) (text : List ℕ) (statement : Result Tree ReadFault) (answer : Result (List ℕ) InterpFault) (new : Bindings) → StatementMeans (chars text) statement → IsWorth old text statement answer new → HasOwn answer
+own_statement : (old : Bindings) (text : List ℕ) (statement : Result Tree ReadFault)
+    (answer : Result (List ℕ) InterpFault) (new : Bindings) → StatementMeans (chars text) statement
+    → IsWorth old text statement answer new → HasOwn answer
 own_statement old text (Ok tree) answer new means p = subst HasOwn (sym p.0) (own_value tree old)
 own_statement old text (Err (read_fault.Syntax place)) answer new means p = subst HasOwn (sym p.0) tt
 own_statement old text (Err read_fault.TooDeep) answer new means p = subst HasOwn (sym p.0) tt
@@ -115,13 +127,19 @@ module _ (reads : HasOneReading) where
   -- a text is a whole cell in one way
   judged_once : (text : List ℕ) (a b : Result Completeness InterpFault) → Judges text a → Judges text b → a ≡ b
   judged_once text (Ok Complete) (Ok Complete) p q = refl
-  judged_once text (Ok Complete) (Ok Incomplete) p q = absurd (not_both p.0 (read_fault.Syntax (length text)) (reads.one_cell text (Ok p.0) (Err (read_fault.Syntax (length text))) p.1 q))
-  judged_once text (Ok Complete) (Ok Invalid) p q = absurd (not_both p.0 q.0 (reads.one_cell text (Ok p.0) (Err q.0) p.1 q.1))
-  judged_once text (Ok Incomplete) (Ok Complete) p q = absurd (not_both q.0 (read_fault.Syntax (length text)) (reads.one_cell text (Ok q.0) (Err (read_fault.Syntax (length text))) q.1 p))
+  judged_once text (Ok Complete) (Ok Incomplete) p q = absurd
+      (not_both p.0 (read_fault.Syntax (length text)) (reads.one_cell text (Ok p.0)
+      (Err (read_fault.Syntax (length text))) p.1 q))
+  judged_once text (Ok Complete) (Ok Invalid) p q = absurd
+      (not_both p.0 q.0 (reads.one_cell text (Ok p.0) (Err q.0) p.1 q.1))
+  judged_once text (Ok Incomplete) (Ok Complete) p q = absurd
+      (not_both q.0 (read_fault.Syntax (length text)) (reads.one_cell text (Ok q.0)
+      (Err (read_fault.Syntax (length text))) q.1 p))
   judged_once text (Ok Incomplete) (Ok Incomplete) p q = refl
   judged_once text (Ok Incomplete) (Ok Invalid) p q =
       absurd (q.2 (ap fault_in (reads.one_cell text (Err q.0) (Err (read_fault.Syntax (length text))) q.1 p)))
-  judged_once text (Ok Invalid) (Ok Complete) p q = absurd (not_both q.0 p.0 (reads.one_cell text (Ok q.0) (Err p.0) q.1 p.1))
+  judged_once text (Ok Invalid) (Ok Complete) p q = absurd
+      (not_both q.0 p.0 (reads.one_cell text (Ok q.0) (Err p.0) q.1 p.1))
   judged_once text (Ok Invalid) (Ok Incomplete) p q =
       absurd (p.2 (ap fault_in (reads.one_cell text (Err p.0) (Err (read_fault.Syntax (length text))) p.1 q)))
   judged_once text (Ok Invalid) (Ok Invalid) p q = refl
@@ -131,15 +149,20 @@ module _ (reads : HasOneReading) where
   judged_once text (Err fault) b p q = absurd p
 
   -- a cell is begun in one way
-  begun_once : (state : Bindings) (text : List ℕ) (a b : Result (List Tree) InterpFault) (after other : Bindings) → Begins state text a after → Begins state text b other → (a ≡ b) × (after ≡ other)
-  begun_once state text a b after other p q =
-      (p.0.answers ∙ ap reading (reads.one_cell (chars text) p.0.cell q.0.cell p.0.means q.0.means) ∙ sym q.0.answers, p.1 ∙ sym q.1)
+  begun_once : (state : Bindings) (text : List ℕ) (a b : Result (List Tree) InterpFault) (after other : Bindings)
+      → Begins state text a after → Begins state text b other → (a ≡ b) × (after ≡ other)
+  begun_once state text a b after other p q = (
+    p.0.answers ∙ ap reading (reads.one_cell (chars text) p.0.cell q.0.cell p.0.means q.0.means) ∙ sym q.0.answers,
+    p.1 ∙ sym q.1,
+  )
 
   -- a text is evaluated in one way
-  evaluated_once : (state : Bindings) (text : List ℕ) (a b : Result (List ℕ) InterpFault) (after other : Bindings) → IsEvaluated state text a after → IsEvaluated state text b other → (a ≡ b) × (after ≡ other)
+  evaluated_once : (state : Bindings) (text : List ℕ) (a b : Result (List ℕ) InterpFault) (after other : Bindings)
+      → IsEvaluated state text a after → IsEvaluated state text b other → (a ≡ b) × (after ≡ other)
   evaluated_once state text a b after other p q =
       let same : p.statement ≡ q.statement = reads.one_statement (chars text) p.statement q.statement p.means q.means in
-      evaluates_once state text q.statement a b after other (subst (λ s. IsWorth state text s a after) same p.evaluates) q.evaluates
+      evaluates_once state text q.statement a b after other (subst (λ s. IsWorth state text s a after) same p.evaluates)
+      q.evaluates
 
   pub shell_laws : Laws shell_meaning
   shell_laws = record {

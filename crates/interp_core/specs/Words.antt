@@ -1,4 +1,5 @@
--- The word at a cursor: a run of ASCII letters, digits and `_`. Texts are lists of code points, and a cursor counts them.
+-- The word at a cursor: a run of ASCII letters, digits and `_`. Texts are lists of code points, and a cursor counts
+-- them.
 use Rattle.std.specs.Prelude.{ℕ, ◌-◌, Bool, ◌&&◌, ◌||◌, ◌==◌, List, ◌++◌, length, take, drop}
 use Rattle.std.specs.Bool.{nat_le}
 use Rattle.std.specs.List.{suffix_len, take_while}

@@ -80,7 +80,8 @@ fn words(
     name: &'static str,
     value: &'static str,
 ) -> Result<(&'static str, Text), InterpFault>
-    ensures { MatchResult result (λ words. (words.0.now ≡ name.now) × (words.1 ≡ value.now)) (λ refused. refused ≡ OutOfMemory) }
+    ensures { MatchResult result (λ words. (words.0.now ≡ name.now) × (words.1 ≡ value.now))
+        (λ refused. refused ≡ OutOfMemory) }
 {
     let value = String::from_str(alloc, value)?;
     Ok((name, Text::new(value)))

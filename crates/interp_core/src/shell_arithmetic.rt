@@ -36,7 +36,8 @@ impl Model for Statements {
     ghost view = { λ s. map tree_of s.waiting.items };
 }
 
-/// POSIX shell arithmetic in 64 bits (POSIX.1-2017, XCU 2.6.4, in the profile of docs/ARITHMETIC.md): a contract sees the
+/// POSIX shell arithmetic in 64 bits (POSIX.1-2017, XCU 2.6.4, in the profile of docs/ARITHMETIC.md): a contract sees
+/// the
 /// variables. A cell is statements that `;` parts, and each statement is one step.
 #[derive(Drop)]
 pub struct ShellArith {

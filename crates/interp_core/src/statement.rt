@@ -37,7 +37,8 @@ pub(crate) fn run_first(
 fn run(alloc: Global, variables: &mut Variables, statement: &Expression, last: bool) -> Stepped
     ensures { ByMemory result.next
         ((result.outputs ≡ []) × Stops (value (tree_of statement.now)) variables.old variables.new)
-        ((left : List Tree) → IsLast last left → Runs variables.old (tree_of statement.now ∷ left) result variables.new left) }
+        ((left : List Tree) → IsLast last left → Runs variables.old (tree_of statement.now ∷ left) result variables.new
+        left) }
 {
     match value_text(alloc, variables, statement) {
         Ok(text) if last => Stepped {

@@ -2,7 +2,8 @@ use super::*;
 use std::alloc::Global;
 use std::test::Fail;
 
-/// What a cell writes: each text on standard output as it is, then `= VALUE`, or `fault N` and the place of a fault of syntax.
+/// What a cell writes: each text on standard output as it is, then `= VALUE`, or `fault N` and the place of a fault of
+/// syntax.
 pub fn run<I: Interpreter>(alloc: Global, interpreter: &mut I, code: &str) -> Result<String, Fail>
 where
     I::Cell: Drop,

@@ -1,5 +1,7 @@
 -- What a session makes of the messages of a peer.
-use Rattle.std.proofs.Common.{◌≡◌, ◌≢◌, ◌⊎◌, inl, inr, ℕ, ◌<◌, ◌^◌, List, [], ◌∷◌, ◌++◌, length, Option, Some, None, IfSome, Result, Ok, Err, IfOk, refl, sym, ◌∙◌, ap, subst, arith, append_assoc, length-append}
+use Rattle.std.proofs.Common.{◌≡◌, ◌≢◌, ◌⊎◌, inl, inr, ℕ, ◌<◌, ◌^◌, List, [], ◌∷◌, ◌++◌, length, Option, Some, None}
+use Rattle.std.proofs.Common.{IfSome, Result, Ok, Err, IfOk, refl, sym, ◌∙◌, ap, subst, arith, append_assoc}
+use Rattle.std.proofs.Common.{length-append}
 use Rattle.std.proofs.lemmas.List.{append-nil, length-map}
 use Rattle.std.specs.Global.{Vec}
 use Rattle.std.specs.List.{flat_map}
@@ -30,18 +32,22 @@ use Rattle.jkernel.specs.Served.{ServesOne, IsServedBy, Sessions}
 use Rattle.jkernel.specs.Replay.{PrintsPeer, IsPrintable}
 
 -- a reply has frames
-reply_frames : (key : List ℕ) (number : ℕ) (request : Envelope) (content : Option Content) → IfSome (reply_with key number request content) (λ message. 0 < length message)
+reply_frames : (key : List ℕ) (number : ℕ) (request : Envelope) (content : Option Content)
+    → IfSome (reply_with key number request content) (λ message. 0 < length message)
 reply_frames key number request None = tt
 reply_frames key number request (Some content) = omega (arith, length-append {A = List ℕ})
 
 -- a message of frames has as many bodies
-pub some_frames : (key : List ℕ) (number : ℕ) (request : Envelope) (frames : List (Vec ℕ)) (message : Message) → Some message ≡ reply_of key number request → bodies frames ≡ message → 0 < length frames
+pub some_frames : (key : List ℕ) (number : ℕ) (request : Envelope) (frames : List (Vec ℕ)) (message : Message)
+    → Some message ≡ reply_of key number request → bodies frames ≡ message → 0 < length frames
 some_frames key number request frames message is spelled =
-    let some = subst (λ o. IfSome o (λ m. 0 < length m)) (sym is) (reply_frames key number request (reply_content request)) in
+    let some = subst (λ o. IfSome o (λ m. 0 < length m)) (sym is)
+    (reply_frames key number request (reply_content request)) in
     omega (arith, some, ap length spelled, length-map frames (λ (f : Vec ℕ). f.items))
 
 -- the text of a reply
-pub reply_is : (frames : List (Vec ℕ)) (message : Message) (reply : Option Message) → Some message ≡ reply → bodies frames ≡ message → text (bodies frames) ≡ reply_text reply
+pub reply_is : (frames : List (Vec ℕ)) (message : Message) (reply : Option Message) → Some message ≡ reply
+    → bodies frames ≡ message → text (bodies frames) ≡ reply_text reply
 reply_is frames message reply is spelled = ap text spelled ∙ ap reply_text is
 
 -- no reply has no text
@@ -49,10 +55,12 @@ pub no_reply_is : (reply : Option Message) → None ≡ reply → [] ≡ reply_t
 no_reply_is reply is = ap reply_text is
 
 -- a message that was dropped
-pub dropped : (key : List ℕ) (message frames : Message) (fault : EnvelopeFault) → frames ≡ message → IsRefused key frames fault → IsDropped key message
+pub dropped : (key : List ℕ) (message frames : Message) (fault : EnvelopeFault) → frames ≡ message
+    → IsRefused key frames fault → IsDropped key message
 dropped key message frames fault same refused = (fault, subst (λ m. IsRefused key m fault) same refused)
 
-pub dropped_or : (key : List ℕ) (message frames : Message) (fault : EnvelopeFault) → frames ≡ message → fault ≢ EnvelopeMemory → (fault ≡ EnvelopeMemory) ⊎ IsRefused key frames fault → IsDropped key message
+pub dropped_or : (key : List ℕ) (message frames : Message) (fault : EnvelopeFault) → frames ≡ message
+    → fault ≢ EnvelopeMemory → (fault ≡ EnvelopeMemory) ⊎ IsRefused key frames fault → IsDropped key message
 dropped_or key message frames fault same other (inl memory) = absurd (other memory)
 dropped_or key message frames fault same other (inr refused) = dropped key message frames fault same refused
 
@@ -63,7 +71,8 @@ record ServedAll (old : Engine) (messages : List Message) (replies : List ℕ) (
   signer : new.signer ≡ old.signer
   serves : Serves old.signer old.next messages replies published
 
-served_all : (old : Engine) (messages : List Message) (replies : List ℕ) (new : Engine) → AnswersAll ServesOne old messages replies new → ServedAll old messages replies new
+served_all : (old : Engine) (messages : List Message) (replies : List ℕ) (new : Engine)
+    → AnswersAll ServesOne old messages replies new → ServedAll old messages replies new
 served_all old [] replies new (none, same) = record {
   published = [];
   added = ap (λ (e : Engine). e.published.items) same ∙ sym (append-nil old.published.items);
@@ -73,7 +82,8 @@ served_all old [] replies new (none, same) = record {
 served_all old (message ∷ messages) replies new (middle, reply, later, inl one, rest, is) =
     let ih = served_all middle messages later new rest in
     let same : replies ≡ later = is ∙ ap (λ o. o ++ later) one.silent in
-    let serves = subst (λ n. Serves old.signer n messages later ih.published) one.next (subst (λ k. Serves k middle.next messages later ih.published) one.signer ih.serves) in
+    let serves = subst (λ n. Serves old.signer n messages later ih.published) one.next
+    (subst (λ k. Serves k middle.next messages later ih.published) one.signer ih.serves) in
     record {
       published = ih.published;
       added = ih.added ∙ ap (λ o. o ++ ih.published) one.published;
@@ -82,28 +92,46 @@ served_all old (message ∷ messages) replies new (middle, reply, later, inl one
     }
 served_all old (message ∷ messages) replies new (middle, reply, later, inr one, rest, is) =
     let ih = served_all middle messages later new rest in
-    let serves = subst (λ n. Serves old.signer n messages later ih.published) one.next (subst (λ k. Serves k middle.next messages later ih.published) one.signer ih.serves) in
+    let serves = subst (λ n. Serves old.signer n messages later ih.published) one.next
+    (subst (λ k. Serves k middle.next messages later ih.published) one.signer ih.serves) in
     record {
       published = block old.signer old.next one.request ++ ih.published;
-      added = ih.added ∙ ap (λ o. o ++ ih.published) one.published ∙ append_assoc old.published.items (block old.signer old.next one.request) ih.published;
+      added = ih.added ∙ ap (λ o. o ++ ih.published) one.published
+          ∙ append_assoc old.published.items (block old.signer old.next one.request) ih.published;
       signer = ih.signer ∙ one.signer;
       serves = inr (one.request, later, ih.published, one.opened, serves, is ∙ ap (λ o. o ++ later) one.replies, refl);
     }
 
 -- a peer that is served is one with whom there is a session
-session_of : (old : Engine) (octets written : List ℕ) (new : Engine) (end : SessionEnd) → IsServed ServesOne Router old octets written new end → IsServedBy old octets written new end
+session_of : (old : Engine) (octets written : List ℕ) (new : Engine) (end : SessionEnd)
+    → IsServed ServesOne Router old octets written new end → IsServedBy old octets written new end
 session_of old octets written new end one =
     let all = served_all old one.messages one.replies new one.answered in
     record {
       published = all.published;
       added = all.added;
-      session = record { opening = one.opening; messages = one.messages; replies = one.replies; hears = one.hears; serves = all.serves; all = one.all };
+      session = record {
+        opening = one.opening;
+        messages = one.messages;
+        replies = one.replies;
+        hears = one.hears;
+        serves = all.serves;
+        all = one.all;
+      };
     }
 
-cut_of : (old : Engine) (octets written : List ℕ) (new : Engine) → IsCut (IsServed ServesOne Router old) octets written new → IsCut (IsServedBy old) octets written new
-cut_of old octets written new cut = record { front = cut.front; behind = cut.behind; split = cut.split; so_far = session_of old cut.front written new Eof cut.so_far }
+cut_of : (old : Engine) (octets written : List ℕ) (new : Engine)
+    → IsCut (IsServed ServesOne Router old) octets written new → IsCut (IsServedBy old) octets written new
+cut_of old octets written new cut = record {
+  front = cut.front;
+  behind = cut.behind;
+  split = cut.split;
+  so_far = session_of old cut.front written new Eof cut.so_far;
+}
 
-outcome_of : (old : Engine) (octets written : List ℕ) (new : Engine) (end : SessionEnd) → ServesPeer (λ engine. 2 ^ 62 < engine.next) ServesOne Router old octets written new end → Sessions old octets written new end
+outcome_of : (old : Engine) (octets written : List ℕ) (new : Engine) (end : SessionEnd)
+    → ServesPeer (λ engine. 2 ^ 62 < engine.next) ServesOne Router old octets written new end
+    → Sessions old octets written new end
 outcome_of old octets written new Eof one = session_of old octets written new Eof one
 outcome_of old octets written new (Shutdown restart) one = one
 outcome_of old octets written new (Wire fault) (inl (memory, cut)) = inl (memory, cut_of old octets written new cut)
@@ -115,7 +143,8 @@ outcome_of old octets written new (Failed Memory) (state, cut) = (state, cut_of 
 outcome_of old octets written new (Failed Worn) (state, worn, cut) = (state, worn, cut_of old octets written state cut)
 
 pub exchange_of : (old new : Engine) (one two : Inflow) (out last : Outflow) (turns left : ℕ) (end : SessionEnd)
-    → Exchange (ServesPeer (λ engine. 2 ^ 62 < engine.next) ServesOne Router old) one two out last turns left new end → Exchange (Sessions old) one two out last turns left new end
+    → Exchange (ServesPeer (λ engine. 2 ^ 62 < engine.next) ServesOne Router old) one two out last turns left new end
+    → Exchange (Sessions old) one two out last turns left new end
 exchange_of old new one two out last turns left end e = record {
   read = e.read;
   written = e.written;
@@ -125,7 +154,8 @@ exchange_of old new one two out last turns left end e = record {
 }
 
 -- a session that its peer's octets ended
-ended_by : (old new : Engine) (octets written : List ℕ) (end : SessionEnd) → Sessions old octets written new end → IsPrintable end → IsServedBy old octets written new end
+ended_by : (old new : Engine) (octets written : List ℕ) (end : SessionEnd) → Sessions old octets written new end
+    → IsPrintable end → IsServedBy old octets written new end
 ended_by old new octets written Eof one printable = one
 ended_by old new octets written (Shutdown restart) one printable = absurd one
 ended_by old new octets written (Wire fault) (inl (memory, cut)) enough = absurd (enough memory)
@@ -143,15 +173,23 @@ read_out left (Shutdown restart) is out = absurd (let e = is in cc)
 read_out left (Wire fault) is out = absurd (let e = is in cc)
 read_out left (Failed fault) is out = absurd (let e = is in cc)
 
-pub prints_peer : (key : List ℕ) (old new : Engine) (one two : Inflow) (out last : Outflow) (turns left : ℕ) (shell output : List ℕ) (end : SessionEnd)
-    → old.signer ≡ key → old.next ≡ 2 → old.published.items ≡ starting key ∷ [] → out.written ≡ Some [] → last.written ≡ Some shell
-    → Exchange (Sessions old) one two out last turns left new end → IsPrintable end → output ≡ printed_lines shell (flat_map text new.published.items) end
+pub prints_peer : (key : List ℕ) (old new : Engine) (one two : Inflow) (out last : Outflow) (turns left : ℕ)
+    (shell output : List ℕ) (end : SessionEnd)
+    → old.signer ≡ key → old.next ≡ 2 → old.published.items ≡ starting key ∷ [] → out.written ≡ Some [] → last.written
+    ≡ Some shell
+    → Exchange (Sessions old) one two out last turns left new end → IsPrintable end → output
+    ≡ printed_lines shell (flat_map text new.published.items) end
     → PrintsPeer key one.left two.left output
-prints_peer key old new one two out last turns left shell output end signed begins started fresh stands e printable printed =
+prints_peer key old new one two out last turns left shell output end signed begins started fresh stands e printable
+    printed =
     let served = ended_by old new e.read e.written end e.outcome printable in
-    let wrote : shell ≡ e.written = added_all shell e.written (subst (λ w. Appends (Some []) w e.written) stands (subst (λ w. Appends w last.written e.written) fresh e.puts.added)) in
-    let published : new.published.items ≡ starting key ∷ served.published = served.added ∙ ap (λ o. o ++ served.published) started in
-    let session = subst (λ n. IsSession key n e.read e.written served.published end) begins (subst (λ k. IsSession k old.next e.read e.written served.published end) signed served.session) in
+    let wrote : shell ≡ e.written = added_all shell e.written
+    (subst (λ w. Appends (Some []) w e.written) stands
+    (subst (λ w. Appends w last.written e.written) fresh e.puts.added)) in
+    let published : new.published.items ≡ starting key ∷ served.published = served.added
+    ∙ ap (λ o. o ++ served.published) started in
+    let session = subst (λ n. IsSession key n e.read e.written served.published end) begins
+    (subst (λ k. IsSession k old.next e.read e.written served.published end) signed served.session) in
     record {
       octets = e.read;
       taken = e.reading.draws.taken;
@@ -160,13 +198,15 @@ prints_peer key old new one two out last turns left shell output end signed begi
         published = served.published;
         ending = end;
         session = session;
-        printed = printed ∙ ap (λ w. printed_lines w (flat_map text new.published.items) end) wrote ∙ ap (λ p. printed_lines e.written (flat_map text p) end) published;
+        printed = printed ∙ ap (λ w. printed_lines w (flat_map text new.published.items) end) wrote
+            ∙ ap (λ p. printed_lines e.written (flat_map text p) end) published;
       };
       read_out = λ is. read_out two.left end is e.reading.read_out;
     }
 
 -- a session that ended holds of all that its peer sends
-session_stays : EndStays → (key : List ℕ) (octets after written : List ℕ) (published : List Message) (end : SessionEnd) → end ≢ Eof → IsSession key 2 octets written published end
+session_stays : EndStays → (key : List ℕ) (octets after written : List ℕ) (published : List Message) (end : SessionEnd)
+    → end ≢ Eof → IsSession key 2 octets written published end
     → IsSession key 2 (octets ++ after) written published end
 session_stays stays key octets after written published end ended s = record {
   opening = s.opening;
@@ -177,28 +217,39 @@ session_stays stays key octets after written published end ended s = record {
   all = s.all;
 }
 
-prints_ended : EndStays → (key octets output rest read : List ℕ) → octets ≡ read ++ rest → (p : IsPrinted key read output) → p.ending ≢ Eof → IsPrinted key octets output
+prints_ended : EndStays → (key octets output rest read : List ℕ) → octets ≡ read ++ rest
+    → (p : IsPrinted key read output) → p.ending ≢ Eof → IsPrinted key octets output
 prints_ended stays key octets output rest read is p ended = record {
   written = p.written;
   published = p.published;
   ending = p.ending;
-  session = subst (λ o. IsSession key 2 o p.written p.published p.ending) (sym is) (session_stays stays key read rest p.written p.published p.ending ended p.session);
+  session = subst (λ o. IsSession key 2 o p.written p.published p.ending) (sym is)
+      (session_stays stays key read rest p.written p.published p.ending ended p.session);
   printed = p.printed;
 }
 
-prints_rest : EndStays → (key octets output rest read : List ℕ) → octets ≡ read ++ rest → (p : IsPrinted key read output) (end : SessionEnd) → p.ending ≡ end → (p.ending ≡ Eof → rest ≡ []) → IsPrinted key octets output
+prints_rest : EndStays → (key octets output rest read : List ℕ) → octets ≡ read ++ rest
+    → (p : IsPrinted key read output) (end : SessionEnd) → p.ending ≡ end → (p.ending ≡ Eof → rest ≡ [])
+    → IsPrinted key octets output
 prints_rest stays key octets output rest read is p Eof ends read_out =
-    let whole : octets ≡ read = is ∙ ap (λ o. read ++ o) (read_out ends) ∙ append-nil read in subst (λ o. IsPrinted key o output) (sym whole) p
-prints_rest stays key octets output rest read is p (Shutdown restart) ends read_out = prints_ended stays key octets output rest read is p (λ eof. let e = sym ends ∙ eof in cc)
-prints_rest stays key octets output rest read is p (Wire fault) ends read_out = prints_ended stays key octets output rest read is p (λ eof. let e = sym ends ∙ eof in cc)
-prints_rest stays key octets output rest read is p (Failed fault) ends read_out = prints_ended stays key octets output rest read is p (λ eof. let e = sym ends ∙ eof in cc)
+    let whole : octets ≡ read = is ∙ ap (λ o. read ++ o) (read_out ends) ∙ append-nil read in
+    subst (λ o. IsPrinted key o output) (sym whole) p
+prints_rest stays key octets output rest read is p (Shutdown restart) ends read_out =
+    prints_ended stays key octets output rest read is p (λ eof. let e = sym ends ∙ eof in cc)
+prints_rest stays key octets output rest read is p (Wire fault) ends read_out =
+    prints_ended stays key octets output rest read is p (λ eof. let e = sym ends ∙ eof in cc)
+prints_rest stays key octets output rest read is p (Failed fault) ends read_out =
+    prints_ended stays key octets output rest read is p (λ eof. let e = sym ends ∙ eof in cc)
 
 -- the lines of the session with a peer that sends these octets
-pub prints_all : EndStays → (key octets output : List ℕ) (left' : Option (List ℕ)) → PrintsPeer key (Some octets) left' output → IsPrinted key octets output
+pub prints_all : EndStays → (key octets output : List ℕ) (left' : Option (List ℕ))
+    → PrintsPeer key (Some octets) left' output → IsPrinted key octets output
 prints_all stays key octets output None p = absurd p.taken
-prints_all stays key octets output (Some rest) p = prints_rest stays key octets output rest p.octets p.taken p.printed p.printed.ending refl p.read_out
+prints_all stays key octets output (Some rest) p = prints_rest stays key octets output rest p.octets p.taken p.printed
+    p.printed.ending refl p.read_out
 
-pub prints_all_ok : EndStays → (key octets : List ℕ) (left' : Option (List ℕ)) (result : Result (Vec ℕ) EngineFault) → IfOk result (λ lines. PrintsPeer key (Some octets) left' lines.items)
+pub prints_all_ok : EndStays → (key octets : List ℕ) (left' : Option (List ℕ)) (result : Result (Vec ℕ) EngineFault)
+    → IfOk result (λ lines. PrintsPeer key (Some octets) left' lines.items)
     → IfOk result (λ lines. IsPrinted key octets lines.items)
 prints_all_ok stays key octets left' (Ok lines) p = prints_all stays key octets lines.items left' p
 prints_all_ok stays key octets left' (Err fault) p = tt

@@ -33,7 +33,8 @@ empty_object = codes "{}"
 -- the message of this content under a key, behind a prefix, with the parent's header and the number of its id
 abbrev pub message_of : List ℕ → List (List ℕ) → List ℕ → ℕ → Content → Message
 message_of key prefix parent number content =
-    sealed key prefix (header_octets replay_session (replay_id number) replay_date (message_type_of content)) parent empty_object (content_text_of content) []
+    sealed key prefix (header_octets replay_session (replay_id number) replay_date (message_type_of content)) parent
+    empty_object (content_text_of content) []
 
 -- a message that is published: its topic is its type
 abbrev pub published : List ℕ → List ℕ → ℕ → Content → Message
@@ -45,7 +46,8 @@ starting key = published key empty_object 1 (Status Starting)
 
 -- the messages that are published for a request, from its first id on: the kernel is busy, and then idle
 abbrev pub block : List ℕ → ℕ → Envelope → List Message
-block key number request = published key request.header number (Status Busy) ∷ published key request.header (number + 1) (Status Idle) ∷ []
+block key number request = published key request.header number (Status Busy)
+    ∷ published key request.header (number + 1) (Status Idle) ∷ []
 
 -- what a request for the kernel's info is answered, by what is wrong with its content
 abbrev pub info_content : Option Malformed → Content
@@ -68,7 +70,8 @@ reply_content request = content_for (request_of request.msg_type) request
 -- the reply behind the request's identities, with the third id
 abbrev pub reply_with : List ℕ → ℕ → Envelope → Option Content → Option Message
 reply_with key number request None = None
-reply_with key number request (Some content) = Some (message_of key request.identities request.header (number + 2) content)
+reply_with key number request (Some content) = Some (message_of key request.identities request.header (number + 2)
+    content)
 
 -- the reply to a request, where it has one
 abbrev pub reply_of : List ℕ → ℕ → Envelope → Option Message

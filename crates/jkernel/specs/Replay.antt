@@ -17,7 +17,8 @@ status_code InputRefused = 6
 
 -- the line for a person on standard error, where an exit status has one
 abbrev pub status_words : ℕ → Option (List ℕ)
-status_words code = if code == 1 then Some (codes "jkernel: failed") else if code == 6 then Some (codes "jkernel: replay input refused") else None
+status_words code = if code == 1 then Some (codes "jkernel: failed") else if code == 6 then Some
+    (codes "jkernel: replay input refused") else None
 
 -- the peer's octets ended the session, and neither memory nor a device did
 abbrev pub IsPrintable : SessionEnd → Type 0
@@ -35,7 +36,8 @@ pub record PrintsPeer (key : List ℕ) (left left' : Option (List ℕ)) (output 
 
 -- All of the input was read, and its lines were added to the output.
 abbrev pub IsReplayed : List ℕ → Option (List ℕ) → Option (List ℕ) → Option (List ℕ) → Option (List ℕ) → Type 0
-IsReplayed key input left before after = IfSome input (λ octets. (left ≡ Some []) × ((output : List ℕ) × IsLines key octets output × Appends before after output))
+IsReplayed key input left before after = IfSome input (λ octets. (left ≡ Some [])
+    × ((output : List ℕ) × IsLines key octets output × Appends before after output))
 
 -- The input spells no octets.
 abbrev pub IsNotHex : Option (List ℕ) → Type 0

@@ -24,11 +24,13 @@ Serves key number (message ∷ messages) replies published =
     (IsDropped key message × Serves key number messages replies published)
     ⊎ ((request : Envelope) × (later_replies : List ℕ) × (later_published : List Message) × Opened key message request
     × Serves key (number + ids_of request) messages later_replies later_published
-    × (replies ≡ reply_text (reply_of key number request) ++ later_replies) × (published ≡ block key number request ++ later_published))
+    × (replies ≡ reply_text (reply_of key number request) ++ later_replies)
+    × (published ≡ block key number request ++ later_published))
 
 -- For all the octets that a peer sends: what the kernel writes to it, what it publishes, with ids from this number
 -- on, and how the session ends.
-pub record IsSession (key : List ℕ) (number : ℕ) (octets written : List ℕ) (published : List Message) (ending : SessionEnd) : Type 0 where
+pub record IsSession (key : List ℕ) (number : ℕ) (octets written : List ℕ) (published : List Message)
+    (ending : SessionEnd) : Type 0 where
   pub opening : List ℕ
   pub messages : List Message
   pub replies : List ℕ
@@ -54,10 +56,13 @@ pub record IsLines (key input output : List ℕ) : Type 0 where
 -- a session has one value: what is written, what is published and how it ends
 abbrev pub SessionHasOneValue : Type 0
 SessionHasOneValue =
-    (key : List ℕ) (number : ℕ) (octets written other_written : List ℕ) (published other_published : List Message) (ending other_ending : SessionEnd)
-    → IsSession key number octets written published ending → IsSession key number octets other_written other_published other_ending
+    (key : List ℕ) (number : ℕ) (octets written other_written : List ℕ) (published other_published : List Message)
+    (ending other_ending : SessionEnd)
+    → IsSession key number octets written published ending
+    → IsSession key number octets other_written other_published other_ending
     → (written ≡ other_written) × (published ≡ other_published) × (ending ≡ other_ending)
 
 -- an input has one text of lines at most
 abbrev pub LinesHaveOneValue : Type 0
-LinesHaveOneValue = (key input output other : List ℕ) → IsLines key input output → IsLines key input other → output ≡ other
+LinesHaveOneValue = (key input output other : List ℕ) → IsLines key input output → IsLines key input other → output
+    ≡ other

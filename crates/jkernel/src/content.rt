@@ -3,7 +3,9 @@
 ghost use Rattle.std.specs.Prelude.{◌≡◌, IfOk, OnOk, IsErrOf};
 ghost use Rattle.serde_json.specs.View.{view};
 ghost use Rattle.serde_json.specs.Written.{compact_text};
-ghost use Rattle.jkernel.specs.Content.{content_data, content_text_of, fault_number, judged_object, kernel_info_data, language_data, malformed_words, message_type_of, refusal_data, state_word, status_data, traceback_line};
+ghost use Rattle.jkernel.specs.Content.{content_data, content_text_of, fault_number, judged_object, kernel_info_data};
+ghost use Rattle.jkernel.specs.Content.{language_data, malformed_words, message_type_of, refusal_data, state_word};
+ghost use Rattle.jkernel.specs.Content.{status_data, traceback_line};
 
 use serde_json::{Value, json};
 use std::alloc::{AllocError, Global};

@@ -4,7 +4,8 @@ ghost use Rattle.std.specs.Prelude.{◌≡◌, ◌+◌, ◌++◌, ◌∷◌, ◌
 ghost use Rattle.listed.specs.Bodies.{bodies};
 ghost use Rattle.kernel_engine.specs.Fault.{IsAnswerFault};
 ghost use Rattle.jkernel.specs.Content.{judged_object};
-ghost use Rattle.jkernel.specs.Block.{replay_date, message_of, published, starting, block, reply_content, info_content, reply_of, ids_of};
+ghost use Rattle.jkernel.specs.Block.{replay_date, message_of, published, starting, block, reply_content, info_content};
+ghost use Rattle.jkernel.specs.Block.{reply_of, ids_of};
 
 use crate::content::{Content, ContentFault, State, content_text, message_type, read_object};
 use crate::request::Request;
@@ -64,7 +65,8 @@ impl Engine {
         request: Envelope,
     ) -> Result<Option<Frames>, EngineFault>
         ensures same { self.new.signer ≡ self.old.signer }
-        ensures block { OnOk result (self.new.published.items ≡ self.old.published.items ++ block self.old.signer self.old.next request) }
+        ensures block { OnOk result (self.new.published.items ≡ self.old.published.items
+            ++ block self.old.signer self.old.next request) }
         ensures reply { IfOk result (λ reply. reply ≡ reply_of self.old.signer self.old.next request) }
         ensures next { OnOk result (self.new.next ≡ self.old.next + ids_of request) }
         ensures fault { IfErr result (IsAnswerFault (2 ^ 62 < self.old.next)) }
@@ -95,7 +97,8 @@ impl Engine {
         content: Option<Content>,
     ) -> Result<Option<Frames>, EngineFault>
         requires { date.now ≡ replay_date }
-        ensures reply { IfOk result (λ reply. reply ≡ option_map (message_of self.now.signer request.identities request.header number) content) }
+        ensures reply { IfOk result (λ reply. reply ≡ option_map
+            (message_of self.now.signer request.identities request.header number) content) }
         ensures fault { IfErr result (λ fault. fault ≡ EngineFault.Memory) }
     {
         let Some(content) = content else {
@@ -117,7 +120,8 @@ impl Engine {
         state: State,
     ) -> Result<Vec<Vec<u8>>, EngineFault>
         requires { date.now ≡ replay_date }
-        ensures frames { IfOk result (λ frames. bodies frames.items ≡ published self.now.signer parent.now number (Content.Status state)) }
+        ensures frames { IfOk result (λ frames. bodies frames.items
+            ≡ published self.now.signer parent.now number (Content.Status state)) }
         ensures fault { IfErr result (λ fault. fault ≡ EngineFault.Memory) }
     {
         let content = Content::Status(state);
@@ -139,7 +143,8 @@ impl Engine {
         content: Content,
     ) -> Result<Vec<Vec<u8>>, EngineFault>
         requires { date.now ≡ replay_date }
-        ensures frames { IfOk result (λ frames. bodies frames.items ≡ message_of self.now.signer (bodies prefix.items) parent.items number content) }
+        ensures frames { IfOk result (λ frames. bodies frames.items
+            ≡ message_of self.now.signer (bodies prefix.items) parent.items number content) }
         ensures fault { IfErr result (λ fault. fault ≡ EngineFault.Memory) }
     {
         let id = self.stamp.id(alloc, number)?;

@@ -137,7 +137,8 @@ pub fn answer_peer<R: Inlet>(
     key: Vec<u8>,
     reader: &mut R,
 ) -> Result<Vec<u8>, EngineFault>
-    ensures { IfOk result (λ lines. PrintsPeer key.items (R.inflow reader.old).left (R.inflow reader.new).left lines.items) }
+    ensures { IfOk result (λ lines. PrintsPeer key.items (R.inflow reader.old).left (R.inflow reader.new).left
+        lines.items) }
 {
     let mut engine = Engine::new(alloc, Signer::new(key));
     engine.start(alloc)?;

@@ -1,5 +1,6 @@
 -- Frames and the parts that they are cut into.
-use Rattle.std.proofs.Common.{◌≡◌, ℕ, ◌+◌, List, [], ◌∷◌, ◌++◌, length, take, drop, Option, Some, sym, ap, ◌∙◌, append_assoc}
+use Rattle.std.proofs.Common.{◌≡◌, ℕ, ◌+◌, List, [], ◌∷◌, ◌++◌, length, take, drop, Option, Some, sym, ap, ◌∙◌}
+use Rattle.std.proofs.Common.{append_assoc}
 use Rattle.std.specs.Prelude.{position}
 use Rattle.std.specs.Global.{Vec}
 use Rattle.std.proofs.lemmas.List.{map-append, take-append-drop, length-map}
@@ -12,13 +13,15 @@ use Rattle.jmsg_envelope.proofs.Delimiters.{first_found, position-map}
 -- frames as they are taken off the end, one by one
 pub record IsTaken (frames : List (Vec ℕ)) (at : ℕ) (frame : Vec ℕ) (split : Split) : Type 0 where
   pub front : take (at + 6) frames
-      ≡ (((((split.identities.items ++ frame ∷ []) ++ split.signature ∷ []) ++ split.header ∷ []) ++ split.parent ∷ []) ++ split.metadata ∷ []) ++ split.content ∷ []
+      ≡ (((((split.identities.items ++ frame ∷ []) ++ split.signature ∷ []) ++ split.header ∷ []) ++ split.parent ∷ [])
+      ++ split.metadata ∷ []) ++ split.content ∷ []
   pub back : drop (at + 6) frames ≡ split.buffers.items
   pub place : length split.identities.items ≡ at
 
 -- the frames that were cut
 pub whole_cut : (frames : List (Vec ℕ)) (at : ℕ) (frame : Vec ℕ) (split : Split) → IsTaken frames at frame split
-    → bodies frames ≡ bodies split.identities.items ++ frame.items ∷ split.signature.items ∷ split.header.items ∷ split.parent.items
+    → bodies frames ≡ bodies split.identities.items ++ frame.items ∷ split.signature.items ∷ split.header.items
+    ∷ split.parent.items
     ∷ split.metadata.items ∷ split.content.items ∷ bodies split.buffers.items
 whole_cut frames at frame split taken =
     let joined = sym (take-append-drop (at + 6) frames) in
@@ -26,15 +29,19 @@ whole_cut frames at frame split taken =
     ap bodies cut ∙ simp (append_assoc, map-append)
 
 -- frames that were cut at the first delimiter
-pub IsSplit-from_taken : (frames : List (Vec ℕ)) (at : ℕ) (frame : Vec ℕ) (split : Split) → IsTaken frames at frame split
+pub IsSplit-from_taken : (frames : List (Vec ℕ)) (at : ℕ) (frame : Vec ℕ) (split : Split)
+    → IsTaken frames at frame split
     → position (λ f. is_delimiter f.items) frames ≡ Some at → IsSplit (bodies frames) (parts_of split)
 IsSplit-from_taken frames at frame split taken found =
     let whole = whole_cut frames at frame split taken in
-    let len : length (bodies split.identities.items) ≡ at = length-map split.identities.items (λ (f : Vec ℕ). f.items) ∙ taken.place in
-    let first = first_found (bodies frames) at (position-map is_delimiter (λ (f : Vec ℕ). f.items) frames ∙ found) (bodies split.identities.items)
+    let len : length (bodies split.identities.items) ≡ at = length-map split.identities.items (λ (f : Vec ℕ). f.items)
+    ∙ taken.place in
+    let first = first_found (bodies frames) at (position-map is_delimiter (λ (f : Vec ℕ). f.items) frames ∙ found)
+    (bodies split.identities.items)
     _ frame.items whole len in
     record {
-      whole = whole ∙ ap (λ (f : List ℕ). bodies split.identities.items ++ f ∷ split.signature.items ∷ split.header.items ∷ split.parent.items
+      whole = whole ∙ ap (λ (f : List ℕ). bodies split.identities.items ++ f ∷ split.signature.items
+          ∷ split.header.items ∷ split.parent.items
           ∷ split.metadata.items ∷ split.content.items ∷ bodies split.buffers.items) first.0;
       first = first.1;
     }

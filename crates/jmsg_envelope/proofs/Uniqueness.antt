@@ -2,18 +2,21 @@
 use Rattle.std.proofs.Common.{◌≡◌, ℕ, List, [], ◌∷◌, ◌++◌, length, Some, None, refl, sym, ap, ◌∙◌, arith, inl, inr, ◌⊎◌}
 use Rattle.std.specs.Prelude.{Contains}
 use Rattle.std.proofs.lemmas.List.Elements.{Contains-append_right}
-use Rattle.jmsg_envelope.specs.Envelope.{Parts, IsSplit, IsSigned, IsMissigned, IsTooShort, delimiter, parts_with, signature, lower_case}
+use Rattle.jmsg_envelope.specs.Envelope.{Parts, IsSplit, IsSigned, IsMissigned, IsTooShort, delimiter, parts_with}
+use Rattle.jmsg_envelope.specs.Envelope.{signature, lower_case}
 use Rattle.hex.specs.Hex.{encode_lower}
 use Rattle.jmsg_envelope.specs.Hmac.{hmac}
 use Rattle.jmsg_envelope.specs.Header.{header_names}
 use Rattle.jmsg_envelope.specs.Laws.{RefusedIsNotOpened, RefusedOnce, OpenedOnce, SealedIsOpened}
 use Rattle.jmsg_envelope.specs.declared.envelope.Envelope.{Envelope}
-use Rattle.jmsg_envelope.specs.declared.fault.EnvelopeFault.TheVariants.{NoDelimiter, TooFewParts, BadSignature, BadHeader, OutOfMemory}
+use Rattle.jmsg_envelope.specs.declared.fault.EnvelopeFault.TheVariants.{NoDelimiter, TooFewParts, BadSignature}
+use Rattle.jmsg_envelope.specs.declared.fault.EnvelopeFault.TheVariants.{BadHeader, OutOfMemory}
 use Rattle.jmsg_envelope.proofs.Delimiters.{Contains-head, Contains-tail}
 use Rattle.jmsg_envelope.proofs.HexCase.{lower-encode_lower}
 
 -- two lists around an element that stands in neither front are the same lists
-same_cut : (d : List ℕ) (xs ys front back : List (List ℕ)) → ¬ Contains xs d → ¬ Contains ys d → xs ++ d ∷ front ≡ ys ++ d ∷ back
+same_cut : (d : List ℕ) (xs ys front back : List (List ℕ)) → ¬ Contains xs d → ¬ Contains ys d → xs ++ d ∷ front ≡ ys
+    ++ d ∷ back
     → (xs ≡ ys) × (front ≡ back)
 same_cut d [] [] front back free clear h = (refl, cc h)
 same_cut d [] (y ∷ ys) front back free clear h =
@@ -25,11 +28,13 @@ same_cut d (x ∷ xs) [] front back free clear h =
 same_cut d (x ∷ xs) (y ∷ ys) front back free clear h =
     let head : x ≡ y = cc h in
     let rest : xs ++ d ∷ front ≡ ys ++ d ∷ back = cc h in
-    let same = same_cut d xs ys front back (λ c. free (Contains-tail x d xs c)) (λ c. clear (Contains-tail y d ys c)) rest in
+    let same = same_cut d xs ys front back (λ c. free (Contains-tail x d xs c)) (λ c. clear (Contains-tail y d ys c))
+    rest in
     (cc (head, same.0), same.1)
 
 -- parts are equal if their fields are
-Parts-equal : (p q : Parts) → p.identities ≡ q.identities → p.signature ≡ q.signature → p.header ≡ q.header → p.parent ≡ q.parent
+Parts-equal : (p q : Parts) → p.identities ≡ q.identities → p.signature ≡ q.signature → p.header ≡ q.header → p.parent
+    ≡ q.parent
     → p.metadata ≡ q.metadata → p.content ≡ q.content → p.buffers ≡ q.buffers → p ≡ q
 Parts-equal p q identities signature header parent metadata content buffers = λ i. record {
   identities = identities i;
@@ -42,7 +47,8 @@ Parts-equal p q identities signature header parent metadata content buffers = λ
 }
 
 -- envelopes are equal if their fields are
-Envelope-equal : (e f : Envelope) → e.identities ≡ f.identities → e.header ≡ f.header → e.msg_id ≡ f.msg_id → e.msg_type ≡ f.msg_type
+Envelope-equal : (e f : Envelope) → e.identities ≡ f.identities → e.header ≡ f.header → e.msg_id ≡ f.msg_id → e.msg_type
+    ≡ f.msg_type
     → e.parent ≡ f.parent → e.metadata ≡ f.metadata → e.content ≡ f.content → e.buffers ≡ f.buffers → e ≡ f
 Envelope-equal e f identities header msg_id msg_type parent metadata content buffers = λ i. record {
   identities = identities i;
@@ -76,7 +82,8 @@ has_delimiter_too_short frames h =
 -- frames that are split are not too few
 not_too_short : (frames : List (List ℕ)) (p : Parts) → IsSplit frames p → IsTooShort frames → ⊥
 not_too_short frames p h short =
-    let same = same_cut delimiter p.identities short.identities _ short.after h.first short.first (sym h.whole ∙ short.whole) in
+    let same = same_cut delimiter p.identities short.identities _ short.after h.first short.first
+    (sym h.whole ∙ short.whole) in
     let few = short.few in
     omega (arith, ap length same.1)
 
@@ -86,7 +93,8 @@ not_missigned key p q same (inl none) wrong = wrong.keyed none
 not_missigned key p q same (inr right) wrong = wrong.differs (rw same at right)
 
 -- a header does not name and name nothing
-not_nameless : (p q : Parts) → p ≡ q → (names : List ℕ × List ℕ) → header_names p.header ≡ Some names → header_names q.header ≡ None → ⊥
+not_nameless : (p q : Parts) → p ≡ q → (names : List ℕ × List ℕ) → header_names p.header ≡ Some names
+    → header_names q.header ≡ None → ⊥
 not_nameless p q same names some none =
     let here = ap (λ (r : Parts). header_names r.header) same in
     cc (some, none, here)
@@ -97,7 +105,8 @@ refused_is_not_opened_law key frames e TooFewParts h opened = not_too_short fram
 refused_is_not_opened_law key frames e BadSignature h opened =
     not_missigned key _ _ (same_parts frames _ _ opened.split h.split) opened.signed h.missigned
 refused_is_not_opened_law key frames e BadHeader h opened =
-    not_nameless (parts_with opened.digits e) h.parts (same_parts frames _ _ opened.split h.split) _ opened.named h.nameless
+    not_nameless (parts_with opened.digits e) h.parts (same_parts frames _ _ opened.split h.split) _ opened.named
+    h.nameless
 refused_is_not_opened_law key frames e OutOfMemory h opened = h
 
 pub refused_once_law : RefusedOnce
@@ -142,7 +151,8 @@ opened_once_law key frames e other h k =
     (ap (λ (p : Parts). p.buffers) same)
 
 -- the signature that is written is right
-signature-signed : (key : List ℕ) (octets : List ℕ) → (key ≡ []) ⊎ (lower_case (signature key octets) ≡ encode_lower (hmac key octets))
+signature-signed : (key : List ℕ) (octets : List ℕ) → (key ≡ [])
+    ⊎ (lower_case (signature key octets) ≡ encode_lower (hmac key octets))
 signature-signed [] octets = inl refl
 signature-signed (first ∷ rest) octets = inr (lower-encode_lower (hmac (first ∷ rest) octets))
 

@@ -6,7 +6,8 @@ use Rattle.jmsg_envelope.specs.Hmac.{hmac}
 use Rattle.jmsg_envelope.specs.Header.{header_names}
 use Rattle.jmsg_envelope.specs.declared.envelope.Envelope.{Envelope}
 use Rattle.jmsg_envelope.specs.declared.fault.EnvelopeFault.{EnvelopeFault}
-use Rattle.jmsg_envelope.specs.declared.fault.EnvelopeFault.TheVariants.{NoDelimiter, TooFewParts, BadSignature, BadHeader, OutOfMemory}
+use Rattle.jmsg_envelope.specs.declared.fault.EnvelopeFault.TheVariants.{NoDelimiter, TooFewParts, BadSignature}
+use Rattle.jmsg_envelope.specs.declared.fault.EnvelopeFault.TheVariants.{BadHeader, OutOfMemory}
 
 -- the frame between the identities and the signature
 abbrev pub delimiter : List ℕ
@@ -82,7 +83,8 @@ parts_with digits e = record {
   buffers = e.buffers;
 }
 
--- the frames are a message, rightly signed under the key, and the envelope has its parts and the id and type that its header names
+-- the frames are a message, rightly signed under the key, and the envelope has its parts and the id and type that its
+-- header names
 pub record Opened (key : List ℕ) (frames : List (List ℕ)) (e : Envelope) : Type 0 where
   pub digits : List ℕ
   pub split : IsSplit frames (parts_with digits e)

@@ -1,4 +1,5 @@
--- The header of a message ('Messaging in Jupyter' 5.3, "General Message Format"): what is read of it, and the one that is written.
+-- The header of a message ('Messaging in Jupyter' 5.3, "General Message Format"): what is read of it, and the one that
+-- is written.
 use Rattle.std.specs.Prelude.{ℕ, List, codes, Option, None, option_map, option_and_then, if◌then◌else◌}
 use Rattle.std.specs.Str.{is_utf8}
 use Rattle.serde_json.specs.Data.{Data, string, object, member, no_members}
@@ -12,7 +13,8 @@ text_at key value = option_and_then as_str (get key value)
 
 -- the message's id and its type, where the value is an object that has both as texts
 abbrev pub names_of : Data → Option (List ℕ × List ℕ)
-names_of value = option_and_then (λ id. option_map (λ kind. (id, kind)) (text_at (codes "msg_type") value)) (text_at (codes "msg_id") value)
+names_of value = option_and_then (λ id. option_map (λ kind. (id, kind)) (text_at (codes "msg_type") value))
+    (text_at (codes "msg_id") value)
 
 -- the message's id and its type in a header's octets, where these are JSON in UTF-8 (RFC 8259, section 8.1)
 -- that is an object and has both as texts

@@ -23,10 +23,12 @@ OpenedOnce =
     (key : List ℕ) (frames : List (List ℕ)) (e other : Envelope)
     → Opened key frames e → Opened key frames other → e ≡ other
 
--- what is sealed behind identities, with a header that names an id and a type, is opened under the same key as what it was made of
+-- what is sealed behind identities, with a header that names an id and a type, is opened under the same key as what it
+-- was made of
 abbrev pub SealedIsOpened : Type 0
 SealedIsOpened =
-    (key : List ℕ) (prefix : List (List ℕ)) (header parent metadata content : List ℕ) (buffers : List (List ℕ)) (id kind : List ℕ)
+    (key : List ℕ) (prefix : List (List ℕ)) (header parent metadata content : List ℕ) (buffers : List (List ℕ))
+    (id kind : List ℕ)
     → ¬ Contains prefix delimiter → header_names header ≡ Some (id, kind)
     → Opened key (sealed key prefix header parent metadata content buffers) record {
       identities = prefix;

@@ -1,5 +1,6 @@
 -- What comes first behind a peer's greeting.
-use Rattle.std.proofs.Common.{◌≡◌, ◌⊎◌, inl, inr, ℕ, List, [], ◌++◌, false, Option, Some, None, refl, sym, ◌∙◌, ap, subst, arith}
+use Rattle.std.proofs.Common.{◌≡◌, ◌⊎◌, inl, inr, ℕ, List, [], ◌++◌, false, Option, Some, None, refl, sym, ◌∙◌, ap}
+use Rattle.std.proofs.Common.{subst, arith}
 use Rattle.zmtp_wire.specs.declared.fault.WireFault.{WireFault}
 use Rattle.zmtp_wire.specs.declared.fault.WireFault.TheVariants.{OutOfMemory}
 use Rattle.zmtp_wire.specs.declared.traffic.Traffic.{Traffic}
@@ -22,11 +23,18 @@ pub record NothingFirst (old now : Inflow) (turns left : ℕ) (decoder : Decodin
   pub alive : decoder.spent ≡ false
   pub limits : decoder.limits ≡ usual_limits
 
-pub none_first : (old : Inflow) (turns : ℕ) (decoder : Decoding) → decoder ≡ fresh → NothingFirst old old turns turns decoder
-none_first old turns decoder is = rw is (record { leg = leg_none old turns; unfinished = nothing_unfinished usual_limits; alive = refl; limits = refl })
+pub none_first : (old : Inflow) (turns : ℕ) (decoder : Decoding) → decoder ≡ fresh
+    → NothingFirst old old turns turns decoder
+none_first old turns decoder is = rw is (record {
+  leg = leg_none old turns;
+  unfinished = nothing_unfinished usual_limits;
+  alive = refl;
+  limits = refl;
+})
 
 -- reading stops
-stop_brings : (octets : List ℕ) (end : SessionEnd) → IsStop end → IsUnfinished usual_limits octets → BringsNothing octets end
+stop_brings : (octets : List ℕ) (end : SessionEnd) → IsStop end → IsUnfinished usual_limits octets
+    → BringsNothing octets end
 stop_brings octets Eof stop unfinished = unfinished
 stop_brings octets (Shutdown restart) stop unfinished = absurd stop
 stop_brings octets (Wire fault) stop unfinished = absurd stop
@@ -36,32 +44,56 @@ stop_brings octets (Failed Write) stop unfinished = absurd stop
 stop_brings octets (Failed Turns) stop unfinished = unfinished
 stop_brings octets (Failed Worn) stop unfinished = absurd stop
 
-pub stopped_first : (one two three : Inflow) (turns middle left : ℕ) (decoder : Decoding) (end : SessionEnd) → NothingFirst one two turns middle decoder → IsStop end
-    → Reading two three middle left [] end → (octets : List ℕ) × BringsNothing octets end × Reading one three turns left octets end
-stopped_first one two three turns middle left decoder end so_far stop reading =
-    (decoder.kept, stop_brings decoder.kept end stop so_far.unfinished, stop_on one two three turns middle left decoder.kept end so_far.leg reading)
+pub stopped_first : (one two three : Inflow) (turns middle left : ℕ) (decoder : Decoding) (end : SessionEnd)
+    → NothingFirst one two turns middle decoder → IsStop end
+    → Reading two three middle left [] end → (octets : List ℕ) × BringsNothing octets end
+    × Reading one three turns left octets end
+stopped_first one two three turns middle left decoder end so_far stop reading = (
+  decoder.kept,
+  stop_brings decoder.kept end stop so_far.unfinished,
+  stop_on one two three turns middle left decoder.kept end so_far.leg reading,
+)
 
 -- a feed of what was kept is a feed of all
-fed_all : (old new : Decoding) (piece : List ℕ) (traffic : List Traffic) (fault : Option WireFault) → old.limits ≡ usual_limits → Feeds old piece traffic fault new → Feeds fresh (old.kept ++ piece) traffic fault new
-fed_all old new piece traffic None limits (read, unfinished, alive) = (subst (λ l. ReadsUpTo l (old.kept ++ piece) traffic new.kept) limits read, subst (λ l. IsUnfinished l new.kept) limits unfinished, alive)
-fed_all old new piece traffic (Some found) limits ((rest, read, refused), spent) =
-    ((rest, subst (λ l. ReadsUpTo l (old.kept ++ piece) traffic rest) limits read, subst (λ l. IsFaultOf l rest found) limits refused), spent)
+fed_all : (old new : Decoding) (piece : List ℕ) (traffic : List Traffic) (fault : Option WireFault) → old.limits
+    ≡ usual_limits → Feeds old piece traffic fault new → Feeds fresh (old.kept ++ piece) traffic fault new
+fed_all old new piece traffic None limits (read, unfinished, alive) = (
+  subst (λ l. ReadsUpTo l (old.kept ++ piece) traffic new.kept) limits read,
+  subst (λ l. IsUnfinished l new.kept) limits unfinished,
+  alive,
+)
+fed_all old new piece traffic (Some found) limits ((rest, read, refused), spent) = (
+  (
+    rest,
+    subst (λ l. ReadsUpTo l (old.kept ++ piece) traffic rest) limits read,
+    subst (λ l. IsFaultOf l rest found) limits refused,
+  ),
+  spent,
+)
 
-pub came_first : (one two three : Inflow) (turns middle left : ℕ) (old new : Decoding) (piece : List ℕ) (traffic : List Traffic) (fault : Option WireFault)
-    → NothingFirst one two turns middle old → Leg two three middle left piece → Feeds old piece traffic fault new → new.limits ≡ old.limits
-    → (octets : List ℕ) × (Feeds fresh octets traffic fault new × (new.limits ≡ usual_limits)) × Leg one three turns left octets
-came_first one two three turns middle left old new piece traffic fault so_far leg feeds same =
-    (old.kept ++ piece, (fed_all old new piece traffic fault so_far.limits feeds, same ∙ so_far.limits), leg_on one two three turns middle left old.kept piece so_far.leg leg)
+pub came_first : (one two three : Inflow) (turns middle left : ℕ) (old new : Decoding) (piece : List ℕ)
+    (traffic : List Traffic) (fault : Option WireFault)
+    → NothingFirst one two turns middle old → Leg two three middle left piece → Feeds old piece traffic fault new
+    → new.limits ≡ old.limits
+    → (octets : List ℕ) × (Feeds fresh octets traffic fault new × (new.limits ≡ usual_limits))
+    × Leg one three turns left octets
+came_first one two three turns middle left old new piece traffic fault so_far leg feeds same = (
+  old.kept ++ piece,
+  (fed_all old new piece traffic fault so_far.limits feeds, same ∙ so_far.limits),
+  leg_on one two three turns middle left old.kept piece so_far.leg leg,
+)
 
 -- what is read of octets as no traffic is all of them
 none_read : (octets rest : List ℕ) → ReadsUpTo usual_limits octets [] rest → octets ≡ rest
 none_read octets rest (front, is, none) = is ∙ ap (λ o. o ++ rest) none
 
-refused_brings : (octets rest : List ℕ) (fault : WireFault) → octets ≡ rest → IsFaultOf usual_limits rest fault → (fault ≡ OutOfMemory) ⊎ IsFaulty usual_limits octets fault
+refused_brings : (octets rest : List ℕ) (fault : WireFault) → octets ≡ rest → IsFaultOf usual_limits rest fault
+    → (fault ≡ OutOfMemory) ⊎ IsFaulty usual_limits octets fault
 refused_brings octets rest fault is (inl memory) = inl memory
 refused_brings octets rest fault is (inr faulty) = inr (subst (λ o. IsFaulty usual_limits o fault) (sym is) faulty)
 
-pub refused_first : (one two three : Inflow) (turns middle left : ℕ) (old new : Decoding) (piece : List ℕ) (fault : WireFault)
+pub refused_first : (one two three : Inflow) (turns middle left : ℕ) (old new : Decoding) (piece : List ℕ)
+    (fault : WireFault)
     → NothingFirst one two turns middle old → Leg two three middle left piece → Feeds old piece [] (Some fault) new
     → (octets : List ℕ) × BringsNothing octets (Wire fault) × Reading one three turns left octets (Wire fault)
 refused_first one two three turns middle left old new piece fault so_far leg feeds =
@@ -69,16 +101,25 @@ refused_first one two three turns middle left old new piece fault so_far leg fee
     let whole = leg_on one two three turns middle left old.kept piece so_far.leg leg in (
       old.kept ++ piece,
       refused_brings (old.kept ++ piece) rest fault (none_read (old.kept ++ piece) rest read) refused,
-      record { taken = whole.taken; draws = whole.draws; counted = whole.counted; few = omega (arith, whole.few); spent = tt; read_out = tt },
+      record {
+        taken = whole.taken;
+        draws = whole.draws;
+        counted = whole.counted;
+        few = omega (arith, whole.few);
+        spent = tt;
+        read_out = tt;
+      },
     )
 
 -- nothing came in this piece either
-pub nothing_first : (one two three : Inflow) (turns middle left : ℕ) (old new : Decoding) (piece : List ℕ) → NothingFirst one two turns middle old → Leg two three middle left piece
+pub nothing_first : (one two three : Inflow) (turns middle left : ℕ) (old new : Decoding) (piece : List ℕ)
+    → NothingFirst one two turns middle old → Leg two three middle left piece
     → Feeds old piece [] None new → new.limits ≡ old.limits → NothingFirst one three turns left new
 nothing_first one two three turns middle left old new piece so_far leg feeds same =
     let (read, unfinished, alive) = fed_all old new piece [] None so_far.limits feeds in
     record {
-      leg = subst (Leg one three turns left) (none_read (old.kept ++ piece) new.kept read) (leg_on one two three turns middle left old.kept piece so_far.leg leg);
+      leg = subst (Leg one three turns left) (none_read (old.kept ++ piece) new.kept read)
+          (leg_on one two three turns middle left old.kept piece so_far.leg leg);
       unfinished = unfinished;
       alive = alive;
       limits = same ∙ so_far.limits;

@@ -1,5 +1,6 @@
 -- What is heard of a peer has one value.
-use Rattle.std.proofs.Common.{◌≡◌, ◌≢◌, ◌⊎◌, inl, inr, ℕ, ◌<◌, ◌≤◌, List, [], ◌∷◌, ◌++◌, length, take, drop, Bool, true, false, Ok, Err, refl, sym, ◌∙◌, ap, subst, arith, append_assoc, length-append}
+use Rattle.std.proofs.Common.{◌≡◌, ◌≢◌, ◌⊎◌, inl, inr, ℕ, ◌<◌, ◌≤◌, List, [], ◌∷◌, ◌++◌, length, take, drop, Bool}
+use Rattle.std.proofs.Common.{true, false, Ok, Err, refl, sym, ◌∙◌, ap, subst, arith, append_assoc, length-append}
 use Rattle.std.specs.Prelude.{MatchBool}
 use Rattle.std.proofs.lemmas.List.{append-nil, take-append-le, drop-append-le}
 use Rattle.zmtp_wire.specs.declared.fault.WireFault.{WireFault}
@@ -9,23 +10,31 @@ use Rattle.zmtp_wire.specs.declared.socket_type.SocketType.{SocketType}
 use Rattle.zmtp_wire.specs.declared.traffic.Traffic.{Traffic}
 use Rattle.zmtp_wire.specs.Limits.{usual_limits}
 use Rattle.zmtp_wire.specs.Grammar.{Spells, ReadsUpTo, HasNoTraffic, IsFaulty}
-use Rattle.zmtp_wire.specs.Greeting.{IsGreeting, IsRefusedGreeting, HasSignature, HasVersion, HasNullMechanism, major_version}
+use Rattle.zmtp_wire.specs.Greeting.{IsGreeting, IsRefusedGreeting, HasSignature, HasVersion, HasNullMechanism}
+use Rattle.zmtp_wire.specs.Greeting.{major_version}
 use Rattle.zmtp_wire.specs.Ready.{IsReady, ReadyHasOneOutcome}
 use Rattle.kernel_engine.specs.declared.end.SessionEnd.{SessionEnd}
 use Rattle.kernel_engine.specs.declared.end.SessionEnd.TheVariants.{Eof, Shutdown, Wire, Failed}
-use Rattle.kernel_engine.specs.Peer.{Message, messages_in, has_error, EndsAs, EndsBehind, Says, IsGreeted, ComesFirst, IsTurnedAway, IsMet}
+use Rattle.kernel_engine.specs.Peer.{Message, messages_in, has_error, EndsAs, EndsBehind, Says, IsGreeted, ComesFirst}
+use Rattle.kernel_engine.specs.Peer.{IsTurnedAway, IsMet}
 use Rattle.kernel_engine.specs.Laws.{HearsOnce, MetOrTurnedAway, EndStays}
 use Rattle.kernel_engine.proofs.TrafficLemmas.{messages_to_error, error_stays}
 
 -- the laws of the layer below
 pub record Laws : Type 0 where
   pub front : (limits : Limits) (octets front others : List ℕ) (one other : Traffic) (rest after : List ℕ)
-      → octets ≡ front ++ rest → Spells limits front one → octets ≡ others ++ after → Spells limits others other → (one ≡ other) × (rest ≡ after)
-  pub goes_on : (limits : Limits) (octets : List ℕ) (one other : List Traffic) (rest others : List ℕ) → ReadsUpTo limits octets one rest → ReadsUpTo limits octets other others
-      → ((more : List Traffic) × (other ≡ one ++ more) × ReadsUpTo limits rest more others) ⊎ ((more : List Traffic) × (one ≡ other ++ more) × ReadsUpTo limits others more rest)
-  pub fault : (limits : Limits) (octets : List ℕ) (one other : WireFault) → IsFaulty limits octets one → IsFaulty limits octets other → one ≡ other
-  pub no_traffic : (limits : Limits) (octets : List ℕ) (fault : WireFault) → IsFaulty limits octets fault → HasNoTraffic limits octets
-  pub stays : (limits : Limits) (octets after : List ℕ) (fault : WireFault) → IsFaulty limits octets fault → IsFaulty limits (octets ++ after) fault
+      → octets ≡ front ++ rest → Spells limits front one → octets ≡ others ++ after → Spells limits others other
+      → (one ≡ other) × (rest ≡ after)
+  pub goes_on : (limits : Limits) (octets : List ℕ) (one other : List Traffic) (rest others : List ℕ)
+      → ReadsUpTo limits octets one rest → ReadsUpTo limits octets other others
+      → ((more : List Traffic) × (other ≡ one ++ more) × ReadsUpTo limits rest more others)
+      ⊎ ((more : List Traffic) × (one ≡ other ++ more) × ReadsUpTo limits others more rest)
+  pub fault : (limits : Limits) (octets : List ℕ) (one other : WireFault) → IsFaulty limits octets one
+      → IsFaulty limits octets other → one ≡ other
+  pub no_traffic : (limits : Limits) (octets : List ℕ) (fault : WireFault) → IsFaulty limits octets fault
+      → HasNoTraffic limits octets
+  pub stays : (limits : Limits) (octets after : List ℕ) (fault : WireFault) → IsFaulty limits octets fault
+      → IsFaulty limits (octets ++ after) fault
   pub ready : ReadyHasOneOutcome
 
 -- how a rest ends, which begins with no whole traffic then
@@ -33,7 +42,8 @@ ends_once : (laws : Laws) (rest : List ℕ) (one other : SessionEnd) → EndsAs 
 ends_once laws rest Eof Eof first second = refl
 ends_once laws rest Eof (Wire fault) first second = absurd (first.no_fault fault second)
 ends_once laws rest (Wire fault) Eof first second = absurd (second.no_fault fault first)
-ends_once laws rest (Wire fault) (Wire other) first second = ap Wire (laws.fault usual_limits rest fault other first second)
+ends_once laws rest (Wire fault) (Wire other) first second =
+    ap Wire (laws.fault usual_limits rest fault other first second)
 ends_once laws rest (Shutdown restart) other first second = absurd first
 ends_once laws rest (Failed fault) other first second = absurd first
 ends_once laws rest Eof (Shutdown restart) first second = absurd second
@@ -48,13 +58,16 @@ ends_without laws rest (Shutdown restart) h = absurd h
 ends_without laws rest (Failed fault) h = absurd h
 
 -- octets that begin with no whole traffic are read as none
-none_behind : (rest last : List ℕ) (more : List Traffic) → HasNoTraffic usual_limits rest → ReadsUpTo usual_limits rest more last → (more ≡ []) × (rest ≡ last)
+none_behind : (rest last : List ℕ) (more : List Traffic) → HasNoTraffic usual_limits rest
+    → ReadsUpTo usual_limits rest more last → (more ≡ []) × (rest ≡ last)
 none_behind rest last [] none (read, is, nothing) = (refl, is ∙ ap (λ o. o ++ last) nothing)
 none_behind rest last (first ∷ more) none (read, is, (head, tail, split, spelled, reads)) =
     absurd (none first head (tail ++ last) (is ∙ ap (λ o. o ++ last) split ∙ append_assoc head tail last) spelled)
 
-says_by : (laws : Laws) (one more : List Traffic) (rest last : List ℕ) (ending end : SessionEnd) (error : Bool) → has_error one ≡ error → ReadsUpTo usual_limits rest more last
-    → MatchBool error (ending ≡ Wire faults.PeerError) (EndsAs rest ending) → EndsBehind (one ++ more) last end → (messages_in one ≡ messages_in (one ++ more)) × (ending ≡ end)
+says_by : (laws : Laws) (one more : List Traffic) (rest last : List ℕ) (ending end : SessionEnd) (error : Bool)
+    → has_error one ≡ error → ReadsUpTo usual_limits rest more last
+    → MatchBool error (ending ≡ Wire faults.PeerError) (EndsAs rest ending) → EndsBehind (one ++ more) last end
+    → (messages_in one ≡ messages_in (one ++ more)) × (ending ≡ end)
 says_by laws one more rest last ending end true error reads first second =
     let still : has_error (one ++ more) ≡ true = error_stays one more error in
     let ends : end ≡ Wire faults.PeerError = rw still at second in
@@ -67,107 +80,158 @@ says_by laws one more rest last ending end false calm reads first second =
     (ap messages_in (sym whole), ends_once laws rest ending end first (subst (λ r. EndsAs r end) (sym same) ends'))
 
 -- what two readings say, of which one goes on
-says_on : (laws : Laws) (one more : List Traffic) (rest last : List ℕ) (ending end : SessionEnd) → ReadsUpTo usual_limits rest more last → EndsBehind one rest ending → EndsBehind (one ++ more) last end
+says_on : (laws : Laws) (one more : List Traffic) (rest last : List ℕ) (ending end : SessionEnd)
+    → ReadsUpTo usual_limits rest more last → EndsBehind one rest ending → EndsBehind (one ++ more) last end
     → (messages_in one ≡ messages_in (one ++ more)) × (ending ≡ end)
-says_on laws one more rest last ending end reads first second = says_by laws one more rest last ending end (has_error one) refl reads first second
+says_on laws one more rest last ending end reads first second =
+    says_by laws one more rest last ending end (has_error one) refl reads first second
 
-says_either : (laws : Laws) (octets : List ℕ) (messages others : List Message) (ending end : SessionEnd) (first : Says octets messages ending) (second : Says octets others end)
-    → ((more : List Traffic) × (second.traffic ≡ first.traffic ++ more) × ReadsUpTo usual_limits first.rest more second.rest)
-    ⊎ ((more : List Traffic) × (first.traffic ≡ second.traffic ++ more) × ReadsUpTo usual_limits second.rest more first.rest) → (messages ≡ others) × (ending ≡ end)
+says_either : (laws : Laws) (octets : List ℕ) (messages others : List Message) (ending end : SessionEnd)
+    (first : Says octets messages ending) (second : Says octets others end)
+    → ((more : List Traffic) × (second.traffic ≡ first.traffic ++ more)
+    × ReadsUpTo usual_limits first.rest more second.rest)
+    ⊎ ((more : List Traffic) × (first.traffic ≡ second.traffic ++ more)
+    × ReadsUpTo usual_limits second.rest more first.rest) → (messages ≡ others) × (ending ≡ end)
 says_either laws octets messages others ending end first second (inl (more, is, reads)) =
-    let (same, ends) = says_on laws first.traffic more first.rest second.rest ending end reads first.ends (subst (λ t. EndsBehind t second.rest end) is second.ends) in
+    let (same, ends) = says_on laws first.traffic more first.rest second.rest ending end reads first.ends
+    (subst (λ t. EndsBehind t second.rest end) is second.ends) in
     (first.said ∙ same ∙ ap messages_in (sym is) ∙ sym second.said, ends)
 says_either laws octets messages others ending end first second (inr (more, is, reads)) =
-    let (same, ends) = says_on laws second.traffic more second.rest first.rest end ending reads second.ends (subst (λ t. EndsBehind t first.rest ending) is first.ends) in
+    let (same, ends) = says_on laws second.traffic more second.rest first.rest end ending reads second.ends
+    (subst (λ t. EndsBehind t first.rest ending) is first.ends) in
     (first.said ∙ ap messages_in is ∙ sym same ∙ sym second.said, sym ends)
 
-says_once : (laws : Laws) (octets : List ℕ) (messages others : List Message) (ending end : SessionEnd) → Says octets messages ending → Says octets others end → (messages ≡ others) × (ending ≡ end)
+says_once : (laws : Laws) (octets : List ℕ) (messages others : List Message) (ending end : SessionEnd)
+    → Says octets messages ending → Says octets others end → (messages ≡ others) × (ending ≡ end)
 says_once laws octets messages others ending end first second =
-    says_either laws octets messages others ending end first second (laws.goes_on usual_limits octets first.traffic second.traffic first.rest second.rest first.read second.read)
+    says_either laws octets messages others ending end first second
+    (laws.goes_on usual_limits octets first.traffic second.traffic first.rest second.rest first.read second.read)
 
 -- a greeting that is refused isn't accepted, and is refused for one fault
 refused_greeting : (octets : List ℕ) (fault : WireFault) → IsRefusedGreeting octets fault → IsGreeting octets → ⊥
 refused_greeting octets faults.Signature refused accepted = refused accepted.signature
-refused_greeting octets faults.Version refused accepted = let v = accepted.version in let low = refused.1 in absurd (omega arith)
+refused_greeting octets faults.Version refused accepted = let v = accepted.version in let low = refused.1 in
+    absurd (omega arith)
 refused_greeting octets faults.Mechanism refused accepted = refused.2 accepted.mechanism
 refused_greeting octets _ refused accepted = refused
 
-unsigned_greeting : (octets : List ℕ) (fault : WireFault) → ¬ (HasSignature octets) → IsRefusedGreeting octets fault → faults.Signature ≡ fault
+unsigned_greeting : (octets : List ℕ) (fault : WireFault) → ¬ (HasSignature octets) → IsRefusedGreeting octets fault
+    → faults.Signature ≡ fault
 unsigned_greeting octets faults.Signature unsigned refused = refl
 unsigned_greeting octets faults.Version unsigned refused = absurd (unsigned refused.0)
 unsigned_greeting octets faults.Mechanism unsigned refused = absurd (unsigned refused.0)
 unsigned_greeting octets _ unsigned refused = absurd refused
 
-old_greeting : (octets : List ℕ) (fault : WireFault) → HasSignature octets → major_version octets < 3 → IsRefusedGreeting octets fault → faults.Version ≡ fault
+old_greeting : (octets : List ℕ) (fault : WireFault) → HasSignature octets → major_version octets < 3
+    → IsRefusedGreeting octets fault → faults.Version ≡ fault
 old_greeting octets faults.Signature signed old refused = absurd (refused signed)
 old_greeting octets faults.Version signed old refused = refl
 old_greeting octets faults.Mechanism signed old refused = absurd (let v = refused.1 in omega arith)
 old_greeting octets _ signed old refused = absurd refused
 
-other_greeting : (octets : List ℕ) (fault : WireFault) → HasSignature octets → HasVersion octets → ¬ (HasNullMechanism octets) → IsRefusedGreeting octets fault → faults.Mechanism ≡ fault
+other_greeting : (octets : List ℕ) (fault : WireFault) → HasSignature octets → HasVersion octets
+    → ¬ (HasNullMechanism octets) → IsRefusedGreeting octets fault → faults.Mechanism ≡ fault
 other_greeting octets faults.Signature signed version other refused = absurd (refused signed)
 other_greeting octets faults.Version signed version other refused = absurd (let v = refused.1 in omega arith)
 other_greeting octets faults.Mechanism signed version other refused = refl
 other_greeting octets _ signed version other refused = absurd refused
 
-greeting_fault_once : (octets : List ℕ) (one other : WireFault) → IsRefusedGreeting octets one → IsRefusedGreeting octets other → one ≡ other
+greeting_fault_once : (octets : List ℕ) (one other : WireFault) → IsRefusedGreeting octets one
+    → IsRefusedGreeting octets other → one ≡ other
 greeting_fault_once octets faults.Signature other first second = unsigned_greeting octets other first second
 greeting_fault_once octets faults.Version other first second = old_greeting octets other first.0 first.1 second
-greeting_fault_once octets faults.Mechanism other first second = other_greeting octets other first.0 first.1 first.2 second
+greeting_fault_once octets faults.Mechanism other first second =
+    other_greeting octets other first.0 first.1 first.2 second
 greeting_fault_once octets _ other first second = absurd first
 
 -- what comes first is one traffic
-first_once : (laws : Laws) (octets : List ℕ) (one other : Traffic) (rest after : List ℕ) → ComesFirst octets one rest → ComesFirst octets other after → (one ≡ other) × (rest ≡ after)
+first_once : (laws : Laws) (octets : List ℕ) (one other : Traffic) (rest after : List ℕ) → ComesFirst octets one rest
+    → ComesFirst octets other after → (one ≡ other) × (rest ≡ after)
 first_once laws octets one other rest after first second =
-    laws.front usual_limits (drop 64 octets) first.front second.front one other rest after first.split first.spelled second.split second.spelled
+    laws.front usual_limits (drop 64 octets) first.front second.front one other rest after first.split first.spelled
+    second.split second.spelled
 
-no_first : (laws : Laws) (octets : List ℕ) (first : Traffic) (rest : List ℕ) (end : SessionEnd) → ComesFirst octets first rest → EndsAs (drop 64 octets) end → ⊥
-no_first laws octets first rest end comes ends = ends_without laws (drop 64 octets) end ends first comes.front rest comes.split comes.spelled
+no_first : (laws : Laws) (octets : List ℕ) (first : Traffic) (rest : List ℕ) (end : SessionEnd)
+    → ComesFirst octets first rest → EndsAs (drop 64 octets) end → ⊥
+no_first laws octets first rest end comes ends = ends_without laws (drop 64 octets) end ends first comes.front rest
+    comes.split comes.spelled
 
 -- a peer that is turned away, in one way
-away_once : (laws : Laws) (ours : SocketType) (octets opening other : List ℕ) (ending end : SessionEnd) → IsTurnedAway ours octets opening ending → IsTurnedAway ours octets other end → (opening ≡ other) × (ending ≡ end)
-away_once laws ours octets opening other ending end (inl first) (inl second) = (first.greets ∙ sym second.greets, first.ends ∙ sym second.ends)
-away_once laws ours octets opening other ending end (inl first) (inr (inl second)) = absurd (let a = first.short in let b = second.whole in omega arith)
-away_once laws ours octets opening other ending end (inl first) (inr (inr (inl second))) = absurd (let a = first.short in let b = second.greeted.whole in omega arith)
-away_once laws ours octets opening other ending end (inl first) (inr (inr (inr second))) = absurd (let a = first.short in let b = second.greeted.whole in omega arith)
-away_once laws ours octets opening other ending end (inr (inl first)) (inl second) = absurd (let a = second.short in let b = first.whole in omega arith)
-away_once laws ours octets opening other ending end (inr (inr (inl first))) (inl second) = absurd (let a = second.short in let b = first.greeted.whole in omega arith)
-away_once laws ours octets opening other ending end (inr (inr (inr first))) (inl second) = absurd (let a = second.short in let b = first.greeted.whole in omega arith)
-away_once laws ours octets opening other ending end (inr (inl first)) (inr (inl second)) =
-    (first.greets ∙ sym second.greets, first.ends ∙ ap Wire (greeting_fault_once (take 64 octets) first.fault second.fault first.refused second.refused) ∙ sym second.ends)
-away_once laws ours octets opening other ending end (inr (inl first)) (inr (inr (inl second))) = absurd (refused_greeting (take 64 octets) first.fault first.refused second.greeted.accepted)
-away_once laws ours octets opening other ending end (inr (inl first)) (inr (inr (inr second))) = absurd (refused_greeting (take 64 octets) first.fault first.refused second.greeted.accepted)
-away_once laws ours octets opening other ending end (inr (inr (inl first))) (inr (inl second)) = absurd (refused_greeting (take 64 octets) second.fault second.refused first.greeted.accepted)
-away_once laws ours octets opening other ending end (inr (inr (inr first))) (inr (inl second)) = absurd (refused_greeting (take 64 octets) second.fault second.refused first.greeted.accepted)
-away_once laws ours octets opening other ending end (inr (inr (inl first))) (inr (inr (inl second))) =
-    (first.greeted.greets ∙ sym second.greeted.greets, ends_once laws (drop 64 octets) ending end first.ends second.ends)
-away_once laws ours octets opening other ending end (inr (inr (inl first))) (inr (inr (inr second))) = absurd (no_first laws octets second.first second.behind ending second.comes first.ends)
-away_once laws ours octets opening other ending end (inr (inr (inr first))) (inr (inr (inl second))) = absurd (no_first laws octets first.first first.behind end first.comes second.ends)
+away_once : (laws : Laws) (ours : SocketType) (octets opening other : List ℕ) (ending end : SessionEnd)
+    → IsTurnedAway ours octets opening ending → IsTurnedAway ours octets other end → (opening ≡ other) × (ending ≡ end)
+away_once laws ours octets opening other ending end (inl first) (inl second) =
+    (first.greets ∙ sym second.greets, first.ends ∙ sym second.ends)
+away_once laws ours octets opening other ending end (inl first) (inr (inl second)) =
+    absurd (let a = first.short in let b = second.whole in omega arith)
+away_once laws ours octets opening other ending end (inl first) (inr (inr (inl second))) =
+    absurd (let a = first.short in let b = second.greeted.whole in omega arith)
+away_once laws ours octets opening other ending end (inl first) (inr (inr (inr second))) =
+    absurd (let a = first.short in let b = second.greeted.whole in omega arith)
+away_once laws ours octets opening other ending end (inr (inl first)) (inl second) =
+    absurd (let a = second.short in let b = first.whole in omega arith)
+away_once laws ours octets opening other ending end (inr (inr (inl first))) (inl second) =
+    absurd (let a = second.short in let b = first.greeted.whole in omega arith)
+away_once laws ours octets opening other ending end (inr (inr (inr first))) (inl second) =
+    absurd (let a = second.short in let b = first.greeted.whole in omega arith)
+away_once laws ours octets opening other ending end (inr (inl first)) (inr (inl second)) = (
+  first.greets ∙ sym second.greets,
+  first.ends ∙ ap Wire
+      (greeting_fault_once (take 64 octets) first.fault second.fault first.refused second.refused) ∙ sym second.ends,
+)
+away_once laws ours octets opening other ending end (inr (inl first)) (inr (inr (inl second))) =
+    absurd (refused_greeting (take 64 octets) first.fault first.refused second.greeted.accepted)
+away_once laws ours octets opening other ending end (inr (inl first)) (inr (inr (inr second))) =
+    absurd (refused_greeting (take 64 octets) first.fault first.refused second.greeted.accepted)
+away_once laws ours octets opening other ending end (inr (inr (inl first))) (inr (inl second)) =
+    absurd (refused_greeting (take 64 octets) second.fault second.refused first.greeted.accepted)
+away_once laws ours octets opening other ending end (inr (inr (inr first))) (inr (inl second)) =
+    absurd (refused_greeting (take 64 octets) second.fault second.refused first.greeted.accepted)
+away_once laws ours octets opening other ending end (inr (inr (inl first))) (inr (inr (inl second))) = (
+  first.greeted.greets ∙ sym second.greeted.greets,
+  ends_once laws (drop 64 octets) ending end first.ends
+      second.ends,
+)
+away_once laws ours octets opening other ending end (inr (inr (inl first))) (inr (inr (inr second))) =
+    absurd (no_first laws octets second.first second.behind ending second.comes first.ends)
+away_once laws ours octets opening other ending end (inr (inr (inr first))) (inr (inr (inl second))) =
+    absurd (no_first laws octets first.first first.behind end first.comes second.ends)
 away_once laws ours octets opening other ending end (inr (inr (inr first))) (inr (inr (inr second))) =
-    let (same, rest) = first_once laws octets first.first second.first first.behind second.behind first.comes second.comes in
-    let refused : IsReady first.first ours (Err second.fault) = subst (λ t. IsReady t ours (Err second.fault)) (sym same) second.refused in
+    let (same, rest) = first_once laws octets first.first second.first first.behind second.behind first.comes
+    second.comes in
+    let refused : IsReady first.first ours (Err second.fault) =
+    subst (λ t. IsReady t ours (Err second.fault)) (sym same) second.refused in
     let outcome = laws.ready first.first ours (Err first.fault) (Err second.fault) first.refused refused in
     let fault : first.fault ≡ second.fault = cc in
     (first.greeted.greets ∙ sym second.greeted.greets, first.ends ∙ ap Wire fault ∙ sym second.ends)
 
 -- a peer that is met isn't turned away
 pub met_away : Laws → MetOrTurnedAway
-met_away laws ours octets opening other peer behind end met (inl away) = let a = away.short in let b = met.greeted.whole in absurd (omega arith)
-met_away laws ours octets opening other peer behind end met (inr (inl away)) = refused_greeting (take 64 octets) away.fault away.refused met.greeted.accepted
-met_away laws ours octets opening other peer behind end met (inr (inr (inl away))) = no_first laws octets met.first behind end met.comes away.ends
+met_away laws ours octets opening other peer behind end met (inl away) = let a = away.short in let b =
+    met.greeted.whole in absurd (omega arith)
+met_away laws ours octets opening other peer behind end met (inr (inl away)) =
+    refused_greeting (take 64 octets) away.fault away.refused met.greeted.accepted
+met_away laws ours octets opening other peer behind end met (inr (inr (inl away))) =
+    no_first laws octets met.first behind end met.comes away.ends
 met_away laws ours octets opening other peer behind end met (inr (inr (inr away))) =
     let (same, rest) = first_once laws octets met.first away.first behind away.behind met.comes away.comes in
-    let refused : IsReady met.first ours (Err away.fault) = subst (λ t. IsReady t ours (Err away.fault)) (sym same) away.refused in
-    let outcome = laws.ready met.first ours (Ok (record { peer = peer })) (Err away.fault) met.accepted refused in absurd cc
+    let refused : IsReady met.first ours (Err away.fault) =
+    subst (λ t. IsReady t ours (Err away.fault)) (sym same) away.refused in
+    let outcome = laws.ready met.first ours (Ok (record { peer = peer })) (Err away.fault) met.accepted refused in
+    absurd cc
 
 pub hears_once : Laws → HearsOnce
 hears_once laws ours octets opening other messages others ending end (inl (first, none)) (inl (second, nothing)) =
-    let (same, ends) = away_once laws ours octets opening other ending end first second in (same, none ∙ sym nothing, ends)
-hears_once laws ours octets opening other messages others ending end (inl (first, none)) (inr second) = absurd (met_away laws ours octets other opening second.peer second.behind ending second.met first)
-hears_once laws ours octets opening other messages others ending end (inr first) (inl (second, none)) = absurd (met_away laws ours octets opening other first.peer first.behind end first.met second)
+    let (same, ends) = away_once laws ours octets opening other ending end first second in
+    (same, none ∙ sym nothing, ends)
+hears_once laws ours octets opening other messages others ending end (inl (first, none)) (inr second) =
+    absurd (met_away laws ours octets other opening second.peer second.behind ending second.met first)
+hears_once laws ours octets opening other messages others ending end (inr first) (inl (second, none)) =
+    absurd (met_away laws ours octets opening other first.peer first.behind end first.met second)
 hears_once laws ours octets opening other messages others ending end (inr first) (inr second) =
-    let (same, rest) = first_once laws octets first.met.first second.met.first first.behind second.behind first.met.comes second.met.comes in
-    let (said, ends) = says_once laws first.behind messages others ending end first.says (subst (λ o. Says o others end) (sym rest) second.says) in
+    let (same, rest) = first_once laws octets first.met.first second.met.first first.behind second.behind
+    first.met.comes second.met.comes in
+    let (said, ends) = says_once laws first.behind messages others ending end first.says
+    (subst (λ o. Says o others end) (sym rest) second.says) in
     (first.met.greeted.greets ∙ sym second.met.greeted.greets, said, ends)
 
 -- more octets behind a peer's greeting
@@ -177,14 +241,16 @@ take_more octets after whole = take-append-le 64 octets after whole
 drop_more : (octets after : List ℕ) → 64 ≤ length octets → drop 64 (octets ++ after) ≡ drop 64 octets ++ after
 drop_more octets after whole = drop-append-le 64 octets after whole
 
-greeted_more : (ours : SocketType) (octets after opening : List ℕ) → IsGreeted ours octets opening → IsGreeted ours (octets ++ after) opening
+greeted_more : (ours : SocketType) (octets after opening : List ℕ) → IsGreeted ours octets opening
+    → IsGreeted ours (octets ++ after) opening
 greeted_more ours octets after opening h = record {
   whole = let w = h.whole in omega (arith, w, length-append octets after);
   accepted = subst IsGreeting (sym (take_more octets after h.whole)) h.accepted;
   greets = h.greets;
 }
 
-first_more : (octets after : List ℕ) (first : Traffic) (behind : List ℕ) → 64 ≤ length octets → ComesFirst octets first behind → ComesFirst (octets ++ after) first (behind ++ after)
+first_more : (octets after : List ℕ) (first : Traffic) (behind : List ℕ) → 64 ≤ length octets
+    → ComesFirst octets first behind → ComesFirst (octets ++ after) first (behind ++ after)
 first_more octets after first behind whole h = record {
   front = h.front;
   split = drop_more octets after whole ∙ ap (λ o. o ++ after) h.split ∙ append_assoc h.front behind after;
@@ -192,16 +258,20 @@ first_more octets after first behind whole h = record {
 }
 
 -- traffic and its rest, with more behind
-reads_more : (octets after : List ℕ) (traffic : List Traffic) (rest : List ℕ) → ReadsUpTo usual_limits octets traffic rest → ReadsUpTo usual_limits (octets ++ after) traffic (rest ++ after)
-reads_more octets after traffic rest (read, is, reads) = (read, ap (λ o. o ++ after) is ∙ append_assoc read rest after, reads)
+reads_more : (octets after : List ℕ) (traffic : List Traffic) (rest : List ℕ)
+    → ReadsUpTo usual_limits octets traffic rest → ReadsUpTo usual_limits (octets ++ after) traffic (rest ++ after)
+reads_more octets after traffic rest (read, is, reads) =
+    (read, ap (λ o. o ++ after) is ∙ append_assoc read rest after, reads)
 
-rest_more : (laws : Laws) (rest after : List ℕ) (ending : SessionEnd) → ending ≢ Eof → EndsAs rest ending → EndsAs (rest ++ after) ending
+rest_more : (laws : Laws) (rest after : List ℕ) (ending : SessionEnd) → ending ≢ Eof → EndsAs rest ending
+    → EndsAs (rest ++ after) ending
 rest_more laws rest after Eof ended ends = absurd (ended refl)
 rest_more laws rest after (Shutdown restart) ended ends = ends
 rest_more laws rest after (Wire fault) ended ends = laws.stays usual_limits rest after fault ends
 rest_more laws rest after (Failed fault) ended ends = ends
 
-ends_more : (laws : Laws) (rest after : List ℕ) (ending : SessionEnd) (error : Bool) → ending ≢ Eof → MatchBool error (ending ≡ Wire faults.PeerError) (EndsAs rest ending)
+ends_more : (laws : Laws) (rest after : List ℕ) (ending : SessionEnd) (error : Bool) → ending ≢ Eof
+    → MatchBool error (ending ≡ Wire faults.PeerError) (EndsAs rest ending)
     → MatchBool error (ending ≡ Wire faults.PeerError) (EndsAs (rest ++ after) ending)
 ends_more laws rest after ending true ended is = is
 ends_more laws rest after ending false ended ends = rest_more laws rest after ending ended ends
@@ -221,7 +291,8 @@ end_stays laws ours octets after opening messages ending ended (inl (inr (inl aw
 end_stays laws ours octets after opening messages ending ended (inl (inr (inr (inl away)), none)) = inl (
   inr (inr (inl (record {
     greeted = greeted_more ours octets after opening away.greeted;
-    ends = subst (λ o. EndsAs o ending) (sym (drop_more octets after away.greeted.whole)) (rest_more laws (drop 64 octets) after ending ended away.ends);
+    ends = subst (λ o. EndsAs o ending) (sym (drop_more octets after away.greeted.whole))
+        (rest_more laws (drop 64 octets) after ending ended away.ends);
   }))),
   none,
 )

@@ -1,5 +1,6 @@
 -- Reads and writes in turn.
-use Rattle.std.proofs.Common.{◌≡◌, ℕ, zero, suc, ◌+◌, List, [], ◌++◌, Option, Some, None, refl, sym, ◌∙◌, ap, arith, append_assoc, add-zero, add-suc, length-append}
+use Rattle.std.proofs.Common.{◌≡◌, ℕ, zero, suc, ◌+◌, List, [], ◌++◌, Option, Some, None, refl, sym, ◌∙◌, ap, arith}
+use Rattle.std.proofs.Common.{append_assoc, add-zero, add-suc, length-append}
 use Rattle.std.proofs.lemmas.List.{append-nil}
 use Rattle.std.specs.Io.KnownBytes.{Appends, Consumes}
 use Rattle.zmtp_wire.specs.Device.{Inflow, Outflow, Draws, Puts, risen, risen_by}
@@ -10,13 +11,15 @@ use Rattle.kernel_engine.specs.Steps.{Leg}
 -- a rise and another
 risen_on : (many more count : ℕ) → risen_by more (risen_by many count) ≡ risen_by (many + more) count
 risen_on many zero count = ap (λ n. risen_by n count) (sym (add-zero many))
-risen_on many (suc more) count = ap risen (risen_on many more count) ∙ ap (λ n. risen_by n count) (sym (add-suc many more))
+risen_on many (suc more) count = ap risen (risen_on many more count)
+    ∙ ap (λ n. risen_by n count) (sym (add-suc many more))
 
 consumes_none : (known : Option (List ℕ)) → Consumes known known []
 consumes_none None = tt
 consumes_none (Some octets) = refl
 
-consumes_on : (one two three : Option (List ℕ)) (first second : List ℕ) → Consumes one two first → Consumes two three second → Consumes one three (first ++ second)
+consumes_on : (one two three : Option (List ℕ)) (first second : List ℕ) → Consumes one two first
+    → Consumes two three second → Consumes one three (first ++ second)
 consumes_on None two three first second a b = tt
 consumes_on (Some x) None three first second a b = absurd a
 consumes_on (Some x) (Some y) None first second a b = absurd b
@@ -26,13 +29,15 @@ appends_none : (known : Option (List ℕ)) → Appends known known []
 appends_none None = tt
 appends_none (Some octets) = sym (append-nil octets)
 
-appends_on : (one two three : Option (List ℕ)) (first second : List ℕ) → Appends one two first → Appends two three second → Appends one three (first ++ second)
+appends_on : (one two three : Option (List ℕ)) (first second : List ℕ) → Appends one two first
+    → Appends two three second → Appends one three (first ++ second)
 appends_on None two three first second a b = tt
 appends_on (Some x) None three first second a b = absurd a
 appends_on (Some x) (Some y) None first second a b = absurd b
 appends_on (Some x) (Some y) (Some z) first second a b = b ∙ ap (λ o. o ++ second) a ∙ append_assoc x first second
 
-draws_on : (one two three : Inflow) (first second : List ℕ) (turns more fails : ℕ) → Draws one two first turns 0 → Draws two three second more fails
+draws_on : (one two three : Inflow) (first second : List ℕ) (turns more fails : ℕ) → Draws one two first turns 0
+    → Draws two three second more fails
     → Draws one three (first ++ second) (turns + more) fails
 draws_on one two three first second turns more fails a b = record {
   taken = consumes_on one.left two.left three.left first second a.taken b.taken;
@@ -42,10 +47,16 @@ draws_on one two three first second turns more fails a b = record {
 
 -- no read
 pub leg_none : (old : Inflow) (turns : ℕ) → Leg old old turns turns []
-leg_none old turns = record { taken = 0; draws = record { taken = consumes_none old.left; reads = refl; fails = refl }; counted = sym (add-zero turns); few = omega arith }
+leg_none old turns = record {
+  taken = 0;
+  draws = record { taken = consumes_none old.left; reads = refl; fails = refl };
+  counted = sym (add-zero turns);
+  few = omega arith;
+}
 
 -- a leg behind another
-pub leg_on : (one two three : Inflow) (turns middle left : ℕ) (first second : List ℕ) → Leg one two turns middle first → Leg two three middle left second → Leg one three turns left (first ++ second)
+pub leg_on : (one two three : Inflow) (turns middle left : ℕ) (first second : List ℕ) → Leg one two turns middle first
+    → Leg two three middle left second → Leg one three turns left (first ++ second)
 leg_on one two three turns middle left first second a b = record {
   taken = a.taken + b.taken;
   draws = draws_on one two three first second a.taken b.taken 0 a.draws b.draws;
@@ -54,7 +65,8 @@ leg_on one two three turns middle left first second a b = record {
 }
 
 -- a last leg behind another
-pub reading_on : (one two three : Inflow) (turns middle left : ℕ) (first second : List ℕ) (end : SessionEnd) → Leg one two turns middle first → Reading two three middle left second end
+pub reading_on : (one two three : Inflow) (turns middle left : ℕ) (first second : List ℕ) (end : SessionEnd)
+    → Leg one two turns middle first → Reading two three middle left second end
     → Reading one three turns left (first ++ second) end
 reading_on one two three turns middle left first second end a b = record {
   taken = a.taken + b.taken;
@@ -66,16 +78,19 @@ reading_on one two three turns middle left first second end a b = record {
 }
 
 -- reading that stopped behind a leg
-pub stop_on : (one two three : Inflow) (turns middle left : ℕ) (octets : List ℕ) (end : SessionEnd) → Leg one two turns middle octets → Reading two three middle left [] end
+pub stop_on : (one two three : Inflow) (turns middle left : ℕ) (octets : List ℕ) (end : SessionEnd)
+    → Leg one two turns middle octets → Reading two three middle left [] end
     → Reading one three turns left octets end
-stop_on one two three turns middle left octets end a b = rw (append-nil octets) at (reading_on one two three turns middle left octets [] end a b)
+stop_on one two three turns middle left octets end a b =
+    rw (append-nil octets) at (reading_on one two three turns middle left octets [] end a b)
 
 -- nothing was written
 pub puts_none : (old : Outflow) → Puts old old [] 0
 puts_none old = record { added = appends_none old.written; fails = refl }
 
 -- what is written behind what was written
-pub puts_on : (one two three : Outflow) (first second : List ℕ) (fails : ℕ) → Puts one two first 0 → Puts two three second fails → Puts one three (first ++ second) fails
+pub puts_on : (one two three : Outflow) (first second : List ℕ) (fails : ℕ) → Puts one two first 0
+    → Puts two three second fails → Puts one three (first ++ second) fails
 puts_on one two three first second fails a b = record {
   added = appends_on one.written two.written three.written first second a.added b.added;
   fails = b.fails ∙ ap (risen_by fails) a.fails;

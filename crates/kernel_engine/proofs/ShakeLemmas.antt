@@ -1,5 +1,7 @@
 -- Shaking hands, step by step.
-use Rattle.std.proofs.Common.{◌≡◌, inl, inr, ℕ, ◌<◌, List, [], ◌∷◌, ◌++◌, length, take, drop, Option, Some, None, Result, Ok, Err, IfOk, IfErr, refl, sym, ◌∙◌, ap, subst, arith, append_assoc, length-append}
+use Rattle.std.proofs.Common.{◌≡◌, inl, inr, ℕ, ◌<◌, List, [], ◌∷◌, ◌++◌, length, take, drop, Option, Some, None}
+use Rattle.std.proofs.Common.{Result, Ok, Err, IfOk, IfErr, refl, sym, ◌∙◌, ap, subst, arith, append_assoc}
+use Rattle.std.proofs.Common.{length-append}
 use Rattle.std.specs.Prelude.{⊤}
 use Rattle.std.proofs.lemmas.List.{append-nil, take_at, drop_at}
 use Rattle.zmtp_wire.specs.declared.fault.WireFault.{WireFault}
@@ -22,7 +24,8 @@ use Rattle.kernel_engine.proofs.Legs.{leg_none, leg_on, reading_on, puts_on}
 use Rattle.kernel_engine.proofs.Unfinished.{nothing_unfinished}
 
 -- reading that stopped leaves what was due
-pub stop_outcome : {State : Type 0} (IsWorn : State → Type 0) (Comes : List ℕ → List ℕ → State → SessionEnd → Type 0) (octets written : List ℕ) (new : State) (end : SessionEnd) → IsStop end
+pub stop_outcome : {State : Type 0} (IsWorn : State → Type 0) (Comes : List ℕ → List ℕ → State → SessionEnd → Type 0)
+    (octets written : List ℕ) (new : State) (end : SessionEnd) → IsStop end
     → Comes octets written new Eof → Outcome IsWorn Comes octets written new end
 stop_outcome IsWorn Comes octets written new Eof stop comes = comes
 stop_outcome IsWorn Comes octets written new (Shutdown restart) stop comes = absurd stop
@@ -33,7 +36,8 @@ stop_outcome IsWorn Comes octets written new (Failed Write) stop comes = absurd 
 stop_outcome IsWorn Comes octets written new (Failed Turns) stop comes = comes
 stop_outcome IsWorn Comes octets written new (Failed Worn) stop comes = absurd stop
 
-pub stop_puts : (before after : Outflow) (octets : List ℕ) (end : SessionEnd) → IsStop end → Puts before after octets 0 → Puts before after octets (failed_writes end)
+pub stop_puts : (before after : Outflow) (octets : List ℕ) (end : SessionEnd) → IsStop end → Puts before after octets 0
+    → Puts before after octets (failed_writes end)
 stop_puts before after octets Eof stop puts = puts
 stop_puts before after octets (Shutdown restart) stop puts = absurd stop
 stop_puts before after octets (Wire fault) stop puts = absurd stop
@@ -44,11 +48,13 @@ stop_puts before after octets (Failed Turns) stop puts = puts
 stop_puts before after octets (Failed Worn) stop puts = absurd stop
 
 -- a peer of whom less than a greeting was read
-silent : (ours : SocketType) (octets opening : List ℕ) → length octets < 64 → opening ≡ greeting_octets → IsTurnedAway ours octets opening Eof
+silent : (ours : SocketType) (octets opening : List ℕ) → length octets < 64 → opening ≡ greeting_octets
+    → IsTurnedAway ours octets opening Eof
 silent ours octets opening short is = inl (record { short = short; greets = is; ends = refl })
 
 -- our greeting couldn't be written
-pub greeting_unsent : (ours : SocketType) (inflow : Inflow) (before after : Outflow) (turns : ℕ) (octets : List ℕ) (end : SessionEnd) → octets ≡ greeting_octets → PutsAll before after octets (Err end)
+pub greeting_unsent : (ours : SocketType) (inflow : Inflow) (before after : Outflow) (turns : ℕ) (octets : List ℕ)
+    (end : SessionEnd) → octets ≡ greeting_octets → PutsAll before after octets (Err end)
     → Exchange (TurnsAway ours) inflow inflow before after turns turns tt end
 greeting_unsent ours inflow before after turns octets Eof same put = absurd put
 greeting_unsent ours inflow before after turns octets (Shutdown restart) same put = absurd put
@@ -62,31 +68,74 @@ greeting_unsent ours inflow before after turns octets (Failed Write) same (front
     record {
       read = [];
       written = front;
-      reading = record { taken = none.taken; draws = none.draws; counted = none.counted; few = omega (arith, none.few); spent = tt; read_out = tt };
+      reading = record {
+        taken = none.taken;
+        draws = none.draws;
+        counted = none.counted;
+        few = omega (arith, none.few);
+        spent = tt;
+        read_out = tt;
+      };
       puts = puts;
-      outcome = (lost, record { front = []; behind = []; split = refl; so_far = silent ours [] (front ++ lost) (omega arith) (sym is ∙ same) });
+      outcome = (
+        lost,
+        record {
+          front = [];
+          behind = [];
+          split = refl;
+          so_far = silent ours [] (front ++ lost) (omega arith) (sym is ∙ same);
+        },
+      );
     }
 
 -- no whole greeting was read
-pub greeting_stopped : (ours : SocketType) (inflow inflow' : Inflow) (before after : Outflow) (turns left : ℕ) (octets : List ℕ) (end : SessionEnd) → Puts before after greeting_octets 0
-    → IsStop end → length octets < 64 → Reading inflow inflow' turns left octets end → Exchange (TurnsAway ours) inflow inflow' before after turns left tt end
+pub greeting_stopped : (ours : SocketType) (inflow inflow' : Inflow) (before after : Outflow) (turns left : ℕ)
+    (octets : List ℕ) (end : SessionEnd) → Puts before after greeting_octets 0
+    → IsStop end → length octets < 64 → Reading inflow inflow' turns left octets end
+    → Exchange (TurnsAway ours) inflow inflow' before after turns left tt end
 greeting_stopped ours inflow inflow' before after turns left octets end puts stop short reading = record {
   read = octets;
   written = greeting_octets;
   reading = reading;
   puts = stop_puts before after greeting_octets end stop puts;
-  outcome = stop_outcome (λ (state : ⊤). ⊥) (λ octets written (state : ⊤) ending. IsTurnedAway ours octets written ending) octets greeting_octets tt end stop (silent ours octets greeting_octets short refl);
+  outcome = stop_outcome (λ (state : ⊤). ⊥) (λ octets written (state : ⊤) ending.
+      IsTurnedAway ours octets written ending) octets greeting_octets tt end stop
+      (silent ours octets greeting_octets short refl);
 }
 
 -- what was read so far ends nothing
-leg_wire : (inflow inflow' : Inflow) (turns left : ℕ) (octets : List ℕ) (fault : WireFault) → Leg inflow inflow' turns left octets → Reading inflow inflow' turns left octets (Wire fault)
-leg_wire inflow inflow' turns left octets fault leg = record { taken = leg.taken; draws = leg.draws; counted = leg.counted; few = omega (arith, leg.few); spent = tt; read_out = tt }
+leg_wire : (inflow inflow' : Inflow) (turns left : ℕ) (octets : List ℕ) (fault : WireFault)
+    → Leg inflow inflow' turns left octets → Reading inflow inflow' turns left octets (Wire fault)
+leg_wire inflow inflow' turns left octets fault leg = record {
+  taken = leg.taken;
+  draws = leg.draws;
+  counted = leg.counted;
+  few = omega (arith, leg.few);
+  spent = tt;
+  read_out = tt;
+}
 
-leg_memory : (inflow inflow' : Inflow) (turns left : ℕ) (octets : List ℕ) → Leg inflow inflow' turns left octets → Reading inflow inflow' turns left octets (Failed Memory)
-leg_memory inflow inflow' turns left octets leg = record { taken = leg.taken; draws = leg.draws; counted = leg.counted; few = omega (arith, leg.few); spent = tt; read_out = tt }
+leg_memory : (inflow inflow' : Inflow) (turns left : ℕ) (octets : List ℕ) → Leg inflow inflow' turns left octets
+    → Reading inflow inflow' turns left octets (Failed Memory)
+leg_memory inflow inflow' turns left octets leg = record {
+  taken = leg.taken;
+  draws = leg.draws;
+  counted = leg.counted;
+  few = omega (arith, leg.few);
+  spent = tt;
+  read_out = tt;
+}
 
-leg_write : (inflow inflow' : Inflow) (turns left : ℕ) (octets : List ℕ) → Leg inflow inflow' turns left octets → Reading inflow inflow' turns left octets (Failed Write)
-leg_write inflow inflow' turns left octets leg = record { taken = leg.taken; draws = leg.draws; counted = leg.counted; few = omega (arith, leg.few); spent = tt; read_out = tt }
+leg_write : (inflow inflow' : Inflow) (turns left : ℕ) (octets : List ℕ) → Leg inflow inflow' turns left octets
+    → Reading inflow inflow' turns left octets (Failed Write)
+leg_write inflow inflow' turns left octets leg = record {
+  taken = leg.taken;
+  draws = leg.draws;
+  counted = leg.counted;
+  few = omega (arith, leg.few);
+  spent = tt;
+  read_out = tt;
+}
 
 -- the greeting at the front of what was read
 pub front_64 : (opening octets : List ℕ) → length opening ≡ 64 → take 64 (opening ++ octets) ≡ opening
@@ -96,8 +145,10 @@ pub behind_64 : (opening octets : List ℕ) → length opening ≡ 64 → drop 6
 behind_64 opening octets whole = drop_at opening octets 64 whole
 
 -- the peer's greeting was refused
-pub greeting_refused : (ours : SocketType) (inflow inflow' : Inflow) (before after : Outflow) (turns left : ℕ) (opening : List ℕ) (fault : WireFault) → Puts before after greeting_octets 0
-    → length opening ≡ 64 → Leg inflow inflow' turns left opening → IsRefusedGreeting opening fault → Exchange (TurnsAway ours) inflow inflow' before after turns left tt (Wire fault)
+pub greeting_refused : (ours : SocketType) (inflow inflow' : Inflow) (before after : Outflow) (turns left : ℕ)
+    (opening : List ℕ) (fault : WireFault) → Puts before after greeting_octets 0
+    → length opening ≡ 64 → Leg inflow inflow' turns left opening → IsRefusedGreeting opening fault
+    → Exchange (TurnsAway ours) inflow inflow' before after turns left tt (Wire fault)
 greeting_refused ours inflow inflow' before after turns left opening fault puts whole leg refused =
     let same : take 64 opening ≡ opening = ap (take 64) (sym (append-nil opening)) ∙ front_64 opening [] whole in
     record {
@@ -115,18 +166,29 @@ greeting_refused ours inflow inflow' before after turns left opening fault puts 
     }
 
 -- there was no memory for our READY
-pub ready_refused : (ours : SocketType) (inflow inflow' : Inflow) (before after : Outflow) (turns left : ℕ) (opening : List ℕ) → Puts before after greeting_octets 0
-    → Leg inflow inflow' turns left opening → Exchange (TurnsAway ours) inflow inflow' before after turns left tt (Failed Memory)
+pub ready_refused : (ours : SocketType) (inflow inflow' : Inflow) (before after : Outflow) (turns left : ℕ)
+    (opening : List ℕ) → Puts before after greeting_octets 0
+    → Leg inflow inflow' turns left opening → Exchange (TurnsAway ours) inflow inflow' before after turns left tt
+    (Failed Memory)
 ready_refused ours inflow inflow' before after turns left opening puts leg = record {
   read = opening;
   written = greeting_octets;
   reading = leg_memory inflow inflow' turns left opening leg;
   puts = puts;
-  outcome = (tt, record { front = []; behind = opening; split = refl; so_far = silent ours [] greeting_octets (omega arith) refl });
+  outcome = (
+    tt,
+    record {
+      front = [];
+      behind = opening;
+      split = refl;
+      so_far = silent ours [] greeting_octets (omega arith) refl;
+    },
+  );
 }
 
 -- a peer whose greeting is accepted, and what stands behind it
-greeted : (ours : SocketType) (opening octets written : List ℕ) → length opening ≡ 64 → IsGreeting opening → written ≡ greeting_octets ++ ready_octets ours → IsGreeted ours (opening ++ octets) written
+greeted : (ours : SocketType) (opening octets written : List ℕ) → length opening ≡ 64 → IsGreeting opening → written
+    ≡ greeting_octets ++ ready_octets ours → IsGreeted ours (opening ++ octets) written
 greeted ours opening octets written whole accepted is = record {
   whole = omega (arith, whole, length-append opening octets);
   accepted = subst IsGreeting (sym (front_64 opening octets whole)) accepted;
@@ -134,7 +196,8 @@ greeted ours opening octets written whole accepted is = record {
 }
 
 -- nothing whole stands behind the peer's greeting
-not_ready : (ours : SocketType) (opening octets written : List ℕ) → length opening ≡ 64 → IsGreeting opening → written ≡ greeting_octets ++ ready_octets ours → IsUnfinished usual_limits octets
+not_ready : (ours : SocketType) (opening octets written : List ℕ) → length opening ≡ 64 → IsGreeting opening → written
+    ≡ greeting_octets ++ ready_octets ours → IsUnfinished usual_limits octets
     → IsTurnedAway ours (opening ++ octets) written Eof
 not_ready ours opening octets written whole accepted is unfinished = inr (inr (inl (record {
   greeted = greeted ours opening octets written whole accepted is;
@@ -142,41 +205,56 @@ not_ready ours opening octets written whole accepted is unfinished = inr (inr (i
 })))
 
 -- our READY couldn't be written
-pub ready_unsent : (ours : SocketType) (inflow inflow' : Inflow) (before middle after : Outflow) (turns left : ℕ) (opening octets : List ℕ) (end : SessionEnd) → octets ≡ ready_octets ours → Puts before middle greeting_octets 0
-    → length opening ≡ 64 → Leg inflow inflow' turns left opening → IsGreeting opening → PutsAll middle after octets (Err end)
+pub ready_unsent : (ours : SocketType) (inflow inflow' : Inflow) (before middle after : Outflow) (turns left : ℕ)
+    (opening octets : List ℕ) (end : SessionEnd) → octets ≡ ready_octets ours → Puts before middle greeting_octets 0
+    → length opening ≡ 64 → Leg inflow inflow' turns left opening → IsGreeting opening
+    → PutsAll middle after octets (Err end)
     → Exchange (TurnsAway ours) inflow inflow' before after turns left tt end
-ready_unsent ours inflow inflow' before middle after turns left opening octets Eof same puts whole leg accepted put = absurd put
-ready_unsent ours inflow inflow' before middle after turns left opening octets (Shutdown restart) same puts whole leg accepted put = absurd put
-ready_unsent ours inflow inflow' before middle after turns left opening octets (Wire fault) same puts whole leg accepted put = absurd put
-ready_unsent ours inflow inflow' before middle after turns left opening octets (Failed Memory) same puts whole leg accepted put = absurd put
-ready_unsent ours inflow inflow' before middle after turns left opening octets (Failed Worn) same puts whole leg accepted put = absurd put
-ready_unsent ours inflow inflow' before middle after turns left opening octets (Failed Read) same puts whole leg accepted put = absurd put
-ready_unsent ours inflow inflow' before middle after turns left opening octets (Failed Turns) same puts whole leg accepted put = absurd put
-ready_unsent ours inflow inflow' before middle after turns left opening octets (Failed Write) same puts whole leg accepted (front, lost, is, put) = record {
-  read = opening;
-  written = greeting_octets ++ front;
-  reading = leg_write inflow inflow' turns left opening leg;
-  puts = puts_on before middle after greeting_octets front 1 puts put;
-  outcome = (
-    lost,
-    record {
-      front = opening ++ [];
-      behind = [];
-      split = sym (append-nil (opening ++ []) ∙ append-nil opening);
-      so_far = not_ready ours opening [] ((greeting_octets ++ front) ++ lost) whole accepted (append_assoc greeting_octets front lost ∙ ap (λ o. greeting_octets ++ o) (sym is ∙ same)) (nothing_unfinished usual_limits);
-    },
-  );
-}
+ready_unsent ours inflow inflow' before middle after turns left opening octets Eof same puts whole leg accepted put =
+    absurd put
+ready_unsent ours inflow inflow' before middle after turns left opening octets (Shutdown restart) same puts whole leg
+    accepted put = absurd put
+ready_unsent ours inflow inflow' before middle after turns left opening octets (Wire fault) same puts whole leg accepted
+    put = absurd put
+ready_unsent ours inflow inflow' before middle after turns left opening octets (Failed Memory) same puts whole leg
+    accepted put = absurd put
+ready_unsent ours inflow inflow' before middle after turns left opening octets (Failed Worn) same puts whole leg
+    accepted put = absurd put
+ready_unsent ours inflow inflow' before middle after turns left opening octets (Failed Read) same puts whole leg
+    accepted put = absurd put
+ready_unsent ours inflow inflow' before middle after turns left opening octets (Failed Turns) same puts whole leg
+    accepted put = absurd put
+ready_unsent ours inflow inflow' before middle after turns left opening octets (Failed Write) same puts whole leg
+    accepted (front, lost, is, put) = record {
+      read = opening;
+      written = greeting_octets ++ front;
+      reading = leg_write inflow inflow' turns left opening leg;
+      puts = puts_on before middle after greeting_octets front 1 puts put;
+      outcome = (
+        lost,
+        record {
+          front = opening ++ [];
+          behind = [];
+          split = sym (append-nil (opening ++ []) ∙ append-nil opening);
+          so_far = not_ready ours opening [] ((greeting_octets ++ front) ++ lost) whole accepted
+              (append_assoc greeting_octets front lost ∙ ap (λ o. greeting_octets ++ o) (sym is ∙ same))
+              (nothing_unfinished usual_limits);
+        },
+      );
+    }
 
 -- a peer that was greeted, and what was read and written by then
-pub record Opened (ours : SocketType) (inflow inflow' : Inflow) (before after : Outflow) (turns left : ℕ) (opening : List ℕ) : Type 0 where
+pub record Opened (ours : SocketType) (inflow inflow' : Inflow) (before after : Outflow) (turns left : ℕ)
+    (opening : List ℕ) : Type 0 where
   pub whole : length opening ≡ 64
   pub leg : Leg inflow inflow' turns left opening
   pub accepted : IsGreeting opening
   pub puts : Puts before after (greeting_octets ++ ready_octets ours) 0
 
-pub opened : (ours : SocketType) (inflow inflow' : Inflow) (before middle after : Outflow) (turns left : ℕ) (opening : List ℕ) → length opening ≡ 64 → Leg inflow inflow' turns left opening
-    → IsGreeting opening → Puts before middle greeting_octets 0 → Puts middle after (ready_octets ours) 0 → Opened ours inflow inflow' before after turns left opening
+pub opened : (ours : SocketType) (inflow inflow' : Inflow) (before middle after : Outflow) (turns left : ℕ)
+    (opening : List ℕ) → length opening ≡ 64 → Leg inflow inflow' turns left opening
+    → IsGreeting opening → Puts before middle greeting_octets 0 → Puts middle after (ready_octets ours) 0
+    → Opened ours inflow inflow' before after turns left opening
 opened ours inflow inflow' before middle after turns left opening whole leg accepted first second = record {
   whole = whole;
   leg = leg;
@@ -184,7 +262,8 @@ opened ours inflow inflow' before middle after turns left opening whole leg acce
   puts = puts_on before middle after greeting_octets (ready_octets ours) 0 first second;
 }
 
-brings_puts : (before after : Outflow) (written octets : List ℕ) (end : SessionEnd) → BringsNothing octets end → Puts before after written 0 → Puts before after written (failed_writes end)
+brings_puts : (before after : Outflow) (written octets : List ℕ) (end : SessionEnd) → BringsNothing octets end
+    → Puts before after written 0 → Puts before after written (failed_writes end)
 brings_puts before after written octets Eof brings puts = puts
 brings_puts before after written octets (Shutdown restart) brings puts = absurd brings
 brings_puts before after written octets (Wire fault) brings puts = puts
@@ -194,9 +273,11 @@ brings_puts before after written octets (Failed Write) brings puts = absurd brin
 brings_puts before after written octets (Failed Turns) brings puts = puts
 brings_puts before after written octets (Failed Worn) brings puts = absurd brings
 
-brings_outcome : (ours : SocketType) (opening octets : List ℕ) (end : SessionEnd) → length opening ≡ 64 → IsGreeting opening → BringsNothing octets end
+brings_outcome : (ours : SocketType) (opening octets : List ℕ) (end : SessionEnd) → length opening ≡ 64
+    → IsGreeting opening → BringsNothing octets end
     → TurnsAway ours (opening ++ octets) (greeting_octets ++ ready_octets ours) tt end
-brings_outcome ours opening octets Eof whole accepted unfinished = not_ready ours opening octets (greeting_octets ++ ready_octets ours) whole accepted refl unfinished
+brings_outcome ours opening octets Eof whole accepted unfinished =
+    not_ready ours opening octets (greeting_octets ++ ready_octets ours) whole accepted refl unfinished
 brings_outcome ours opening octets (Shutdown restart) whole accepted brings = absurd brings
 brings_outcome ours opening octets (Wire fault) whole accepted (inl memory) = inl (
   memory,
@@ -204,7 +285,8 @@ brings_outcome ours opening octets (Wire fault) whole accepted (inl memory) = in
     front = opening ++ [];
     behind = octets;
     split = ap (λ o. o ++ octets) (sym (append-nil opening));
-    so_far = not_ready ours opening [] (greeting_octets ++ ready_octets ours) whole accepted refl (nothing_unfinished usual_limits);
+    so_far = not_ready ours opening [] (greeting_octets ++ ready_octets ours) whole accepted refl
+        (nothing_unfinished usual_limits);
   },
 )
 brings_outcome ours opening octets (Wire fault) whole accepted (inr faulty) = inr (inr (inr (inl (record {
@@ -212,14 +294,18 @@ brings_outcome ours opening octets (Wire fault) whole accepted (inr faulty) = in
   ends = subst (λ o. IsFaulty usual_limits o fault) (sym (behind_64 opening octets whole)) faulty;
 }))))
 brings_outcome ours opening octets (Failed Memory) whole accepted brings = absurd brings
-brings_outcome ours opening octets (Failed Read) whole accepted unfinished = not_ready ours opening octets (greeting_octets ++ ready_octets ours) whole accepted refl unfinished
+brings_outcome ours opening octets (Failed Read) whole accepted unfinished =
+    not_ready ours opening octets (greeting_octets ++ ready_octets ours) whole accepted refl unfinished
 brings_outcome ours opening octets (Failed Write) whole accepted brings = absurd brings
-brings_outcome ours opening octets (Failed Turns) whole accepted unfinished = not_ready ours opening octets (greeting_octets ++ ready_octets ours) whole accepted refl unfinished
+brings_outcome ours opening octets (Failed Turns) whole accepted unfinished =
+    not_ready ours opening octets (greeting_octets ++ ready_octets ours) whole accepted refl unfinished
 brings_outcome ours opening octets (Failed Worn) whole accepted brings = absurd brings
 
 -- nothing whole came behind the peer's greeting
-pub nothing_came : (ours : SocketType) (one two three : Inflow) (before after : Outflow) (turns middle left : ℕ) (opening octets : List ℕ) (end : SessionEnd)
-    → Opened ours one two before after turns middle opening → BringsNothing octets end → Reading two three middle left octets end
+pub nothing_came : (ours : SocketType) (one two three : Inflow) (before after : Outflow) (turns middle left : ℕ)
+    (opening octets : List ℕ) (end : SessionEnd)
+    → Opened ours one two before after turns middle opening → BringsNothing octets end
+    → Reading two three middle left octets end
     → Exchange (TurnsAway ours) one three before after turns left tt end
 nothing_came ours one two three before after turns middle left opening octets end o brings reading = record {
   read = opening ++ octets;
@@ -230,22 +316,28 @@ nothing_came ours one two three before after turns middle left opening octets en
 }
 
 -- the first traffic of octets that were fed, and what stands behind it
-record Split (octets : List ℕ) (first : Traffic) (others : List Traffic) (fault : Option WireFault) (decoder : Decoding) : Type 0 where
+record Split (octets : List ℕ) (first : Traffic) (others : List Traffic) (fault : Option WireFault) (decoder : Decoding)
+    : Type 0 where
   front : List ℕ
   behind : List ℕ
   split : octets ≡ front ++ behind
   spelled : Spells usual_limits front first
   feeds : Feeds fresh behind others fault decoder
 
-split_first : (octets : List ℕ) (first : Traffic) (others : List Traffic) (fault : Option WireFault) (decoder : Decoding) → Feeds fresh octets (first ∷ others) fault decoder → Split octets first others fault decoder
-split_first octets first others None decoder ((read, is, (head, tail, split, spelled, reads)), unfinished, alive) = record {
-  front = head;
-  behind = tail ++ decoder.kept;
-  split = is ∙ ap (λ o. o ++ decoder.kept) split ∙ append_assoc head tail decoder.kept;
-  spelled = spelled;
-  feeds = ((tail, refl, reads), unfinished, alive);
-}
-split_first octets first others (Some fault) decoder ((rest, (read, is, (head, tail, split, spelled, reads)), refused), spent) = record {
+split_first : (octets : List ℕ) (first : Traffic) (others : List Traffic) (fault : Option WireFault)
+    (decoder : Decoding) → Feeds fresh octets (first ∷ others) fault decoder → Split octets first others fault decoder
+split_first octets first others None decoder ((read, is, (head, tail, split, spelled, reads)), unfinished, alive) =
+    record {
+      front = head;
+      behind = tail ++ decoder.kept;
+      split = is ∙ ap (λ o. o ++ decoder.kept) split ∙ append_assoc head tail decoder.kept;
+      spelled = spelled;
+      feeds = ((tail, refl, reads), unfinished, alive);
+    }
+split_first octets first others (Some fault) decoder (
+  (rest, (read, is, (head, tail, split, spelled, reads)), refused),
+  spent,
+) = record {
   front = head;
   behind = tail ++ rest;
   split = is ∙ ap (λ o. o ++ rest) split ∙ append_assoc head tail rest;
@@ -254,12 +346,16 @@ split_first octets first others (Some fault) decoder ((rest, (read, is, (head, t
 }
 
 -- the peer was met
-pub peer_met : (ours : SocketType) (one two three : Inflow) (before after : Outflow) (turns middle left : ℕ) (opening octets : List ℕ) (fed fed' : Fed) (decoder : Decoding) (first : Traffic) (peer : SocketType)
-    → Opened ours one two before after turns middle opening → Leg two three middle left octets → IsFed fed decoder octets → fed.traffic ≡ first ∷ fed'.traffic → fed'.fault ≡ fed.fault
+pub peer_met : (ours : SocketType) (one two three : Inflow) (before after : Outflow) (turns middle left : ℕ)
+    (opening octets : List ℕ) (fed fed' : Fed) (decoder : Decoding) (first : Traffic) (peer : SocketType)
+    → Opened ours one two before after turns middle opening → Leg two three middle left octets
+    → IsFed fed decoder octets → fed.traffic ≡ first ∷ fed'.traffic → fed'.fault ≡ fed.fault
     → IsReady first ours (Ok (record { peer = peer })) → Meets ours one three before after turns left peer fed' decoder
-peer_met ours one two three before after turns middle left opening octets fed fed' decoder first peer o leg (feeds, limits) traffic_is fault_is accepted =
+peer_met ours one two three before after turns middle left opening octets fed fed' decoder first peer o leg
+    (feeds, limits) traffic_is fault_is accepted =
     let feeds' : Feeds fresh octets (first ∷ fed'.traffic) fed'.fault decoder =
-    subst (λ t. Feeds fresh octets t fed'.fault decoder) traffic_is (subst (λ f. Feeds fresh octets fed.traffic f decoder) (sym fault_is) feeds) in
+    subst (λ t. Feeds fresh octets t fed'.fault decoder) traffic_is
+    (subst (λ f. Feeds fresh octets fed.traffic f decoder) (sym fault_is) feeds) in
     let s = split_first octets first fed'.traffic fed'.fault decoder feeds' in
     record {
       read = opening ++ octets;
@@ -277,15 +373,21 @@ peer_met ours one two three before after turns middle left opening octets fed fe
     }
 
 -- the peer's first traffic was refused
-pub peer_refused : (ours : SocketType) (one two three : Inflow) (before after : Outflow) (turns middle left : ℕ) (opening octets : List ℕ) (fed : Fed) (decoder : Decoding) (first : Traffic) (others : List Traffic) (fault : WireFault)
-    → Opened ours one two before after turns middle opening → Leg two three middle left octets → IsFed fed decoder octets → fed.traffic ≡ first ∷ others
+pub peer_refused : (ours : SocketType) (one two three : Inflow) (before after : Outflow) (turns middle left : ℕ)
+    (opening octets : List ℕ) (fed : Fed) (decoder : Decoding) (first : Traffic) (others : List Traffic)
+    (fault : WireFault)
+    → Opened ours one two before after turns middle opening → Leg two three middle left octets
+    → IsFed fed decoder octets → fed.traffic ≡ first ∷ others
     → IsReady first ours (Err fault) → Exchange (TurnsAway ours) one three before after turns left tt (Wire fault)
-peer_refused ours one two three before after turns middle left opening octets fed decoder first others fault o leg (feeds, limits) traffic_is refused =
-    let s = split_first octets first others fed.fault decoder (subst (λ t. Feeds fresh octets t fed.fault decoder) traffic_is feeds) in
+peer_refused ours one two three before after turns middle left opening octets fed decoder first others fault o leg
+    (feeds, limits) traffic_is refused =
+    let s = split_first octets first others fed.fault decoder
+    (subst (λ t. Feeds fresh octets t fed.fault decoder) traffic_is feeds) in
     record {
       read = opening ++ octets;
       written = greeting_octets ++ ready_octets ours;
-      reading = leg_wire one three turns left (opening ++ octets) fault (leg_on one two three turns middle left opening octets o.leg leg);
+      reading = leg_wire one three turns left (opening ++ octets) fault
+          (leg_on one two three turns middle left opening octets o.leg leg);
       puts = o.puts;
       outcome = inr (inr (inr (inr (record {
         greeted = greeted ours opening octets (greeting_octets ++ ready_octets ours) o.whole o.accepted refl;
@@ -299,10 +401,12 @@ peer_refused ours one two three before after turns middle left opening octets fe
     }
 
 -- what holds of each outcome
-pub if_ok_map : {T E : Type 0} (result : Result T E) (One Other : T → Type 0) → IfOk result One → ((value : T) → One value → Other value) → IfOk result Other
+pub if_ok_map : {T E : Type 0} (result : Result T E) (One Other : T → Type 0) → IfOk result One
+    → ((value : T) → One value → Other value) → IfOk result Other
 if_ok_map (Ok value) One Other holds map = map value holds
 if_ok_map (Err fault) One Other holds map = tt
 
-pub if_err_map : {T E : Type 0} (result : Result T E) (One Other : E → Type 0) → IfErr result One → ((fault : E) → One fault → Other fault) → IfErr result Other
+pub if_err_map : {T E : Type 0} (result : Result T E) (One Other : E → Type 0) → IfErr result One
+    → ((fault : E) → One fault → Other fault) → IfErr result Other
 if_err_map (Ok value) One Other holds map = tt
 if_err_map (Err fault) One Other holds map = map fault holds

@@ -19,15 +19,22 @@ front_none [] (first ∷ rest) is = absurd cc
 front_none (first ∷ front) rest is = absurd cc
 
 no_spelling : (limits : Limits) (octets : List ℕ) (whole : Traffic) → octets ≡ [] → Spells limits octets whole → ⊥
-no_spelling limits octets (traffic.Message bodies) none spelled = let last = front_none (front_octets spelled.front) (frame_octets false false spelled.last) (sym none ∙ spelled.spelled) in let e = last.1 in absurd cc
+no_spelling limits octets (traffic.Message bodies) none spelled = let last =
+    front_none (front_octets spelled.front) (frame_octets false false spelled.last) (sym none ∙ spelled.spelled) in
+    let e = last.1 in absurd cc
 no_spelling limits octets (traffic.Command name rest) none spelled = let e = sym none ∙ spelled.spelled in absurd cc
 
-no_refusal : (limits : Limits) (before : List (List ℕ)) (octets : List ℕ) (fault : WireFault) → octets ≡ [] → IsRefused limits before octets fault → ⊥
+no_refusal : (limits : Limits) (before : List (List ℕ)) (octets : List ℕ) (fault : WireFault) → octets ≡ []
+    → IsRefused limits before octets fault → ⊥
 no_refusal limits before octets faults.Flags none (flags, after, is, bad) = let e = sym none ∙ is in absurd cc
-no_refusal limits before octets faults.TooManyFrames none (more, long, after, is, many) = let e = sym none ∙ is in absurd cc
-no_refusal limits before octets faults.FrameTooLong none (more, long, command, size, after, is, said, allowed, over) = let e = sym none ∙ is in absurd cc
-no_refusal limits before octets faults.MessageTooLong none (more, long, size, after, is, said, allowed, fits, over) = let e = sym none ∙ is in absurd cc
-no_refusal limits before octets faults.Command none (frame, after, is, said, first, fits, bad) = let e = sym none ∙ is in absurd cc
+no_refusal limits before octets faults.TooManyFrames none (more, long, after, is, many) = let e = sym none ∙ is in
+    absurd cc
+no_refusal limits before octets faults.FrameTooLong none (more, long, command, size, after, is, said, allowed, over) =
+    let e = sym none ∙ is in absurd cc
+no_refusal limits before octets faults.MessageTooLong none (more, long, size, after, is, said, allowed, fits, over) =
+    let e = sym none ∙ is in absurd cc
+no_refusal limits before octets faults.Command none (frame, after, is, said, first, fits, bad) = let e = sym none
+    ∙ is in absurd cc
 no_refusal limits before octets faults.Signature none never = never
 no_refusal limits before octets faults.Version none never = never
 no_refusal limits before octets faults.Mechanism none never = never
@@ -39,5 +46,6 @@ no_refusal limits before octets faults.OutOfMemory none never = never
 pub nothing_unfinished : (limits : Limits) → IsUnfinished limits []
 nothing_unfinished limits = record {
   no_traffic = λ whole front rest is spelled. no_spelling limits front whole (front_none front rest is).0 spelled;
-  no_fault = λ fault h. no_refusal limits (bodies_of h.front) h.rest fault (front_none (front_octets h.front) h.rest h.spelled).1 h.refused;
+  no_fault = λ fault h. no_refusal limits (bodies_of h.front) h.rest fault
+      (front_none (front_octets h.front) h.rest h.spelled).1 h.refused;
 }

@@ -70,7 +70,8 @@ pub record Reading (old new : Inflow) (turns left : ℕ) (octets : List ℕ) (en
   pub read_out : IsReadOut new.left end
 
 -- These octets were written: all that a beginning of the octets read comes to, in this state.
-pub record IsCut {State : Type 0} (Comes : List ℕ → List ℕ → State → SessionEnd → Type 0) (octets written : List ℕ) (state : State) : Type 0 where
+pub record IsCut {State : Type 0} (Comes : List ℕ → List ℕ → State → SessionEnd → Type 0) (octets written : List ℕ)
+    (state : State) : Type 0 where
   pub front : List ℕ
   pub behind : List ℕ
   pub split : octets ≡ front ++ behind
@@ -80,7 +81,8 @@ pub record IsCut {State : Type 0} (Comes : List ℕ → List ℕ → State → S
 -- what all of them come to. A read that failed and a want of turns leave it as it was so far. Where memory was
 -- refused, or the state is worn, all was written of what a beginning of the octets comes
 -- to; where a write failed, a beginning of that.
-abbrev pub Outcome : {State : Type 0} → (State → Type 0) → (List ℕ → List ℕ → State → SessionEnd → Type 0) → List ℕ → List ℕ → State → SessionEnd → Type 0
+abbrev pub Outcome : {State : Type 0} → (State → Type 0) → (List ℕ → List ℕ → State → SessionEnd → Type 0) → List ℕ
+    → List ℕ → State → SessionEnd → Type 0
 Outcome IsWorn Comes octets written new Eof = Comes octets written new Eof
 Outcome IsWorn Comes octets written new (Shutdown restart) = ⊥
 Outcome IsWorn Comes octets written new (Wire fault) =
@@ -89,11 +91,13 @@ Outcome IsWorn Comes octets written new (Failed Read) = Comes octets written new
 Outcome IsWorn Comes octets written new (Failed Turns) = Comes octets written new Eof
 Outcome IsWorn Comes octets written new (Failed Write) = (lost : List ℕ) × IsCut Comes octets (written ++ lost) new
 Outcome {State} IsWorn Comes octets written new (Failed Memory) = (state : State) × IsCut Comes octets written state
-Outcome {State} IsWorn Comes octets written new (Failed Worn) = (state : State) × IsWorn state × IsCut Comes octets written state
+Outcome {State} IsWorn Comes octets written new (Failed Worn) = (state : State) × IsWorn state
+    × IsCut Comes octets written state
 
 -- A whole exchange: what was read, what was written, and what the one comes to as the other. Any read may fail and
 -- any write may, and no end has both; so what is due is written before a read, and nothing behind one that failed.
-pub record Exchange {State : Type 0} (Comes : List ℕ → List ℕ → State → SessionEnd → Type 0) (inflow inflow' : Inflow) (outflow outflow' : Outflow) (turns left : ℕ) (new : State) (end : SessionEnd) : Type 0 where
+pub record Exchange {State : Type 0} (Comes : List ℕ → List ℕ → State → SessionEnd → Type 0) (inflow inflow' : Inflow)
+    (outflow outflow' : Outflow) (turns left : ℕ) (new : State) (end : SessionEnd) : Type 0 where
   pub read : List ℕ
   pub written : List ℕ
   pub reading : Reading inflow inflow' turns left read end

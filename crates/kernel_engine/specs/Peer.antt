@@ -1,5 +1,6 @@
 -- What is heard of a peer: whether it is met, which messages it sends, and how its octets end the connection.
-use Rattle.std.specs.Prelude.{◌≡◌, ◌⊎◌, ℕ, ◌<◌, ◌≤◌, List, [], ◌∷◌, ◌++◌, length, take, drop, Bool, true, false, Ok, Err, if◌then◌else◌, MatchBool}
+use Rattle.std.specs.Prelude.{◌≡◌, ◌⊎◌, ℕ, ◌<◌, ◌≤◌, List, [], ◌∷◌, ◌++◌, length, take, drop, Bool, true, false, Ok}
+use Rattle.std.specs.Prelude.{Err, if◌then◌else◌, MatchBool}
 use Rattle.zmtp_wire.specs.declared.fault.WireFault.{WireFault}
 use Rattle.zmtp_wire.specs.declared.fault.WireFault.TheVariants.{PeerError}
 use Rattle.zmtp_wire.specs.declared.socket_type.SocketType.{SocketType}
@@ -107,7 +108,8 @@ pub record IsMet (ours : SocketType) (octets opening : List ℕ) (peer : SocketT
   pub accepted : IsReady first ours (Ok (record { peer = peer }))
 
 -- a peer that is met says these messages
-pub record IsListenedTo (ours : SocketType) (octets opening : List ℕ) (messages : List Message) (ending : SessionEnd) : Type 0 where
+pub record IsListenedTo (ours : SocketType) (octets opening : List ℕ) (messages : List Message) (ending : SessionEnd)
+    : Type 0 where
   pub peer : SocketType
   pub behind : List ℕ
   pub met : IsMet ours octets opening peer behind

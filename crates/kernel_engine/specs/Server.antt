@@ -20,13 +20,15 @@ AnswersAll {Server} answers old (message ∷ messages) replies new =
     × AnswersAll answers middle messages later new × (replies ≡ reply ++ later)
 
 -- what octets behind a peer's READY say is answered
-pub record IsAnswered {Server : Type 0} (answers : Answering Server) (old : Server) (octets written : List ℕ) (new : Server) (ending : SessionEnd) : Type 0 where
+pub record IsAnswered {Server : Type 0} (answers : Answering Server) (old : Server) (octets written : List ℕ)
+    (new : Server) (ending : SessionEnd) : Type 0 where
   pub messages : List Message
   pub says : Says octets messages ending
   pub answered : AnswersAll answers old messages written new
 
 -- what is heard of a peer is answered, behind what opens the connection
-pub record IsServed {Server : Type 0} (answers : Answering Server) (ours : SocketType) (old : Server) (octets written : List ℕ) (new : Server) (ending : SessionEnd) : Type 0 where
+pub record IsServed {Server : Type 0} (answers : Answering Server) (ours : SocketType) (old : Server)
+    (octets written : List ℕ) (new : Server) (ending : SessionEnd) : Type 0 where
   pub opening : List ℕ
   pub messages : List Message
   pub replies : List ℕ
@@ -42,10 +44,13 @@ pub record IsEchoed (octets written : List ℕ) (ending : SessionEnd) : Type 0 w
   pub all : written ≡ opening ++ flat_map text messages
 
 -- what a peer that is served comes to, by the way it ended
-abbrev pub Serves : {Server : Type 0} → (Server → Type 0) → Answering Server → SocketType → Server → List ℕ → List ℕ → Server → SessionEnd → Type 0
-Serves IsWorn answers ours old octets written new end = Outcome IsWorn (IsServed answers ours old) octets written new end
+abbrev pub Serves : {Server : Type 0} → (Server → Type 0) → Answering Server → SocketType → Server → List ℕ → List ℕ
+    → Server → SessionEnd → Type 0
+Serves IsWorn answers ours old octets written new end =
+    Outcome IsWorn (IsServed answers ours old) octets written new end
 
 -- what a peer that is echoed comes to, by the way it ended
 abbrev pub Echoes : List ℕ → List ℕ → ⊤ → SessionEnd → Type 0
 Echoes octets written nothing end =
-    Outcome (λ (state : ⊤). ⊥) (λ octets written (state : ⊤) ending. IsEchoed octets written ending) octets written nothing end
+    Outcome (λ (state : ⊤). ⊥) (λ octets written (state : ⊤) ending. IsEchoed octets written ending) octets written
+    nothing end

@@ -1,5 +1,6 @@
 -- The steps of an exchange, by what each of them did.
-use Rattle.std.specs.Prelude.{◌≡◌, ◌⊎◌, ℕ, ◌+◌, ◌≤◌, List, [], ◌++◌, length, Bool, true, false, Result, Ok, Err, Option, Some, None, ⊤}
+use Rattle.std.specs.Prelude.{◌≡◌, ◌⊎◌, ℕ, ◌+◌, ◌≤◌, List, [], ◌++◌, length, Bool, true, false, Result, Ok, Err}
+use Rattle.std.specs.Prelude.{Option, Some, None, ⊤}
 use Rattle.zmtp_wire.specs.declared.fault.WireFault.{WireFault}
 use Rattle.zmtp_wire.specs.declared.fault.WireFault.TheVariants.{PeerError, OutOfMemory}
 use Rattle.zmtp_wire.specs.declared.socket_type.SocketType.{SocketType}
@@ -43,7 +44,8 @@ abbrev pub IsFed : Fed → Decoding → List ℕ → Type 0
 IsFed fed decoder octets = Feeds fresh octets fed.traffic fed.fault decoder × (decoder.limits ≡ usual_limits)
 
 -- one message was answered and written, or it was answered and a write failed, or it wasn't answered
-abbrev pub AnswersOne : {Server : Type 0} → (Server → Type 0) → Answering Server → Server → Message → Server → Outflow → Outflow → Result Unit SessionEnd → Type 0
+abbrev pub AnswersOne : {Server : Type 0} → (Server → Type 0) → Answering Server → Server → Message → Server → Outflow
+    → Outflow → Result Unit SessionEnd → Type 0
 AnswersOne IsWorn answers old message new before after (Ok done) =
     (octets : List ℕ) × answers old message octets new × Puts before after octets 0
 AnswersOne IsWorn answers old message new before after (Err Eof) = ⊥
@@ -57,7 +59,8 @@ AnswersOne IsWorn answers old message new before after (Err (Failed Write)) =
     (written : List ℕ) × (lost : List ℕ) × answers old message (written ++ lost) new × Puts before after written 1
 
 -- a beginning of the traffic was answered, and these octets were written of the answers
-pub record AnswersSome {Server : Type 0} (answers : Answering Server) (old : Server) (traffic : List Traffic) (state : Server) (before after : Outflow) (lost : List ℕ) (failures : ℕ) : Type 0 where
+pub record AnswersSome {Server : Type 0} (answers : Answering Server) (old : Server) (traffic : List Traffic)
+    (state : Server) (before after : Outflow) (lost : List ℕ) (failures : ℕ) : Type 0 where
   pub front : List Traffic
   pub behind : List Traffic
   pub split : traffic ≡ front ++ behind
@@ -67,15 +70,18 @@ pub record AnswersSome {Server : Type 0} (answers : Answering Server) (old : Ser
   pub puts : Puts before after written failures
 
 -- all of the traffic was answered, up to a command ERROR where there is one
-pub record AnswersWhole {Server : Type 0} (answers : Answering Server) (old : Server) (traffic : List Traffic) (new : Server) (before after : Outflow) (error : Bool) : Type 0 where
+pub record AnswersWhole {Server : Type 0} (answers : Answering Server) (old : Server) (traffic : List Traffic)
+    (new : Server) (before after : Outflow) (error : Bool) : Type 0 where
   pub written : List ℕ
   pub answered : AnswersAll answers old (messages_in traffic) written new
   pub puts : Puts before after written 0
   pub ends : has_error traffic ≡ error
 
 -- traffic was answered, and then the fault of its piece ends it, by how that ended
-abbrev pub AnswersFed : {Server : Type 0} → (Server → Type 0) → Answering Server → Server → List Traffic → Option WireFault → Server → Outflow → Outflow → Result Unit SessionEnd → Type 0
-AnswersFed IsWorn answers old traffic fault new before after (Ok done) = (fault ≡ None) × AnswersWhole answers old traffic new before after false
+abbrev pub AnswersFed : {Server : Type 0} → (Server → Type 0) → Answering Server → Server → List Traffic
+    → Option WireFault → Server → Outflow → Outflow → Result Unit SessionEnd → Type 0
+AnswersFed IsWorn answers old traffic fault new before after (Ok done) = (fault ≡ None)
+    × AnswersWhole answers old traffic new before after false
 AnswersFed IsWorn answers old traffic fault new before after (Err Eof) = ⊥
 AnswersFed IsWorn answers old traffic fault new before after (Err (Shutdown restart)) = ⊥
 AnswersFed IsWorn answers old traffic fault new before after (Err (Wire found)) =
@@ -100,10 +106,12 @@ PutsAll before after octets (Err (Failed Memory)) = ⊥
 PutsAll before after octets (Err (Failed Worn)) = ⊥
 PutsAll before after octets (Err (Failed Read)) = ⊥
 PutsAll before after octets (Err (Failed Turns)) = ⊥
-PutsAll before after octets (Err (Failed Write)) = (front : List ℕ) × (lost : List ℕ) × (octets ≡ front ++ lost) × Puts before after front 1
+PutsAll before after octets (Err (Failed Write)) = (front : List ℕ) × (lost : List ℕ) × (octets ≡ front ++ lost)
+    × Puts before after front 1
 
 -- hands were shaken with a peer: these octets were read and written, and these stand behind the peer's READY
-pub record Meets (ours : SocketType) (inflow inflow' : Inflow) (outflow outflow' : Outflow) (turns left : ℕ) (peer : SocketType) (fed : Fed) (decoder : Decoding) : Type 0 where
+pub record Meets (ours : SocketType) (inflow inflow' : Inflow) (outflow outflow' : Outflow) (turns left : ℕ)
+    (peer : SocketType) (fed : Fed) (decoder : Decoding) : Type 0 where
   pub read : List ℕ
   pub written : List ℕ
   pub behind : List ℕ
@@ -115,11 +123,14 @@ pub record Meets (ours : SocketType) (inflow inflow' : Inflow) (outflow outflow'
 -- what a peer that wasn't met comes to
 abbrev pub TurnsAway : SocketType → List ℕ → List ℕ → ⊤ → SessionEnd → Type 0
 TurnsAway ours octets written nothing end =
-    Outcome (λ (state : ⊤). ⊥) (λ octets written (state : ⊤) ending. IsTurnedAway ours octets written ending) octets written nothing end
+    Outcome (λ (state : ⊤). ⊥) (λ octets written (state : ⊤) ending. IsTurnedAway ours octets written ending) octets
+    written nothing end
 
 -- what octets behind a peer's READY come to, where these of them were read before
-abbrev pub HearsOn : {Server : Type 0} → (Server → Type 0) → Answering Server → Server → List ℕ → List ℕ → List ℕ → Server → SessionEnd → Type 0
-HearsOn IsWorn answers old before octets written new end = Outcome IsWorn (IsAnswered answers old) (before ++ octets) written new end
+abbrev pub HearsOn : {Server : Type 0} → (Server → Type 0) → Answering Server → Server → List ℕ → List ℕ → List ℕ
+    → Server → SessionEnd → Type 0
+HearsOn IsWorn answers old before octets written new end =
+    Outcome IsWorn (IsAnswered answers old) (before ++ octets) written new end
 
 -- octets behind a peer's greeting bring no whole traffic: reading stopped, or they are refused, or memory was
 abbrev pub BringsNothing : List ℕ → SessionEnd → Type 0
@@ -133,7 +144,9 @@ BringsNothing octets (Failed Turns) = IsUnfinished usual_limits octets
 BringsNothing octets (Failed Worn) = ⊥
 
 -- a piece was read, and what it brought was answered
-pub record HearsPiece {Server : Type 0} (IsWorn : Server → Type 0) (answers : Answering Server) (old new : Server) (decoder decoder' : Decoding) (inflow inflow' : Inflow) (before after : Outflow) (turns left : ℕ) (result : Result Unit SessionEnd) : Type 0 where
+pub record HearsPiece {Server : Type 0} (IsWorn : Server → Type 0) (answers : Answering Server) (old new : Server)
+    (decoder decoder' : Decoding) (inflow inflow' : Inflow) (before after : Outflow) (turns left : ℕ)
+    (result : Result Unit SessionEnd) : Type 0 where
   pub octets : List ℕ
   pub traffic : List Traffic
   pub fault : Option WireFault
@@ -143,7 +156,8 @@ pub record HearsPiece {Server : Type 0} (IsWorn : Server → Type 0) (answers : 
   pub answered : AnswersFed IsWorn answers old traffic fault new before after result
 
 -- no piece was read
-pub record HearsNone {Server : Type 0} (old new : Server) (inflow inflow' : Inflow) (before after : Outflow) (turns left : ℕ) (end : SessionEnd) : Type 0 where
+pub record HearsNone {Server : Type 0} (old new : Server) (inflow inflow' : Inflow) (before after : Outflow)
+    (turns left : ℕ) (end : SessionEnd) : Type 0 where
   pub stop : IsStop end
   pub reading : Reading inflow inflow' turns left [] end
   pub server : new ≡ old

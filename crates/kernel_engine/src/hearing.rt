@@ -27,7 +27,8 @@ pub fn hear<R: Inlet, W: Outlet, S: Server>(
     turns: u64,
 ) -> SessionEnd
     ensures { (before : List ℕ) → IsFed shaken.fed shaken.decoder before
-        → (left : ℕ) × Exchange (HearsOn S.is_worn S.answers server.old before) (R.inflow reader.old) (R.inflow reader.new)
+        → (left : ℕ) × Exchange (HearsOn S.is_worn S.answers server.old before) (R.inflow reader.old)
+        (R.inflow reader.new)
         (W.outflow writer.old) (W.outflow writer.new) turns left server.new result }
 {
     let Shaken {
@@ -69,12 +70,15 @@ fn hear_piece<R: Inlet, W: Outlet, S: Server>(
     turns: &mut u64,
 ) -> Result<(), SessionEnd>
     requires { 0 < length piece.old }
-    ensures ok { IfOk result (λ _. (turns.new < turns.old) × HearsPiece S.is_worn S.answers server.old server.new decoder.old decoder.new
-        (R.inflow reader.old) (R.inflow reader.new) (W.outflow writer.old) (W.outflow writer.new) turns.old turns.new result) }
+    ensures ok { IfOk result (λ _. (turns.new < turns.old)
+        × HearsPiece S.is_worn S.answers server.old server.new decoder.old decoder.new
+        (R.inflow reader.old) (R.inflow reader.new) (W.outflow writer.old) (W.outflow writer.new) turns.old turns.new
+        result) }
     ensures err { IfErr result (λ end. HearsNone server.old server.new (R.inflow reader.old) (R.inflow reader.new)
         (W.outflow writer.old) (W.outflow writer.new) turns.old turns.new end
         ⊎ HearsPiece S.is_worn S.answers server.old server.new decoder.old decoder.new
-        (R.inflow reader.old) (R.inflow reader.new) (W.outflow writer.old) (W.outflow writer.new) turns.old turns.new result) }
+        (R.inflow reader.old) (R.inflow reader.new) (W.outflow writer.old) (W.outflow writer.new) turns.old turns.new
+        result) }
 {
     let count = read_turn(reader, piece, turns)?;
     let (octets, _) = piece.split_at(count);
@@ -88,7 +92,8 @@ fn answer_fed<W: Outlet, S: Server>(
     server: &mut S,
     fed: Fed,
 ) -> Result<(), SessionEnd>
-    ensures { AnswersFed S.is_worn S.answers server.old fed.traffic fed.fault server.new (W.outflow writer.old) (W.outflow writer.new) result }
+    ensures { AnswersFed S.is_worn S.answers server.old fed.traffic fed.fault server.new (W.outflow writer.old)
+        (W.outflow writer.new) result }
 {
     let Fed { traffic, fault } = fed;
     answer_traffic(alloc, writer, server, traffic)?;
@@ -105,7 +110,8 @@ fn answer_traffic<W: Outlet, S: Server>(
     server: &mut S,
     traffic: Row<Traffic>,
 ) -> Result<(), SessionEnd>
-    ensures { AnswersFed S.is_worn S.answers server.old traffic None server.new (W.outflow writer.old) (W.outflow writer.new) result }
+    ensures { AnswersFed S.is_worn S.answers server.old traffic None server.new (W.outflow writer.old)
+        (W.outflow writer.new) result }
 {
     let mut reply = Vec::new(alloc);
     for item in traffic.into_vec() {
@@ -128,7 +134,8 @@ fn answer_message<W: Outlet, S: Server>(
     frames: Frames,
     reply: &mut Vec<u8>,
 ) -> Result<(), SessionEnd>
-    ensures { AnswersOne S.is_worn S.answers server.old frames server.new (W.outflow writer.old) (W.outflow writer.new) result }
+    ensures { AnswersOne S.is_worn S.answers server.old frames server.new (W.outflow writer.old) (W.outflow writer.new)
+        result }
 {
     reply.clear();
     match server.answer(alloc, frames, reply) {

@@ -21,7 +21,8 @@ pub fn serve<R: Inlet, W: Outlet, S: Server>(
     ours: SocketType,
     turns: u64,
 ) -> SessionEnd
-    ensures { (left : ℕ) × Exchange (Serves S.is_worn S.answers ours server.old) (R.inflow reader.old) (R.inflow reader.new)
+    ensures { (left : ℕ) × Exchange (Serves S.is_worn S.answers ours server.old) (R.inflow reader.old)
+        (R.inflow reader.new)
         (W.outflow writer.old) (W.outflow writer.new) turns left server.new result }
 {
     let mut left = turns;

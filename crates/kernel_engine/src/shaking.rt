@@ -127,7 +127,8 @@ fn read_first<R: Inlet>(
 fn meet(fed: Fed, decoder: Decoder, ours: SocketType) -> Result<Shaken, SessionEnd>
     requires { fed.traffic ≢ [] }
     ensures ok { IfOk result (λ shaken. (first : Traffic) × (fed.traffic ≡ first ∷ shaken.fed.traffic)
-        × (shaken.fed.fault ≡ fed.fault) × (shaken.decoder ≡ decoder) × IsReady first ours (Ok (record { peer = shaken.peer }))) }
+        × (shaken.fed.fault ≡ fed.fault) × (shaken.decoder ≡ decoder)
+        × IsReady first ours (Ok (record { peer = shaken.peer }))) }
     ensures err { IfErr result (λ end. (first : Traffic) × (others : List Traffic) × (fault : WireFault)
         × (fed.traffic ≡ first ∷ others) × IsReady first ours (Err fault) × (end ≡ SessionEnd.Wire fault)) }
 {

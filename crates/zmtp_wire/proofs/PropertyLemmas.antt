@@ -1,5 +1,6 @@
 -- The octets of a list of properties have one reading, and what was read so far says what is left to read.
-use Rattle.std.proofs.Common.{◌≡◌, ◌≢◌, ℕ, ◌^◌, ◌<◌, ◌≤◌, true, false, cond, List, [], ◌∷◌, ◌++◌, length, get_or, take, drop, Option, Some, None, refl, sym, ap, subst, ◌∙◌, append_assoc, arith, inl, inr}
+use Rattle.std.proofs.Common.{◌≡◌, ◌≢◌, ℕ, ◌^◌, ◌<◌, ◌≤◌, true, false, cond, List, [], ◌∷◌, ◌++◌, length, get_or, take}
+use Rattle.std.proofs.Common.{drop, Option, Some, None, refl, sym, ap, subst, ◌∙◌, append_assoc, arith, inl, inr}
 use Rattle.std.specs.Prelude.{find, codes}
 use Rattle.std.specs.Borrow.{Bor}
 use Rattle.std.specs.Option.{option_copied, option_map, option_or}
@@ -7,11 +8,13 @@ use Rattle.std.specs.Str.{str_eq_ignore_ascii_case, str_to_ascii_lowercase}
 use Rattle.std.proofs.lemmas.Slice.Eq.{bytes_eq-Decides}
 use Rattle.std.specs.Int.{w32, from_be_bytes, to_be_bytes}
 use Rattle.std.specs.List.{AllByRecursion, flat_map}
-use Rattle.std.proofs.lemmas.List.{take_at, drop_at, take-append-drop, length-take, get_or-take, get_or_past, append-nil}
+use Rattle.std.proofs.lemmas.List.{take_at, drop_at, take-append-drop, length-take, get_or-take, get_or_past}
+use Rattle.std.proofs.lemmas.List.{append-nil}
 use Rattle.std.proofs.lemmas.Bool.{cases_lt, false_from_ne_true}
 use Rattle.std.proofs.lemmas.Nat.{be_bytes_4, from_be_bytes-to_be_bytes_4}
 use Rattle.zmtp_wire.specs.Lengths.{short_text, long_text}
-use Rattle.zmtp_wire.specs.Ready.{Property, IsProperty, Properties, property_octets, is_socket_type, announced, BeginsWith, HasNoProperties}
+use Rattle.zmtp_wire.specs.Ready.{Property, IsProperty, Properties, property_octets, is_socket_type, announced}
+use Rattle.zmtp_wire.specs.Ready.{BeginsWith, HasNoProperties}
 
 -- ---- one text behind its length
 
@@ -30,17 +33,21 @@ same_short_text a b x y same =
     same_front a b x y len texts
 
 -- what a text behind four octets of length is
-same_long_text : (a b x y : List ℕ) → length a < 2 ^ 32 → length b < 2 ^ 32 → long_text a ++ x ≡ long_text b ++ y → (a ≡ b) × (x ≡ y)
+same_long_text : (a b x y : List ℕ) → length a < 2 ^ 32 → length b < 2 ^ 32 → long_text a ++ x ≡ long_text b ++ y
+    → (a ≡ b) × (x ≡ y)
 same_long_text a b x y fits_a fits_b same =
     let regrouped : to_be_bytes w32 (length a) ++ (a ++ x) ≡ to_be_bytes w32 (length b) ++ (b ++ y) =
     sym (append_assoc (to_be_bytes w32 (length a)) a x) ∙ same ∙ append_assoc (to_be_bytes w32 (length b)) b y in
     let parts = same_front (to_be_bytes w32 (length a)) (to_be_bytes w32 (length b)) (a ++ x) (b ++ y) refl regrouped in
     let len : length a ≡ length b =
-    sym (from_be_bytes-to_be_bytes_4 (length a) fits_a) ∙ ap (from_be_bytes w32) parts.0 ∙ from_be_bytes-to_be_bytes_4 (length b) fits_b in
+    sym (from_be_bytes-to_be_bytes_4 (length a) fits_a) ∙ ap (from_be_bytes w32) parts.0
+    ∙ from_be_bytes-to_be_bytes_4 (length b) fits_b in
     same_front a b x y len parts.1
 
 -- the four octets of a length, and what they say
-pub long_text_found : (octets size behind text rest : List ℕ) (n : ℕ) → ((i : ℕ) → get_or octets i 0 < 256) → 4 ≤ length octets → size ≡ take 4 octets → behind ≡ drop 4 octets → n ≡ from_be_bytes w32 size → length text ≡ n → behind ≡ text ++ rest → (length text < 2 ^ 32) × (octets ≡ long_text text ++ rest)
+pub long_text_found : (octets size behind text rest : List ℕ) (n : ℕ) → ((i : ℕ) → get_or octets i 0 < 256)
+    → 4 ≤ length octets → size ≡ take 4 octets → behind ≡ drop 4 octets → n ≡ from_be_bytes w32 size → length text ≡ n
+    → behind ≡ text ++ rest → (length text < 2 ^ 32) × (octets ≡ long_text text ++ rest)
 long_text_found octets size behind text rest n fits long size-is behind-is n-is len split =
     let size_fits : (i : ℕ) → get_or size i 0 < 256 = λ i. rw size-is (elim (cases_lt i 4) [
       | inl lt ↦ rw (get_or-take 4 octets i 0 lt) (fits i)
@@ -50,36 +57,52 @@ long_text_found octets size behind text rest n fits long size-is behind-is n-is 
     let below : n < 2 ^ 32 = omega (arith, n-is, size_fits 0, size_fits 1, size_fits 2, size_fits 3) in
     let size_again : to_be_bytes w32 n ≡ size = be_bytes_4 size n size_len size_fits n-is in
     let whole : octets ≡ to_be_bytes w32 n ++ (text ++ rest) =
-    sym (take-append-drop 4 octets) ∙ ap (λ (t : List ℕ). t ++ drop 4 octets) (sym size-is ∙ sym size_again) ∙ ap (λ (t : List ℕ). to_be_bytes w32 n ++ t) (sym behind-is ∙ split) in
-    (omega arith, whole ∙ ap (λ (k : ℕ). to_be_bytes w32 k ++ (text ++ rest)) (sym len) ∙ sym (append_assoc (to_be_bytes w32 (length text)) text rest))
+    sym (take-append-drop 4 octets) ∙ ap (λ (t : List ℕ). t ++ drop 4 octets) (sym size-is ∙ sym size_again)
+    ∙ ap (λ (t : List ℕ). to_be_bytes w32 n ++ t) (sym behind-is ∙ split) in (
+      omega arith,
+      whole ∙ ap (λ (k : ℕ). to_be_bytes w32 k ++ (text ++ rest)) (sym len)
+          ∙ sym (append_assoc (to_be_bytes w32 (length text)) text rest),
+    )
 
 -- ---- one property
 
 -- a property at the front, as its name and its value
-property_split : (p : Property) (rest : List ℕ) → property_octets p ++ rest ≡ short_text p.name ++ (long_text p.value ++ rest)
+property_split : (p : Property) (rest : List ℕ) → property_octets p ++ rest ≡ short_text p.name
+    ++ (long_text p.value ++ rest)
 property_split p rest = append_assoc (short_text p.name) (long_text p.value) rest
 
 -- the octets of a property are no front of another's
-same_property : (p q : Property) (x y : List ℕ) → IsProperty p → IsProperty q → property_octets p ++ x ≡ property_octets q ++ y → (p ≡ q) × (x ≡ y)
+same_property : (p q : Property) (x y : List ℕ) → IsProperty p → IsProperty q → property_octets p ++ x
+    ≡ property_octets q ++ y → (p ≡ q) × (x ≡ y)
 same_property p q x y is_p is_q same =
-    let names = same_short_text p.name q.name (long_text p.value ++ x) (long_text q.value ++ y) (sym (property_split p x) ∙ same ∙ property_split q y) in
-    let values = same_long_text p.value q.value x y is_p.value_fits is_q.value_fits names.1 in
-    (ap (λ (n : List ℕ). record { name = n; value = p.value }) names.0 ∙ ap (λ (v : List ℕ). record { name = q.name; value = v }) values.0, values.1)
+    let names = same_short_text p.name q.name (long_text p.value ++ x) (long_text q.value ++ y)
+    (sym (property_split p x) ∙ same ∙ property_split q y) in
+    let values = same_long_text p.value q.value x y is_p.value_fits is_q.value_fits names.1 in (
+      ap (λ (n : List ℕ). record { name = n; value = p.value }) names.0
+          ∙ ap (λ (v : List ℕ). record { name = q.name; value = v }) values.0,
+      values.1,
+    )
 
 -- with a name at the front and no value behind it, no property begins there
-pub no_value : (octets name behind : List ℕ) → octets ≡ short_text name ++ behind → ((text rest : List ℕ) → length text < 2 ^ 32 → behind ≢ long_text text ++ rest) → (p : Property) (rest : List ℕ) → ¬ (BeginsWith octets p rest)
+pub no_value : (octets name behind : List ℕ) → octets ≡ short_text name ++ behind
+    → ((text rest : List ℕ) → length text < 2 ^ 32 → behind ≢ long_text text ++ rest) → (p : Property) (rest : List ℕ)
+    → ¬ (BeginsWith octets p rest)
 no_value octets name behind split none p rest begins =
-    let names = same_short_text name p.name behind (long_text p.value ++ rest) (sym split ∙ begins.1 ∙ property_split p rest) in
+    let names = same_short_text name p.name behind (long_text p.value ++ rest)
+    (sym split ∙ begins.1 ∙ property_split p rest) in
     none p.value rest begins.0.value_fits names.1
 
 -- ---- a list of properties
 
 -- the octets of properties in a row, up to where the first list ends
-after : (ps qs : List Property) (left : List ℕ) → AllByRecursion IsProperty ps → AllByRecursion IsProperty qs → flat_map property_octets ps ++ left ≡ flat_map property_octets qs → (more : List Property) × (qs ≡ ps ++ more) × Properties left more
+after : (ps qs : List Property) (left : List ℕ) → AllByRecursion IsProperty ps → AllByRecursion IsProperty qs
+    → flat_map property_octets ps ++ left ≡ flat_map property_octets qs → (more : List Property) × (qs ≡ ps ++ more)
+    × Properties left more
 after [] qs left are_ps are_qs same = (qs, refl, (same, are_qs))
 after (p ∷ ps) [] left are_ps are_qs same = absurd cc
 after (p ∷ ps) (q ∷ qs) left are_ps are_qs same =
-    let heads = same_property p q (flat_map property_octets ps ++ left) (flat_map property_octets qs) are_ps.0 are_qs.0 (sym (append_assoc (property_octets p) (flat_map property_octets ps) left) ∙ same) in
+    let heads = same_property p q (flat_map property_octets ps ++ left) (flat_map property_octets qs) are_ps.0 are_qs.0
+    (sym (append_assoc (property_octets p) (flat_map property_octets ps) left) ∙ same) in
     let tails = after ps qs left are_ps.1 are_qs.1 heads.1 in
     (tails.0, ap (λ (r : Property). r ∷ qs) (sym heads.0) ∙ ap (λ (rs : List Property). p ∷ rs) tails.1, tails.2)
 
@@ -107,12 +130,14 @@ abbrev pub IsSocketTypeName : List ℕ → Type 0
 IsSocketTypeName name = str_to_ascii_lowercase name ≡ str_to_ascii_lowercase (codes "Socket-Type")
 
 -- properties, and one more
-All_push : (ps : List Property) (p : Property) → AllByRecursion IsProperty ps → IsProperty p → AllByRecursion IsProperty (ps ++ p ∷ [])
+All_push : (ps : List Property) (p : Property) → AllByRecursion IsProperty ps → IsProperty p
+    → AllByRecursion IsProperty (ps ++ p ∷ [])
 All_push [] p are is = (is, tt)
 All_push (q ∷ ps) p are is = (are.0, All_push ps p are.1 is)
 
 -- the octets of one property more
-octets_push : (ps : List Property) (p : Property) (rest : List ℕ) → flat_map property_octets ps ++ (property_octets p ++ rest) ≡ flat_map property_octets (ps ++ p ∷ []) ++ rest
+octets_push : (ps : List Property) (p : Property) (rest : List ℕ) → flat_map property_octets ps
+    ++ (property_octets p ++ rest) ≡ flat_map property_octets (ps ++ p ∷ []) ++ rest
 octets_push [] p rest = ap (λ (t : List ℕ). t ++ rest) (sym (append-nil (property_octets p)))
 octets_push (q ∷ ps) p rest =
     append_assoc (property_octets q) (flat_map property_octets ps) (property_octets p ++ rest)
@@ -120,51 +145,65 @@ octets_push (q ∷ ps) p rest =
     ∙ sym (append_assoc (property_octets q) (flat_map property_octets (ps ++ p ∷ [])) rest)
 
 -- the first Socket-Type with one property more
-announced_push : (ps : List Property) (p : Property) → announced (ps ++ p ∷ []) ≡ option_or (announced ps) (announced (p ∷ []))
+announced_push : (ps : List Property) (p : Property) → announced (ps ++ p ∷ [])
+    ≡ option_or (announced ps) (announced (p ∷ []))
 announced_push [] p = refl
 announced_push (q ∷ ps) p =
-    elim (is_socket_type q) as (λ b. option_map (λ r. r.value) (cond b (Some q) (find is_socket_type (ps ++ p ∷ []))) ≡ option_or (option_map (λ r. r.value) (cond b (Some q) (find is_socket_type ps))) (announced (p ∷ []))) [
+    elim (is_socket_type q) as (λ b. option_map (λ r. r.value) (cond b (Some q) (find is_socket_type (ps ++ p ∷ [])))
+    ≡ option_or (option_map (λ r. r.value) (cond b (Some q) (find is_socket_type ps))) (announced (p ∷ []))) [
       | true ↦ refl
       | false ↦ announced_push ps p
     ]
 
 -- one property more was read
-read_more : (rest left behind : List ℕ) (found : Option (List ℕ)) (p : Property) → HasRead rest left found → BeginsWith left p behind → HasRead rest behind (option_or found (announced (p ∷ [])))
+read_more : (rest left behind : List ℕ) (found : Option (List ℕ)) (p : Property) → HasRead rest left found
+    → BeginsWith left p behind → HasRead rest behind (option_or found (announced (p ∷ [])))
 read_more rest left behind found p has begins = record {
   read = has.read ++ p ∷ [];
-  text = has.text ∙ ap (λ (t : List ℕ). flat_map property_octets has.read ++ t) begins.1 ∙ octets_push has.read p behind;
+  text = has.text ∙ ap (λ (t : List ℕ). flat_map property_octets has.read ++ t) begins.1
+      ∙ octets_push has.read p behind;
   are = All_push has.read p has.are begins.0;
   value = announced_push has.read p ∙ ap (λ (o : Option (List ℕ)). option_or o (announced (p ∷ []))) has.value;
 }
 
 -- the test of a name, by what it compares
 names_socket_type : (name : List ℕ) → IsSocketTypeName name → str_eq_ignore_ascii_case name (codes "Socket-Type") ≡ true
-names_socket_type name is = (bytes_eq-Decides (str_to_ascii_lowercase name) (str_to_ascii_lowercase (codes "Socket-Type"))).1 is
+names_socket_type name is = (bytes_eq-Decides (str_to_ascii_lowercase name)
+    (str_to_ascii_lowercase (codes "Socket-Type"))).1 is
 
 -- the same for a name that differs
-names_another : (name : List ℕ) → ¬ (IsSocketTypeName name) → str_eq_ignore_ascii_case name (codes "Socket-Type") ≡ false
-names_another name not = false_from_ne_true _ (λ is. not ((bytes_eq-Decides (str_to_ascii_lowercase name) (str_to_ascii_lowercase (codes "Socket-Type"))).0 is))
+names_another : (name : List ℕ) → ¬ (IsSocketTypeName name) → str_eq_ignore_ascii_case name (codes "Socket-Type")
+    ≡ false
+names_another name not = false_from_ne_true _ (λ is. not
+    ((bytes_eq-Decides (str_to_ascii_lowercase name) (str_to_ascii_lowercase (codes "Socket-Type"))).0 is))
 
 -- the name is Socket-Type
-pub read_type : (rest left behind name value : List ℕ) (found : Option (List ℕ)) → HasRead rest left found → BeginsWith left (record { name = name; value = value }) behind → IsSocketTypeName name → HasRead rest behind (option_or found (Some value))
+pub read_type : (rest left behind name value : List ℕ) (found : Option (List ℕ)) → HasRead rest left found
+    → BeginsWith left (record { name = name; value = value }) behind → IsSocketTypeName name
+    → HasRead rest behind (option_or found (Some value))
 read_type rest left behind name value found has begins is =
     let test : str_eq_ignore_ascii_case name (codes "Socket-Type") ≡ true = names_socket_type name is in
     let here : announced (record { name = name; value = value } ∷ []) ≡ Some value = rw test refl in
-    subst (HasRead rest behind) (ap (option_or found) here) (read_more rest left behind found (record { name = name; value = value }) has begins)
+    subst (HasRead rest behind) (ap (option_or found) here)
+    (read_more rest left behind found (record { name = name; value = value }) has begins)
 
 -- the name isn't Socket-Type
-pub read_other : (rest left behind name value : List ℕ) (found : Option (List ℕ)) → HasRead rest left found → BeginsWith left (record { name = name; value = value }) behind → ¬ (IsSocketTypeName name) → HasRead rest behind found
+pub read_other : (rest left behind name value : List ℕ) (found : Option (List ℕ)) → HasRead rest left found
+    → BeginsWith left (record { name = name; value = value }) behind → ¬ (IsSocketTypeName name)
+    → HasRead rest behind found
 read_other rest left behind name value found has begins not =
     let test : str_eq_ignore_ascii_case name (codes "Socket-Type") ≡ false = names_another name not in
     let here : announced (record { name = name; value = value } ∷ []) ≡ None = rw test refl in
-    subst (HasRead rest behind) (ap (option_or found) here ∙ or_none found) (read_more rest left behind found (record { name = name; value = value }) has begins)
+    subst (HasRead rest behind) (ap (option_or found) here ∙ or_none found)
+    (read_more rest left behind found (record { name = name; value = value }) has begins)
   where
     or_none : (o : Option (List ℕ)) → option_or o None ≡ o
     or_none None = refl
     or_none (Some x) = refl
 
 -- what is left begins with no property: rest is no list of properties
-pub read_broken : (rest left : List ℕ) (found : Option (List ℕ)) → left ≢ [] → ((p : Property) (behind : List ℕ) → ¬ (BeginsWith left p behind)) → HasRead rest left found → HasNoProperties rest
+pub read_broken : (rest left : List ℕ) (found : Option (List ℕ)) → left ≢ []
+    → ((p : Property) (behind : List ℕ) → ¬ (BeginsWith left p behind)) → HasRead rest left found → HasNoProperties rest
 read_broken rest left found some none has ps are =
     let more = after has.read ps left has.are are.1 (sym has.text ∙ are.0) in
     broken more.0 more.2
@@ -174,6 +213,7 @@ read_broken rest left found some none has ps are =
     broken (p ∷ more) is = none p (flat_map property_octets more) (is.1.0, is.0)
 
 -- the first of two options of references, by what they point to
-pub copied_or : {A : Type 0} (o p : Option (Bor A)) → option_copied (option_or o p) ≡ option_or (option_copied o) (option_copied p)
+pub copied_or : {A : Type 0} (o p : Option (Bor A)) → option_copied (option_or o p)
+    ≡ option_or (option_copied o) (option_copied p)
 copied_or None p = refl
 copied_or (Some x) p = refl

@@ -1,5 +1,8 @@
 -- The grammar read from the front, as one function: so that no octets can be read in two ways.
-use Rattle.std.proofs.Common.{◌≡◌, ◌≢◌, ◌⊎◌, inl, inr, ℕ, zero, suc, ◌+◌, ◌-◌, ◌/◌, ◌%◌, ◌^◌, ◌<◌, ◌≤◌, ◌||◌, ◌&&◌, nat_lt, nat_le, nat_eq, Bool, true, false, not, cond, List, [], ◌∷◌, ◌++◌, length, take, drop, sum_by, get_or, Option, Some, None, refl, sym, ◌∙◌, ap, subst, arith, rules, append_assoc, length-append}
+use Rattle.std.proofs.Common.{◌≡◌, ◌≢◌, ◌⊎◌, inl, inr, ℕ, zero, suc, ◌+◌, ◌-◌, ◌/◌, ◌%◌, ◌^◌, ◌<◌, ◌≤◌, ◌||◌, ◌&&◌}
+use Rattle.std.proofs.Common.{nat_lt, nat_le, nat_eq, Bool, true, false, not, cond, List, [], ◌∷◌, ◌++◌, length, take}
+use Rattle.std.proofs.Common.{drop, sum_by, get_or, Option, Some, None, refl, sym, ◌∙◌, ap, subst, arith, rules}
+use Rattle.std.proofs.Common.{append_assoc, length-append}
 use Rattle.std.specs.Int.{w64, to_be_bytes, from_be_bytes}
 use Rattle.std.proofs.lemmas.Nat.{from_be_bytes-to_be_bytes_8}
 use Rattle.std.proofs.lemmas.List.{append-nil, map-append, length-map, take-append-drop}
@@ -11,8 +14,11 @@ use Rattle.zmtp_wire.specs.declared.traffic.Traffic.{Traffic}
 use Rattle.zmtp_wire.specs.declared.traffic.Traffic.TheVariants as traffic
 use Rattle.zmtp_wire.specs.declared.fault.WireFault.{WireFault}
 use Rattle.zmtp_wire.specs.declared.fault.WireFault.TheVariants as faults
-use Rattle.zmtp_wire.specs.Frame.{flags_octet, head_octets, size_octets, size_bound, HasSize, front_octets, bodies_of, frame_octets}
-use Rattle.zmtp_wire.specs.Grammar.{IsWithin, SpellsMessage, SpellsCommand, Spells, Reads, ReadsUpTo, AcceptsFlags, IsBadFlags, reserved, command_with_more, command_inside, IsRefused, IsFaulty, IsBadCommand, IsUnfinished, command_body}
+use Rattle.zmtp_wire.specs.Frame.{flags_octet, head_octets, size_octets, size_bound, HasSize, front_octets, bodies_of}
+use Rattle.zmtp_wire.specs.Frame.{frame_octets}
+use Rattle.zmtp_wire.specs.Grammar.{IsWithin, SpellsMessage, SpellsCommand, Spells, Reads, ReadsUpTo, AcceptsFlags}
+use Rattle.zmtp_wire.specs.Grammar.{IsBadFlags, reserved, command_with_more, command_inside, IsRefused, IsFaulty}
+use Rattle.zmtp_wire.specs.Grammar.{IsBadCommand, IsUnfinished, command_body}
 
 -- what stands at the front, behind the frames of a message that goes on
 pub data Look : Type 0 where
@@ -34,7 +40,8 @@ has_command flags = nat_eq (flags / 4) 1
 -- a command's body, or that it has no name
 abbrev pub command_in : List ℕ → List ℕ → Look
 command_in [] after = refused faults.Command
-command_in (size ∷ named) after = cond (nat_eq size 0 || nat_lt (length named) size) (refused faults.Command) (command (take size named) (drop size named) after)
+command_in (size ∷ named) after = cond (nat_eq size 0 || nat_lt (length named) size) (refused faults.Command)
+    (command (take size named) (drop size named) after)
 
 -- a whole body
 abbrev pub whole_in : Bool → Bool → List ℕ → List ℕ → Look
@@ -54,20 +61,23 @@ unfoldable pub size_in : Limits → List (List ℕ) → Bool → Bool → Bool �
 size_in limits before more false is_command [] = waits
 size_in limits before more false is_command (size ∷ octets) = body_in limits before more is_command size octets
 size_in limits before more true is_command octets =
-    cond (nat_lt (length octets) 8) waits (body_in limits before more is_command (from_be_bytes w64 (take 8 octets)) (drop 8 octets))
+    cond (nat_lt (length octets) 8) waits (body_in limits before more is_command (from_be_bytes w64 (take 8 octets))
+    (drop 8 octets))
 
 -- flags that are accepted or not, a size and a body
 unfoldable pub flags_in : Limits → List (List ℕ) → Bool → Bool → Bool → List ℕ → Look
 flags_in limits [] true long true octets = refused faults.Flags
 flags_in limits [] false long true octets = size_in limits [] false long true octets
 flags_in limits (body ∷ before) more long true octets = refused faults.Flags
-flags_in limits before more long false octets = cond (nat_le limits.frames (length before)) (refused faults.TooManyFrames) (size_in limits before more long false octets)
+flags_in limits before more long false octets = cond (nat_le limits.frames (length before))
+    (refused faults.TooManyFrames) (size_in limits before more long false octets)
 
 -- a frame
 unfoldable pub look : Limits → List (List ℕ) → List ℕ → Look
 look limits before [] = waits
 look limits before (flags ∷ octets) =
-    cond (nat_le 8 flags) (refused faults.Flags) (flags_in limits before (has_more flags) (has_long flags) (has_command flags) octets)
+    cond (nat_le 8 flags) (refused faults.Flags) (flags_in limits before (has_more flags) (has_long flags)
+    (has_command flags) octets)
 
 -- what stands at the front
 pub data Verdict : Type 0 where
@@ -93,6 +103,7 @@ abbrev pub ComesTo : Limits → List ℕ → Verdict → Type 0
 ComesTo limits octets verdict = (turns : ℕ) × ((others : ℕ) → walk (suc (others + turns)) limits [] octets ≡ verdict)
 
 -- no octets come to two things
-pub comes_once : (limits : Limits) (octets : List ℕ) (one other : Verdict) → ComesTo limits octets one → ComesTo limits octets other → one ≡ other
+pub comes_once : (limits : Limits) (octets : List ℕ) (one other : Verdict) → ComesTo limits octets one
+    → ComesTo limits octets other → one ≡ other
 comes_once limits octets one other (turns, first) (others, second) =
     sym (first others) ∙ ap (λ n. walk (suc n) limits [] octets) (omega arith) ∙ second turns

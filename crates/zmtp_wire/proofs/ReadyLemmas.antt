@@ -1,5 +1,6 @@
 -- The outcome of READY: what its parts say, and that there is one at most.
-use Rattle.std.proofs.Common.{◌≡◌, true, ℕ, cond, eqb, List, [], ◌∷◌, Some, None, Ok, Err, Result, get_or, refl, sym, ap, subst, ◌∙◌, inl, inr, ◌+◌, ◌<◌, ◌^◌, length, arith}
+use Rattle.std.proofs.Common.{◌≡◌, true, ℕ, cond, eqb, List, [], ◌∷◌, Some, None, Ok, Err, Result, get_or, refl, sym}
+use Rattle.std.proofs.Common.{ap, subst, ◌∙◌, inl, inr, ◌+◌, ◌<◌, ◌^◌, length, arith}
 use Rattle.std.specs.Prelude.{codes, bytes_eq, IfOk, IfErr}
 use Rattle.std.proofs.lemmas.Slice.Eq.{bytes_eq-Decides}
 use Rattle.std.specs.Str.{str_to_ascii_lowercase}
@@ -12,11 +13,14 @@ use Rattle.zmtp_wire.specs.declared.socket_type.SocketType.TheVariants.{Req, Rep
 use Rattle.zmtp_wire.specs.declared.traffic.Traffic.{Traffic}
 use Rattle.zmtp_wire.specs.declared.traffic.Traffic.TheVariants.{Message, Command}
 use Rattle.zmtp_wire.specs.SocketType.{type_name, NamesType, Pairs}
-use Rattle.zmtp_wire.specs.Ready.{Property, Properties, property_octets, type_property, announced, AnnouncesIn, Announces, IsError, IsNoReady, Accepts, AcceptsNone, IsReady}
+use Rattle.zmtp_wire.specs.Ready.{Property, Properties, property_octets, type_property, announced, AnnouncesIn}
+use Rattle.zmtp_wire.specs.Ready.{Announces, IsError, IsNoReady, Accepts, AcceptsNone, IsReady}
 use Rattle.zmtp_wire.proofs.PropertyLemmas.{one_reading}
 
 -- a READY that announces a type: it is accepted, or it doesn't pair
-pub judged_type : (name rest value : List ℕ) (ours : SocketType) (r : Result Ready WireFault) → name ≡ codes "READY" → AnnouncesIn rest value → IfOk r (λ ready. Accepts ours value ready.peer) → IfErr r (λ e. (e ≡ fault.Pairing) × AcceptsNone ours value) → IsReady (Command name rest) ours r
+pub judged_type : (name rest value : List ℕ) (ours : SocketType) (r : Result Ready WireFault) → name ≡ codes "READY"
+    → AnnouncesIn rest value → IfOk r (λ ready. Accepts ours value ready.peer)
+    → IfErr r (λ e. (e ≡ fault.Pairing) × AcceptsNone ours value) → IsReady (Command name rest) ours r
 judged_type name rest value ours (Ok ready) is announces ok err = (value, (is, announces), ok)
 judged_type name rest value ours (Err e) is announces ok err = rw err.0 (value, (is, announces), err.1)
 
@@ -24,7 +28,8 @@ judged_type name rest value ours (Err e) is announces ok err = rw err.0 (value, 
 
 -- a type by the first and the third letter of its name
 abbrev type_at : ℕ → SocketType
-type_at n = cond (eqb n 227) Req (cond (eqb n 226) Rep (cond (eqb n 197) Dealer (cond (eqb n 231) Router (cond (eqb n 210) Pub (cond (eqb n 213) Sub Xsub)))))
+type_at n = cond (eqb n 227) Req (cond (eqb n 226) Rep (cond (eqb n 197) Dealer
+    (cond (eqb n 231) Router (cond (eqb n 210) Pub (cond (eqb n 213) Sub Xsub)))))
 
 -- the letters that tell the names apart
 abbrev letters : List ℕ → ℕ
@@ -41,12 +46,14 @@ letters_tell Xsub = refl
 
 -- a value names one type at most
 one_type : (value : List ℕ) (t u : SocketType) → NamesType value t → NamesType value u → t ≡ u
-one_type value t u names_t names_u = sym (letters_tell t) ∙ ap (λ (name : List ℕ). type_at (letters name)) (sym names_t ∙ names_u) ∙ letters_tell u
+one_type value t u names_t names_u = sym (letters_tell t)
+    ∙ ap (λ (name : List ℕ). type_at (letters name)) (sym names_t ∙ names_u) ∙ letters_tell u
 
 -- ---- one outcome at most
 
 -- the first Socket-Type of one list of properties
-one_value : (rest : List ℕ) (ps qs : List Property) → Properties rest ps → Properties rest qs → announced ps ≡ announced qs
+one_value : (rest : List ℕ) (ps qs : List Property) → Properties rest ps → Properties rest qs → announced ps
+    ≡ announced qs
 one_value rest ps qs are_ps are_qs = ap announced (one_reading rest ps qs are_ps are_qs)
 
 same_value : (first : Traffic) (v w : List ℕ) → Announces first v → Announces first w → v ≡ w
@@ -65,7 +72,8 @@ announces_ready (Command name rest) v one (inr (_, inr none)) =
 
 ready_no_error : (name : List ℕ) → name ≡ codes "READY" → name ≡ codes "ERROR" → ⊥
 ready_no_error name is_ready is_error =
-    let same : get_or (codes "READY") 0 0 ≡ get_or (codes "ERROR") 0 0 = ap (λ (t : List ℕ). get_or t 0 0) (sym is_ready ∙ is_error) in
+    let same : get_or (codes "READY") 0 0 ≡ get_or (codes "ERROR") 0 0 =
+    ap (λ (t : List ℕ). get_or t 0 0) (sym is_ready ∙ is_error) in
     omega arith
 
 error_named : (name : List ℕ) → bytes_eq name (codes "ERROR") ≡ true → name ≡ codes "ERROR"
@@ -82,28 +90,36 @@ no_ready_no_error (Command name rest) (inr (is, _)) error = ready_no_error name 
 
 -- the outcomes that there are
 data Outcome (first : Traffic) (ours : SocketType) : Result Ready WireFault → Type 0 where
-  accepts : (peer : SocketType) (v : List ℕ) → Announces first v → Accepts ours v peer → Outcome first ours (Ok (record { peer = peer }))
+  accepts : (peer : SocketType) (v : List ℕ) → Announces first v → Accepts ours v peer
+      → Outcome first ours (Ok (record { peer = peer }))
   pairs_not : (v : List ℕ) → Announces first v → AcceptsNone ours v → Outcome first ours (Err fault.Pairing)
   no_ready : IsNoReady first → Outcome first ours (Err fault.Command)
   error : IsError first → Outcome first ours (Err fault.PeerError)
 
-outcome : (first : Traffic) (ours : SocketType) (r : Result Ready WireFault) → IsReady first ours r → Outcome first ours r
+outcome : (first : Traffic) (ours : SocketType) (r : Result Ready WireFault) → IsReady first ours r
+    → Outcome first ours r
 outcome first ours (Ok ready) is = accepts ready.peer is.0 is.1 is.2
 outcome first ours (Err fault.Pairing) is = pairs_not is.0 is.1 is.2
 outcome first ours (Err fault.Command) is = no_ready is
 outcome first ours (Err fault.PeerError) is = error is
 outcome first ours (Err _) is = absurd is
 
-accepts_some : (first : Traffic) (ours peer : SocketType) (v w : List ℕ) → Announces first v → Accepts ours v peer → Announces first w → ¬ (AcceptsNone ours w)
-accepts_some first ours peer v w one some other none = none peer (subst (λ (u : List ℕ). Accepts ours u peer) (same_value first v w one other) some)
+accepts_some : (first : Traffic) (ours peer : SocketType) (v w : List ℕ) → Announces first v → Accepts ours v peer
+    → Announces first w → ¬ (AcceptsNone ours w)
+accepts_some first ours peer v w one some other none = none peer
+    (subst (λ (u : List ℕ). Accepts ours u peer) (same_value first v w one other) some)
 
-one_outcome : (first : Traffic) (ours : SocketType) (r s : Result Ready WireFault) → Outcome first ours r → Outcome first ours s → r ≡ s
+one_outcome : (first : Traffic) (ours : SocketType) (r s : Result Ready WireFault) → Outcome first ours r
+    → Outcome first ours s → r ≡ s
 one_outcome first ours _ _ (accepts t v one some) (accepts u w other more) =
-    ap (λ (p : SocketType). Ok (record { peer = p })) (one_type w t u (subst (λ (x : List ℕ). NamesType x t) (same_value first v w one other) some.0) more.0)
-one_outcome first ours _ _ (accepts t v one some) (pairs_not w other none) = absurd (accepts_some first ours t v w one some other none)
+    ap (λ (p : SocketType). Ok (record { peer = p })) (one_type w t u
+    (subst (λ (x : List ℕ). NamesType x t) (same_value first v w one other) some.0) more.0)
+one_outcome first ours _ _ (accepts t v one some) (pairs_not w other none) =
+    absurd (accepts_some first ours t v w one some other none)
 one_outcome first ours _ _ (accepts t v one some) (no_ready not) = absurd (announces_ready first v one not)
 one_outcome first ours _ _ (accepts t v one some) (error is) = absurd (announces_no_error first v one is)
-one_outcome first ours _ _ (pairs_not w other none) (accepts t v one some) = absurd (accepts_some first ours t v w one some other none)
+one_outcome first ours _ _ (pairs_not w other none) (accepts t v one some) =
+    absurd (accepts_some first ours t v w one some other none)
 one_outcome first ours _ _ (pairs_not v one none) (pairs_not w other more) = refl
 one_outcome first ours _ _ (pairs_not v one none) (no_ready not) = absurd (announces_ready first v one not)
 one_outcome first ours _ _ (pairs_not v one none) (error is) = absurd (announces_no_error first v one is)
@@ -116,14 +132,19 @@ one_outcome first ours _ _ (error is) (pairs_not v one none) = absurd (announces
 one_outcome first ours _ _ (error is) (no_ready not) = absurd (no_ready_no_error first not is)
 one_outcome first ours _ _ (error is) (error more) = refl
 
-pub same_outcome : (first : Traffic) (ours : SocketType) (r s : Result Ready WireFault) → IsReady first ours r → IsReady first ours s → r ≡ s
-same_outcome first ours r s one other = one_outcome first ours r s (outcome first ours r one) (outcome first ours s other)
+pub same_outcome : (first : Traffic) (ours : SocketType) (r s : Result Ready WireFault) → IsReady first ours r
+    → IsReady first ours s → r ≡ s
+same_outcome first ours r s one other = one_outcome first ours r s (outcome first ours r one)
+    (outcome first ours s other)
 
 -- ---- our own READY
 
 -- a short value is a property's
 our_property : (t : SocketType) → Properties (property_octets (type_property t)) (type_property t ∷ [])
-our_property t = (sym (append-nil (property_octets (type_property t))), (record { has_name = omega arith; name_fits = omega arith; value_fits = short t }, tt))
+our_property t = (
+  sym (append-nil (property_octets (type_property t))),
+  (record { has_name = omega arith; name_fits = omega arith; value_fits = short t }, tt),
+)
   where
     short : (t : SocketType) → length (type_name t) < 2 ^ 32
     short Req = omega arith
@@ -134,5 +155,6 @@ our_property t = (sym (append-nil (property_octets (type_property t))), (record 
     short Sub = omega arith
     short Xsub = omega arith
 
-pub our_ready : (ours peer : SocketType) → Pairs peer ours → IsReady (Command (codes "READY") (property_octets (type_property ours))) peer (Ok (record { peer = ours }))
+pub our_ready : (ours peer : SocketType) → Pairs peer ours
+    → IsReady (Command (codes "READY") (property_octets (type_property ours))) peer (Ok (record { peer = ours }))
 our_ready ours peer pairs = (type_name ours, (refl, (type_property ours ∷ [], our_property ours, refl)), (refl, pairs))

@@ -22,7 +22,8 @@ IsFaultOf limits octets fault = (fault ≡ OutOfMemory) ⊎ IsFaulty limits octe
 abbrev pub Feeds : Decoding → List ℕ → List Traffic → Option WireFault → Decoding → Type 0
 Feeds old piece traffic fault new = MatchOption fault
     (ReadsUpTo old.limits (old.kept ++ piece) traffic new.kept × IsUnfinished old.limits new.kept × (new.spent ≡ false))
-    (λ found. ((rest : List ℕ) × ReadsUpTo old.limits (old.kept ++ piece) traffic rest × IsFaultOf old.limits rest found) × (new.spent ≡ true))
+    (λ found. ((rest : List ℕ) × ReadsUpTo old.limits (old.kept ++ piece) traffic rest
+    × IsFaultOf old.limits rest found) × (new.spent ≡ true))
 
 -- Feeds one after the other, each with its piece and its traffic, from what was kept at first to what is left
 -- at last: what a feed without a fault keeps, or the rest behind the last one's traffic.

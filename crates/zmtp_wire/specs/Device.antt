@@ -1,5 +1,6 @@
 -- Devices, which octets are read from and written to: what they tell, and counts that contracts alone see.
-use Rattle.std.specs.Prelude.{◌≡◌, ◌⊎◌, ℕ, zero, suc, ◌+◌, ◌<◌, min, List, [], ◌++◌, length, take, Option, Result, Ok, Err}
+use Rattle.std.specs.Prelude.{◌≡◌, ◌⊎◌, ℕ, zero, suc, ◌+◌, ◌<◌, min, List, [], ◌++◌, length, take, Option, Result, Ok}
+use Rattle.std.specs.Prelude.{Err}
 use Rattle.std.specs.Io.KnownBytes.{Appends, Consumes, IsAtEnd, Keeps}
 use Rattle.zmtp_wire.specs.declared.device.ReadFailed.{ReadFailed}
 use Rattle.zmtp_wire.specs.declared.device.WriteFailed.{WriteFailed}
@@ -67,7 +68,8 @@ pub record Puts (old new : Outflow) (octets : List ℕ) (failures : ℕ) : Type 
 -- All of the octets were added; or a beginning of them, and then a write failed or took nothing.
 abbrev pub AddsAll : Outflow → Outflow → Result Unit WriteFailed → List ℕ → Type 0
 AddsAll old new (Ok done) octets = Puts old new octets 0
-AddsAll old new (Err failed) octets = (front : List ℕ) × (lost : List ℕ) × (octets ≡ front ++ lost) × Puts old new front 1
+AddsAll old new (Err failed) octets = (front : List ℕ) × (lost : List ℕ) × (octets ≡ front ++ lost)
+    × Puts old new front 1
 
 -- a device and its counts
 pub record Counting (Device : Type 0) : Type 0 where
@@ -78,7 +80,11 @@ pub record Counting (Device : Type 0) : Type 0 where
 
 -- what a reader with its counts is as an inlet, by the octets that it has left
 abbrev pub inflow_of : {Device : Type 0} → (Device → Option (List ℕ)) → Counting Device → Inflow
-inflow_of remaining counted = record { left = remaining counted.device; reads = counted.reads; failures = counted.failed_reads }
+inflow_of remaining counted = record {
+  left = remaining counted.device;
+  reads = counted.reads;
+  failures = counted.failed_reads;
+}
 
 -- what a writer with its counts is as an outlet, by the octets that it holds
 abbrev pub outflow_of : {Device : Type 0} → (Device → Option (List ℕ)) → Counting Device → Outflow

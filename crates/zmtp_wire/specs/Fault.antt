@@ -1,7 +1,9 @@
 -- The numbers by which a program reports the faults of the wire.
 use Rattle.std.specs.Prelude.{ℕ}
 use Rattle.zmtp_wire.specs.declared.fault.WireFault.{WireFault}
-use Rattle.zmtp_wire.specs.declared.fault.WireFault.TheVariants.{Signature, Version, Mechanism, Flags, FrameTooLong, TooManyFrames, MessageTooLong, Command, Pairing, PeerError, Spent, OutOfMemory}
+use Rattle.zmtp_wire.specs.declared.fault.WireFault.TheVariants.{Signature, Version, Mechanism, Flags, FrameTooLong}
+use Rattle.zmtp_wire.specs.declared.fault.WireFault.TheVariants.{TooManyFrames, MessageTooLong, Command, Pairing}
+use Rattle.zmtp_wire.specs.declared.fault.WireFault.TheVariants.{PeerError, Spent, OutOfMemory}
 
 -- the number of a fault, from 1 on in the order in which the faults are listed
 abbrev pub fault_number : WireFault → ℕ

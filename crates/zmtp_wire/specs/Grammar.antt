@@ -1,5 +1,6 @@
 -- Which octets spell a message or a command, and which are refused (RFC 23, "Traffic").
-use Rattle.std.specs.Prelude.{◌≡◌, ◌≢◌, ℕ, ◌+◌, ◌^◌, ◌<◌, ◌≤◌, Bool, true, false, List, [], ◌∷◌, ◌++◌, length, sum_by, ⊤, ◌⊎◌}
+use Rattle.std.specs.Prelude.{◌≡◌, ◌≢◌, ℕ, ◌+◌, ◌^◌, ◌<◌, ◌≤◌, Bool, true, false, List, [], ◌∷◌, ◌++◌, length, sum_by}
+use Rattle.std.specs.Prelude.{⊤, ◌⊎◌}
 use Rattle.std.specs.List.{AllByRecursion}
 use Rattle.zmtp_wire.specs.declared.frame.Frame.{Frame}
 use Rattle.zmtp_wire.specs.declared.limits.Limits.{Limits}
@@ -76,7 +77,8 @@ abbrev pub IsRefused : Limits → List (List ℕ) → List ℕ → WireFault →
 IsRefused limits before octets faults.Flags =
     (flags : ℕ) × (after : List ℕ) × (octets ≡ flags ∷ after) × IsBadFlags before flags
 IsRefused limits before octets faults.TooManyFrames =
-    (more : Bool) × (long : Bool) × (after : List ℕ) × (octets ≡ flags_octet more long false ∷ after) × (limits.frames ≤ length before)
+    (more : Bool) × (long : Bool) × (after : List ℕ) × (octets ≡ flags_octet more long false ∷ after)
+    × (limits.frames ≤ length before)
 IsRefused limits before octets faults.FrameTooLong =
     (more : Bool) × (long : Bool) × (command : Bool) × (size : ℕ) × (after : List ℕ)
     × (octets ≡ head_octets more long command size ++ after) × (size < size_bound long)
@@ -107,7 +109,8 @@ pub record IsFaulty (limits : Limits) (octets : List ℕ) (fault : WireFault) : 
 
 -- the octets begin with no whole traffic
 abbrev pub HasNoTraffic : Limits → List ℕ → Type 0
-HasNoTraffic limits octets = (traffic : Traffic) (front rest : List ℕ) → octets ≡ front ++ rest → Spells limits front traffic → ⊥
+HasNoTraffic limits octets = (traffic : Traffic) (front rest : List ℕ) → octets ≡ front ++ rest
+    → Spells limits front traffic → ⊥
 
 -- the octets begin with no whole traffic, and nothing in them is refused yet
 pub record IsUnfinished (limits : Limits) (octets : List ℕ) : Type 0 where

@@ -1,5 +1,6 @@
 -- What a decoder holds of traffic that isn't whole, and the octets that it stands for.
-use Rattle.std.specs.Prelude.{◌≡◌, ◌≢◌, ℕ, ◌+◌, ◌^◌, ◌<◌, ◌≤◌, Bool, true, false, List, [], ◌∷◌, ◌++◌, length, sum_by, ⊤, ◌⊎◌, Option, MatchOption, Result, MatchResult, take, IfErr}
+use Rattle.std.specs.Prelude.{◌≡◌, ◌≢◌, ℕ, ◌+◌, ◌^◌, ◌<◌, ◌≤◌, Bool, true, false, List, [], ◌∷◌, ◌++◌, length, sum_by}
+use Rattle.std.specs.Prelude.{⊤, ◌⊎◌, Option, MatchOption, Result, MatchResult, take, IfErr}
 use Rattle.std.specs.List.{AllByRecursion}
 use Rattle.zmtp_wire.specs.declared.frame.Frame.{Frame}
 use Rattle.zmtp_wire.specs.declared.limits.Limits.{Limits}
@@ -47,7 +48,8 @@ pub record AcceptsSize (limits : Limits) (before : List (List ℕ)) (flags : Fla
 -- nothing of what has come of a frame is refused, and the frame isn't whole
 abbrev pub IsStage : Limits → List (List ℕ) → Stage → Type 0
 IsStage limits before stages.Flags = ⊤
-IsStage limits before (stages.Size flags octets) = AcceptsFlags limits before flags.more flags.command × (length octets.items < size_len flags.long)
+IsStage limits before (stages.Size flags octets) = AcceptsFlags limits before flags.more flags.command
+    × (length octets.items < size_len flags.long)
 IsStage limits before (stages.Body flags size body) = AcceptsSize limits before flags size × (length body.items < size)
 
 -- the whole frames are those of a message that goes on, within the limits
@@ -75,4 +77,5 @@ Refuses limits octets fault = (fault ≡ OutOfMemory) ⊎ ((after : List ℕ) �
 -- the traffic is the command whose body these octets are
 abbrev pub IsCommandOf : List ℕ → Traffic → Type 0
 IsCommandOf body (traffic.Message bodies) = ⊥
-IsCommandOf body (traffic.Command name rest) = (0 < length name) × (length name < 2 ^ 8) × (body ≡ command_body name rest)
+IsCommandOf body (traffic.Command name rest) = (0 < length name) × (length name < 2 ^ 8)
+    × (body ≡ command_body name rest)

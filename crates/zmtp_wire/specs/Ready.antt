@@ -1,6 +1,7 @@
 -- The command READY of the mechanism NULL (ZeroMQ RFC 23, section "The NULL Security Mechanism"): a list of
 -- properties, which says the socket type of the peer.
-use Rattle.std.specs.Prelude.{◌≡◌, ◌≢◌, ◌⊎◌, ℕ, ◌<◌, ◌≤◌, ◌^◌, Bool, true, false, List, ◌++◌, length, codes, find, Option, Some, None, Result, Ok, Err}
+use Rattle.std.specs.Prelude.{◌≡◌, ◌≢◌, ◌⊎◌, ℕ, ◌<◌, ◌≤◌, ◌^◌, Bool, true, false, List, ◌++◌, length, codes, find}
+use Rattle.std.specs.Prelude.{Option, Some, None, Result, Ok, Err}
 use Rattle.std.specs.List.{AllByRecursion, flat_map}
 use Rattle.std.specs.Option.{option_map}
 use Rattle.std.specs.Str.{str_eq_ignore_ascii_case}
@@ -53,7 +54,8 @@ type_property socket = record { name = codes "Socket-Type"; value = type_name so
 
 -- our READY, a whole command frame: its one property is our Socket-Type
 abbrev pub ready_octets : SocketType → List ℕ
-ready_octets socket = frame_octets false true (shortest (command_body (codes "READY") (property_octets (type_property socket))))
+ready_octets socket = frame_octets false true (shortest
+    (command_body (codes "READY") (property_octets (type_property socket))))
 
 -- the octets behind READY are properties, and the first Socket-Type among them has this value
 abbrev pub AnnouncesIn : List ℕ → List ℕ → Type 0

@@ -113,7 +113,8 @@ fn read_piece(
     requires empty { traffic.old.items ≡ [] }
     ensures limits { OnOk result (pending.new.limits ≡ pending.old.limits) }
     ensures pending { OnOk result (IsPending pending.new) }
-    ensures ok { OnOk result (ReadsUpTo pending.old.limits (pending_octets pending.old ++ piece.now) traffic.new.items (pending_octets pending.new)) }
+    ensures ok { OnOk result (ReadsUpTo pending.old.limits (pending_octets pending.old ++ piece.now) traffic.new.items
+        (pending_octets pending.new)) }
     ensures err { IfErr result (λ fault. (rest : List ℕ)
         × ReadsUpTo pending.old.limits (pending_octets pending.old ++ piece.now) traffic.new.items rest
         × IsFaultOf pending.old.limits rest fault) }

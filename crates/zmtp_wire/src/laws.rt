@@ -43,8 +43,10 @@ pub fn any_cutting()
 pub fn one_fault()
     ensures once { (limits : Limits) (octets : List ℕ) (one other : WireFault)
         → IsFaulty limits octets one → IsFaulty limits octets other → one ≡ other }
-    ensures no_traffic { (limits : Limits) (octets : List ℕ) (fault : WireFault) → IsFaulty limits octets fault → HasNoTraffic limits octets }
-    ensures stays { (limits : Limits) (octets after : List ℕ) (fault : WireFault) → IsFaulty limits octets fault → IsFaulty limits (octets ++ after) fault }
+    ensures no_traffic { (limits : Limits) (octets : List ℕ) (fault : WireFault) → IsFaulty limits octets fault
+        → HasNoTraffic limits octets }
+    ensures stays { (limits : Limits) (octets after : List ℕ) (fault : WireFault) → IsFaulty limits octets fault
+        → IsFaulty limits (octets ++ after) fault }
 {}
 
 /// A message within the limits is read from its text first, whatever follows.

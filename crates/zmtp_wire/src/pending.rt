@@ -1,7 +1,9 @@
-ghost use Rattle.std.specs.Prelude.{◌≡◌, ◌+◌, ◌-◌, ◌<◌, ◌≤◌, ◌^◌, ◌∷◌, ◌++◌, ℕ, List, length, take, drop, IfOk, IfErr, IfSome, OnOk, true, [], Ok};
+ghost use Rattle.std.specs.Prelude.{◌≡◌, ◌+◌, ◌-◌, ◌<◌, ◌≤◌, ◌^◌, ◌∷◌, ◌++◌, ℕ, List, length, take, drop, IfOk, IfErr};
+ghost use Rattle.std.specs.Prelude.{IfSome, OnOk, true, [], Ok};
 ghost use Rattle.zmtp_wire.specs.Frame.{flags_octet, front_octets, size_bound, size_octets, bodies_of};
 ghost use Rattle.zmtp_wire.specs.Grammar.{AcceptsFlags, IsRefused};
-ghost use Rattle.zmtp_wire.specs.Pending.{size_len, head_of, pending_octets, bodies_before, AcceptsSize, IsFront, IsPending, Keeps, Refuses};
+ghost use Rattle.zmtp_wire.specs.Pending.{size_len, head_of, pending_octets, bodies_before, AcceptsSize, IsFront};
+ghost use Rattle.zmtp_wire.specs.Pending.{IsPending, Keeps, Refuses};
 
 use crate::command::command_of;
 use crate::fault::WireFault;
@@ -65,7 +67,8 @@ impl Pending {
         requires pending { IsPending self.old }
         requires some { 0 < length octets.now }
         ensures within { IfOk result (λ step. (0 < step.taken) × (step.taken ≤ length octets.now)) }
-        ensures ok { IfOk result (λ step. Keeps self.old.limits (pending_octets self.old ++ take step.taken octets.now) self.new step.traffic) }
+        ensures ok { IfOk result (λ step. Keeps self.old.limits (pending_octets self.old ++ take step.taken octets.now)
+            self.new step.traffic) }
         ensures err { IfErr result (Refuses self.old.limits (pending_octets self.old ++ octets.now)) }
     {
         if let Stage::Flags = self.stage {
@@ -93,7 +96,8 @@ impl Pending {
         requires front { IsFront self.old }
         requires some { 0 < length octets.now }
         ensures within { IfOk result (λ step. (0 < step.taken) × (step.taken ≤ length octets.now)) }
-        ensures ok { IfOk result (λ step. Keeps self.old.limits (front_octets self.old.frames.items ++ take step.taken octets.now) self.new step.traffic) }
+        ensures ok { IfOk result (λ step. Keeps self.old.limits
+            (front_octets self.old.frames.items ++ take step.taken octets.now) self.new step.traffic) }
         ensures err { IfErr result (Refuses self.old.limits (front_octets self.old.frames.items ++ octets.now)) }
     {
         let flags = self.judge_flags(octets[0])?;
@@ -112,7 +116,8 @@ impl Pending {
     fn judge_flags(&self, octet: u8) -> Result<Flags, WireFault>
         ensures ok { IfOk result (λ flags. (octet ≡ flags_octet flags.more flags.long flags.command)
             × AcceptsFlags self.now.limits (bodies_before self.now) flags.more flags.command) }
-        ensures err { IfErr result (λ fault. (after : List ℕ) → IsRefused self.now.limits (bodies_before self.now) (octet ∷ after) fault) }
+        ensures err { IfErr result (λ fault. (after : List ℕ)
+            → IsRefused self.now.limits (bodies_before self.now) (octet ∷ after) fault) }
     {
         let Some(flags) = Flags::read(octet) else {
             return Err(WireFault::Flags);
@@ -141,7 +146,8 @@ impl Pending {
         requires some { 0 < length octets.now }
         ensures within { IfOk result (λ step. (0 < step.taken) × (step.taken ≤ length octets.now)) }
         ensures ok { IfOk result (λ step. Keeps self.old.limits (front_octets self.old.frames.items
-            ++ (flags_octet flags.more flags.long flags.command ∷ size.items) ++ take step.taken octets.now) self.new step.traffic) }
+            ++ (flags_octet flags.more flags.long flags.command ∷ size.items) ++ take step.taken octets.now) self.new
+            step.traffic) }
         ensures err { IfErr result (Refuses self.old.limits (front_octets self.old.frames.items
             ++ (flags_octet flags.more flags.long flags.command ∷ size.items) ++ octets.now)) }
     {
@@ -289,7 +295,8 @@ impl Pending {
           frames = self.new.frames;
           left = self.new.left;
         }) }
-        ensures frames { OnOk result (self.new.frames.items ≡ self.old.frames.items ++ record { long = long; body = body.items } ∷ []) }
+        ensures frames { OnOk result (self.new.frames.items ≡ self.old.frames.items
+            ++ record { long = long; body = body.items } ∷ []) }
         ensures front { OnOk result (IsFront self.new) }
     {
         let len = body.len();

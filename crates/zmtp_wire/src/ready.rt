@@ -1,5 +1,8 @@
-ghost use Rattle.std.specs.Prelude.{◌≡◌, ◌≢◌, ◌<◌, ◌≤◌, ◌^◌, ◌⊎◌, ◌++◌, ℕ, List, length, codes, IfSome, IfNone, IfOk, IfErr};
-ghost use Rattle.zmtp_wire.specs.Ready.{Property, BeginsWith, AnnouncesIn, HasNoProperties, AnnouncesNoneIn, Accepts, AcceptsNone, IsReady, ready_octets, PropertiesHaveOneReading, ReadyHasOneOutcome, OurReadyIsRead};
+ghost use Rattle.std.specs.Prelude.{◌≡◌, ◌≢◌, ◌<◌, ◌≤◌, ◌^◌, ◌⊎◌, ◌++◌, ℕ, List, length, codes, IfSome, IfNone, IfOk};
+ghost use Rattle.std.specs.Prelude.{IfErr};
+ghost use Rattle.zmtp_wire.specs.Ready.{Property, BeginsWith, AnnouncesIn, HasNoProperties, AnnouncesNoneIn, Accepts};
+ghost use Rattle.zmtp_wire.specs.Ready.{AcceptsNone, IsReady, ready_octets, PropertiesHaveOneReading};
+ghost use Rattle.zmtp_wire.specs.Ready.{ReadyHasOneOutcome, OurReadyIsRead};
 ghost use Rattle.zmtp_wire.specs.Lengths.{short_text, long_text};
 
 use crate::fault::WireFault;

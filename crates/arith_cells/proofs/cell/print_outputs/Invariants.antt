@@ -5,4 +5,5 @@ use Rattle.arith_cells.specs.Printed.{output_text}
 use Rattle.arith_cells.proofs.cell.print_outputs.Given as goal
 
 abbrev pub invariant-loop-output : goal.invariant-loop-output
-invariant-loop-output g l = Appends (g.W.Write.contents l.fn.writer) (g.W.Write.contents l.writer) (flat_map output_text (take l.output-index l.outputs))
+invariant-loop-output g l = Appends (g.W.Write.contents l.fn.writer) (g.W.Write.contents l.writer)
+    (flat_map output_text (take l.output-index l.outputs))

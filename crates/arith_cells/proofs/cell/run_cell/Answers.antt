@@ -12,7 +12,8 @@ returns-in-Ok g c =
 
 pub returns-in-Err : goal.returns-in-Err
 returns-in-Err g c =
-    both_follow c.print_fault.result _ _ _ c.print_fault.ensures.line c.print_fault.ensures.reported (λ line reported. record {
+    both_follow c.print_fault.result _ _ _ c.print_fault.ensures.line c.print_fault.ensures.reported
+    (λ line reported. record {
       text = _;
       appended = line;
       said = refused _ _ _ c.in-Err.fault (of_reported c.in-Err.fault _ _ reported c.in-Err.ensures.answered);

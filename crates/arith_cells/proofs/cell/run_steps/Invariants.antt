@@ -6,4 +6,5 @@ decreases-steps g l = g.I.Interpreter.meaning.steps l.cell
 
 abbrev pub invariant-steps : goal.invariant-steps
 invariant-steps g l =
-    IsBegun g.I.Interpreter.meaning l.initial.interpreter l.initial.cell (g.W.Write.contents l.initial.writer) (g.W.Write.contents l.writer) l.interpreter l.cell
+    IsBegun g.I.Interpreter.meaning l.initial.interpreter l.initial.cell (g.W.Write.contents l.initial.writer)
+    (g.W.Write.contents l.writer) l.interpreter l.cell

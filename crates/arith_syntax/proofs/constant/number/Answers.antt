@@ -10,7 +10,8 @@ returns-in_err-value c =
 
 pub loop-octet-preserved : goal.loop-octet-preserved
 loop-octet-preserved c =
-    let next : (c.loop-octet.value * c.args.base + c.in_ok-worth.worth < 2 ^ 63) × (c.in_ok-value.value ≡ c.loop-octet.value * c.args.base + c.in_ok-worth.worth) =
+    let next : (c.loop-octet.value * c.args.base + c.in_ok-worth.worth < 2 ^ 63)
+    × (c.in_ok-value.value ≡ c.loop-octet.value * c.args.base + c.in_ok-worth.worth) =
     c.in_ok-value.ensures in
     rw next.1
     (number_more c.args.base c.args.digits.now c.loop-octet.octet-index c.loop-octet.value c.in_ok-worth.worth

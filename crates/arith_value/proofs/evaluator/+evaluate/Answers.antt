@@ -13,10 +13,12 @@ pub returns-then-is_true : goal.returns-then-is_true
 returns-then-is_true t c =
     let fits : FitsSigned w64 c.in_ok-tested-in-Conditional.tested = search rules in
     let holds : is_true c.in_ok-tested-in-Conditional.tested ≡ true =
-    ap is_true (sym (to_z-of_z w64 c.in_ok-tested-in-Conditional.tested fits)) ∙ sym c.is_true.ensures ∙ c.if-is_true.true in
+    ap is_true (sym (to_z-of_z w64 c.in_ok-tested-in-Conditional.tested fits)) ∙ sym c.is_true.ensures
+    ∙ c.if-is_true.true in
     rw c.in-Conditional.is
     (chained (value (tree_of c.in-Conditional.condition.value))
-    (λ a. if is_true a then value (tree_of c.in-Conditional.if_so.value) else value (tree_of c.in-Conditional.if_not.value))
+    (λ a. if is_true a then value (tree_of c.in-Conditional.if_so.value) else value
+    (tree_of c.in-Conditional.if_not.value))
     c.args.variables.now c.evaluate-in-Conditional.new.variables _ c.in_ok-tested-in-Conditional.tested _
     (rw (← c.deref-in-Conditional.ensures) c.in_ok-tested-in-Conditional.ensures)
     (rw (holds, ← c.deref-then-is_true.ensures) c.evaluate-then-is_true.ensures))
@@ -25,10 +27,12 @@ pub returns-else-is_true : goal.returns-else-is_true
 returns-else-is_true t c =
     let fits : FitsSigned w64 c.in_ok-tested-in-Conditional.tested = search rules in
     let fails : is_true c.in_ok-tested-in-Conditional.tested ≡ false =
-    ap is_true (sym (to_z-of_z w64 c.in_ok-tested-in-Conditional.tested fits)) ∙ sym c.is_true.ensures ∙ c.if-is_true.false in
+    ap is_true (sym (to_z-of_z w64 c.in_ok-tested-in-Conditional.tested fits)) ∙ sym c.is_true.ensures
+    ∙ c.if-is_true.false in
     rw c.in-Conditional.is
     (chained (value (tree_of c.in-Conditional.condition.value))
-    (λ a. if is_true a then value (tree_of c.in-Conditional.if_so.value) else value (tree_of c.in-Conditional.if_not.value))
+    (λ a. if is_true a then value (tree_of c.in-Conditional.if_so.value) else value
+    (tree_of c.in-Conditional.if_not.value))
     c.args.variables.now c.evaluate-in-Conditional.new.variables _ c.in_ok-tested-in-Conditional.tested _
     (rw (← c.deref-in-Conditional.ensures) c.in_ok-tested-in-Conditional.ensures)
     (rw (fails, ← c.deref-else-is_true.ensures) c.evaluate-else-is_true.ensures))
@@ -41,42 +45,55 @@ returns-in_ok-assigned-in-Assignment t c =
     (λ a. assignment_of c.in-Assignment.name c.in-Assignment.op a)
     c.args.variables.now c.evaluate-in-Assignment.new.variables _ c.in_ok-assigned-in-Assignment.assigned _
     (rw (← c.deref-in-Assignment.ensures) c.in_ok-assigned-in-Assignment.ensures)
-    (rw (← c.as_str-in-Assignment.ensures, ← to_z-of_z w64 c.in_ok-assigned-in-Assignment.assigned fits) c.assign.ensures))
+    (rw (← c.as_str-in-Assignment.ensures, ← to_z-of_z w64 c.in_ok-assigned-in-Assignment.assigned fits)
+    c.assign.ensures))
 
 pub returns-in_err-second-in-Binary : goal.returns-in_err-second-in-Binary
 returns-in_err-second-in-Binary t c =
     let fits : FitsSigned w64 c.in_ok-first-in-Binary.first = search rules in
     let undecided : decided c.in-Binary.op c.in_ok-first-in-Binary.first ≡ None =
-    ap (decided c.in-Binary.op) (sym (to_z-of_z w64 c.in_ok-first-in-Binary.first fits)) ∙ sym c.decided.ensures ∙ c.in_default.is in
+    ap (decided c.in-Binary.op) (sym (to_z-of_z w64 c.in_ok-first-in-Binary.first fits)) ∙ sym c.decided.ensures
+    ∙ c.in_default.is in
     let Failed : Expression → Type 0 =
-    λ e. Evaluates (value (tree_of e)) c.evaluate-in-Binary.new.variables (Err c.in_err-second-in-Binary.field-0.0) c.evaluate-in-Binary-2.new.variables in
-    let fault = err_from_is_err_and c.from_residual-in_err-second-in-Binary.result c.from_residual-in_err-second-in-Binary.ensures.1 in
+    λ e. Evaluates (value (tree_of e)) c.evaluate-in-Binary.new.variables (Err c.in_err-second-in-Binary.field-0.0)
+    c.evaluate-in-Binary-2.new.variables in
+    let fault = err_from_is_err_and c.from_residual-in_err-second-in-Binary.result
+    c.from_residual-in_err-second-in-Binary.ensures.1 in
     rw c.in-Binary.is
     (chained (value (tree_of c.in-Binary.left.value))
     (λ a. operate c.in-Binary.op a (value (tree_of c.in-Binary.right.value)))
     c.args.variables.now c.evaluate-in-Binary.new.variables _ c.in_ok-first-in-Binary.first _
     (rw (← c.deref-in-Binary.ensures) c.in_ok-first-in-Binary.ensures)
-    (rw (fault.1, fault.2) (goes_on c.in-Binary.op c.in_ok-first-in-Binary.first (value (tree_of c.in-Binary.right.value)) c.evaluate-in-Binary.new.variables c.evaluate-in-Binary-2.new.variables (Err c.in_err-second-in-Binary.field-0.0) undecided
-    (broken (value (tree_of c.in-Binary.right.value)) (λ b. give (apply c.in-Binary.op c.in_ok-first-in-Binary.first b)) c.evaluate-in-Binary.new.variables c.evaluate-in-Binary-2.new.variables c.in_err-second-in-Binary.field-0.0
+    (rw (fault.1, fault.2) (goes_on c.in-Binary.op c.in_ok-first-in-Binary.first
+    (value (tree_of c.in-Binary.right.value)) c.evaluate-in-Binary.new.variables
+    c.evaluate-in-Binary-2.new.variables (Err c.in_err-second-in-Binary.field-0.0) undecided
+    (broken (value (tree_of c.in-Binary.right.value)) (λ b. give (apply c.in-Binary.op c.in_ok-first-in-Binary.first b))
+    c.evaluate-in-Binary.new.variables c.evaluate-in-Binary-2.new.variables c.in_err-second-in-Binary.field-0.0
     (subst Failed c.deref-in-Binary-2.ensures c.in_err-second-in-Binary.ensures)))))
 
 pub returns-in_ok-second-in-Binary : goal.returns-in_ok-second-in-Binary
 returns-in_ok-second-in-Binary t c =
     let fits : FitsSigned w64 c.in_ok-first-in-Binary.first = search rules in
     let undecided : decided c.in-Binary.op c.in_ok-first-in-Binary.first ≡ None =
-    ap (decided c.in-Binary.op) (sym (to_z-of_z w64 c.in_ok-first-in-Binary.first fits)) ∙ sym c.decided.ensures ∙ c.in_default.is in
+    ap (decided c.in-Binary.op) (sym (to_z-of_z w64 c.in_ok-first-in-Binary.first fits)) ∙ sym c.decided.ensures
+    ∙ c.in_default.is in
     let fits_too : FitsSigned w64 c.in_ok-second-in-Binary.second = search rules in
     let applied : c.apply.result ≡ apply c.in-Binary.op c.in_ok-first-in-Binary.first c.in_ok-second-in-Binary.second =
     c.apply.ensures
-    ∙ ap (λ a. apply c.in-Binary.op a (to_z w64 (of_z w64 c.in_ok-second-in-Binary.second))) (to_z-of_z w64 c.in_ok-first-in-Binary.first fits)
-    ∙ ap (apply c.in-Binary.op c.in_ok-first-in-Binary.first) (to_z-of_z w64 c.in_ok-second-in-Binary.second fits_too) in
+    ∙ ap (λ a. apply c.in-Binary.op a (to_z w64 (of_z w64 c.in_ok-second-in-Binary.second)))
+    (to_z-of_z w64 c.in_ok-first-in-Binary.first fits)
+    ∙ ap (apply c.in-Binary.op c.in_ok-first-in-Binary.first) (to_z-of_z w64 c.in_ok-second-in-Binary.second fits_too)
+    in
     rw c.in-Binary.is
     (chained (value (tree_of c.in-Binary.left.value))
     (λ a. operate c.in-Binary.op a (value (tree_of c.in-Binary.right.value)))
     c.args.variables.now c.evaluate-in-Binary.new.variables _ c.in_ok-first-in-Binary.first _
     (rw (← c.deref-in-Binary.ensures) c.in_ok-first-in-Binary.ensures)
-    (goes_on c.in-Binary.op c.in_ok-first-in-Binary.first (value (tree_of c.in-Binary.right.value)) c.evaluate-in-Binary.new.variables c.evaluate-in-Binary-2.new.variables c.apply.result undecided
-    (chained (value (tree_of c.in-Binary.right.value)) (λ b. give (apply c.in-Binary.op c.in_ok-first-in-Binary.first b))
+    (goes_on c.in-Binary.op c.in_ok-first-in-Binary.first (value (tree_of c.in-Binary.right.value))
+    c.evaluate-in-Binary.new.variables c.evaluate-in-Binary-2.new.variables c.apply.result undecided
+    (chained (value (tree_of c.in-Binary.right.value)) (λ b.
+    give (apply c.in-Binary.op c.in_ok-first-in-Binary.first b))
     c.evaluate-in-Binary.new.variables c.evaluate-in-Binary-2.new.variables _ c.in_ok-second-in-Binary.second _
     (rw (← c.deref-in-Binary-2.ensures) c.in_ok-second-in-Binary.ensures)
-    (rw applied (given (apply c.in-Binary.op c.in_ok-first-in-Binary.first c.in_ok-second-in-Binary.second) c.evaluate-in-Binary-2.new.variables)))))
+    (rw applied (given (apply c.in-Binary.op c.in_ok-first-in-Binary.first c.in_ok-second-in-Binary.second)
+    c.evaluate-in-Binary-2.new.variables)))))

@@ -1,13 +1,17 @@
 use Rattle.std.proofs.Common.{sym}
 use Rattle.std.proofs.lemmas.Iterator.{YieldsList-from_chars}
 use Rattle.std.proofs.lemmas.Iterator.Consumers.{YieldsList-turn, YieldsList-end}
-use Rattle.interp_core.proofs.CursorLemmas.{all_front, around_end, around_other, around_stop, around_word, behind_next, front_more}
+use Rattle.interp_core.proofs.CursorLemmas.{all_front, around_end, around_other, around_stop, around_word, behind_next}
+use Rattle.interp_core.proofs.CursorLemmas.{front_more}
 use Rattle.interp_core.proofs.cursor.word_around.Goals as goal
-use Rattle.interp_core.proofs.cursor.word_around.Goals.{in-None, in-Some+else-is_word_character+then-left-eq0, then-is_word_character+in_ok-push, else-is_word_character+else-left-eq0}
+use Rattle.interp_core.proofs.cursor.word_around.Goals.{in-None, in-Some+else-is_word_character+then-left-eq0}
+use Rattle.interp_core.proofs.cursor.word_around.Goals.{then-is_word_character+in_ok-push}
+use Rattle.interp_core.proofs.cursor.word_around.Goals.{else-is_word_character+else-left-eq0}
 
 pub loop-c-preserved : goal.loop-c-preserved
 loop-c-preserved c =
-    let t = YieldsList-turn (YieldsList-from_chars c.args.text.now c.utf8.text cc) c.loop-c.yielded _ c.loop-c.yielded_by _ _ c.in-Some.c c.in-Some.is c.next.ensures.steps in
+    let t = YieldsList-turn (YieldsList-from_chars c.args.text.now c.utf8.text cc) c.loop-c.yielded _
+    c.loop-c.yielded_by _ _ c.in-Some.c c.in-Some.is c.next.ensures.steps in
     record {
       front = front_more _ _ _ c.loop-c.invariant.front t;
       so_far = elim c.if-is_word_character.branch [
@@ -23,9 +27,12 @@ loop-c-preserved c =
 pub returns : goal.returns
 returns c = elim c.match-next.branch [
   | in-None w ↦
-      let t = YieldsList-end (YieldsList-from_chars c.args.text.now c.utf8.text cc) c.loop-c.yielded _ c.loop-c.yielded_by _ _ w.in-None.is c.next.ensures.steps in
+      let t = YieldsList-end (YieldsList-from_chars c.args.text.now c.utf8.text cc) c.loop-c.yielded _
+      c.loop-c.yielded_by _ _ w.in-None.is c.next.ensures.steps in
       rw c.new.ensures (around_end _ _ _ _ _ c.loop-c.invariant.so_far (all_front _ _ c.loop-c.invariant.front t.1))
   | in-Some+else-is_word_character+then-left-eq0 w ↦
-      let t = YieldsList-turn (YieldsList-from_chars c.args.text.now c.utf8.text cc) c.loop-c.yielded _ c.loop-c.yielded_by _ _ w.in-Some.c w.in-Some.is c.next.ensures.steps in
-      rw c.new.ensures (around_stop _ _ _ _ _ _ _ c.loop-c.invariant.so_far w.if-left-eq0.true (sym w.if-is_word_character.ensures) (behind_next _ _ _ c.loop-c.invariant.front t))
+      let t = YieldsList-turn (YieldsList-from_chars c.args.text.now c.utf8.text cc) c.loop-c.yielded _
+      c.loop-c.yielded_by _ _ w.in-Some.c w.in-Some.is c.next.ensures.steps in
+      rw c.new.ensures (around_stop _ _ _ _ _ _ _ c.loop-c.invariant.so_far w.if-left-eq0.true
+      (sym w.if-is_word_character.ensures) (behind_next _ _ _ c.loop-c.invariant.front t))
 ]

@@ -10,4 +10,8 @@ returns-in_err-waiting c =
     rw (p.1, p.2) (read_fails _ _ c.in_err-waiting.ensures)
 
 pub returns : goal.returns
-returns c = record { cell = Ok (map tree_of c.in_ok-waiting.waiting.items); means = c.in_ok-waiting.ensures; answers = refl }
+returns c = record {
+  cell = Ok (map tree_of c.in_ok-waiting.waiting.items);
+  means = c.in_ok-waiting.ensures;
+  answers = refl;
+}

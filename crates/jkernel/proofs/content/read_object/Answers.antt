@@ -8,10 +8,12 @@ returns-then-is_object-clause-fine c =
 
 pub returns-in-Ok-clause-malformed : goal.returns-in-Ok-clause-malformed
 returns-in-Ok-clause-malformed c =
-    let judged = judged_object-other _ _ c.in-Ok.ensures.ok.0 c.in-Ok.ensures.ok.1 (sym c.is_object.ensures ∙ c.if-is_object.false) in
+    let judged = judged_object-other _ _ c.in-Ok.ensures.ok.0 c.in-Ok.ensures.ok.1
+    (sym c.is_object.ensures ∙ c.if-is_object.false) in
     λ fault is. cc
 
 pub returns-clause-malformed : goal.returns-clause-malformed
 returns-clause-malformed c =
-    let judged = judged_object-unread _ (c.in-Err.ensures.err (λ memory. cc (c.is_memory.ensures.1 memory, c.if-is_memory.false))) in
+    let judged = judged_object-unread _ (c.in-Err.ensures.err
+    (λ memory. cc (c.is_memory.ensures.1 memory, c.if-is_memory.false))) in
     λ fault is. cc

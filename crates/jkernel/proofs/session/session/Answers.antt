@@ -5,6 +5,8 @@ pub returns : goal.returns
 returns g c =
     let (left, served) = c.serve.ensures in (
       left,
-      exchange_of c.args.engine.now c.serve.new.server (g.R.Inlet.inflow c.args.reader.now) (g.R.Inlet.inflow c.serve.new.reader)
-          (g.W.Outlet.outflow c.args.writer.now) (g.W.Outlet.outflow c.serve.new.writer) c.args.turns left c.serve.result served,
+      exchange_of c.args.engine.now c.serve.new.server (g.R.Inlet.inflow c.args.reader.now)
+          (g.R.Inlet.inflow c.serve.new.reader)
+          (g.W.Outlet.outflow c.args.writer.now) (g.W.Outlet.outflow c.serve.new.writer) c.args.turns left
+          c.serve.result served,
     )

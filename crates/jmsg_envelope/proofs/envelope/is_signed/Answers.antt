@@ -11,7 +11,8 @@ pub returns-clause-right : goal.returns-clause-right
 returns-clause-right c right =
     let octets = signed_octets (parts_of c.args.split.now) in
     let digits : c.digits_of-digits.result ≡ encode_lower (hmac c.args.signer.now octets) =
-    rw (c.deref.ensures.value, c.deref-2.ensures.value, c.deref-3.ensures.value, c.deref-4.ensures.value) at c.digits_of-digits.ensures in
+    rw (c.deref.ensures.value, c.deref-2.ensures.value, c.deref-3.ensures.value, c.deref-4.ensures.value) at
+    c.digits_of-digits.ensures in
     let same = rw (c.deref-5.ensures.value, digits) at (c.are_same_digits.ensures.0 right) in
     inr (same ∙ lower-encode_lower (hmac c.args.signer.now octets))
 
@@ -19,9 +20,11 @@ pub returns-clause-wrong : goal.returns-clause-wrong
 returns-clause-wrong c wrong =
     let octets = signed_octets (parts_of c.args.split.now) in
     let digits : c.digits_of-digits.result ≡ encode_lower (hmac c.args.signer.now octets) =
-    rw (c.deref.ensures.value, c.deref-2.ensures.value, c.deref-3.ensures.value, c.deref-4.ensures.value) at c.digits_of-digits.ensures in
+    rw (c.deref.ensures.value, c.deref-2.ensures.value, c.deref-3.ensures.value, c.deref-4.ensures.value) at
+    c.digits_of-digits.ensures in
     let lower = lower-encode_lower (hmac c.args.signer.now octets) in
     record {
       keyed = λ none. false≢true (c.if-is_keyless.ensures.1 none);
-      differs = λ same. false≢true (sym wrong ∙ c.are_same_digits.ensures.1 (rw (c.deref-5.ensures.value, digits) (same ∙ sym lower)));
+      differs = λ same. false≢true (sym wrong ∙ c.are_same_digits.ensures.1
+          (rw (c.deref-5.ensures.value, digits) (same ∙ sym lower)));
     }

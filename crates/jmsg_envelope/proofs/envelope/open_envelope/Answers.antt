@@ -5,4 +5,8 @@ use Rattle.jmsg_envelope.proofs.envelope.open_envelope.Goals as goal
 pub returns-in_err-split-clause-refused : goal.returns-in_err-split-clause-refused
 returns-in_err-split-clause-refused c =
     let p = err_from_is_err_and c.from_residual.result c.from_residual.ensures.1 in
-    rw (p.1, p.2) (elim c.in_err-split.ensures.err [ inl memory ↦ inl memory | inr refused ↦ inr (refused c.args.signer.now) ])
+    rw (p.1, p.2) (elim c.in_err-split.ensures.err [
+      | inl memory ↦ inl memory
+      | inr refused ↦
+          inr (refused c.args.signer.now)
+    ])

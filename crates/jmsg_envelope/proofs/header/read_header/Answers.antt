@@ -8,4 +8,8 @@ returns-in-Ok-clause-ok c = header_names-from_read c.args.octets.now _ c.in-Ok.e
 
 pub returns-in-Err-2-clause-err : goal.returns-in-Err-2-clause-err
 returns-in-Err-2-clause-err c =
-    inr (refl, header_names-None c.args.octets.now (c.in-Err.ensures.err (λ memory. false≢true (c.if-is_memory.ensures.1 memory))))
+    inr (
+      refl,
+      header_names-None c.args.octets.now (c.in-Err.ensures.err
+          (λ memory. false≢true (c.if-is_memory.ensures.1 memory))),
+    )

@@ -10,4 +10,5 @@ loop-octet-preserved c =
     let among : index < length c.args.block.now = omega arith in
     let as_long = simp (length-append, length-map, length-take, length-drop) at (ap length c.loop-octet.invariant) in
     let within : index < length items = omega (arith, as_long) in
-    map_over_more (λ (octet : ℕ). bit_xor octet c.args.pad) c.args.block.now items index (slice_index items index) among c.loop-octet.invariant (get_or_default items index 0 (slice_index items index) within)
+    map_over_more (λ (octet : ℕ). bit_xor octet c.args.pad) c.args.block.now items index (slice_index items index) among
+    c.loop-octet.invariant (get_or_default items index 0 (slice_index items index) within)

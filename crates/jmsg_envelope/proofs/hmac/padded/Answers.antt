@@ -4,4 +4,5 @@ use Rattle.jmsg_envelope.proofs.hmac.padded.Goals as goal
 
 pub returns : goal.returns
 returns c =
-    rw c.copy_from_slice.ensures.after (ap (λ zeros. c.args.key.now ++ zeros) (drop-replicate (length c.args.key.now) 64 0))
+    rw c.copy_from_slice.ensures.after (ap (λ zeros. c.args.key.now ++ zeros)
+    (drop-replicate (length c.args.key.now) 64 0))

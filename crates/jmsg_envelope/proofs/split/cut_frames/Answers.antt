@@ -8,18 +8,22 @@ use Rattle.jmsg_envelope.proofs.split.cut_frames.Goals as goal
 
 pub returns-in_default-clause-err : goal.returns-in_default-clause-err
 returns-in_default-clause-err c =
-    let found : position (λ f. is_delimiter f.items) c.args.frames.items ≡ None = rw c.deref.ensures.value at (sym c.in_default.ensures) in
+    let found : position (λ f. is_delimiter f.items) c.args.frames.items ≡ None =
+    rw c.deref.ensures.value at (sym c.in_default.ensures) in
     inr (λ key. none_found (bodies c.args.frames.items) (bodies_found c.args.frames.items _ found))
 
 pub returns-then-len-at-lt-FIXED_FRAMES-clause-err :
     goal.returns-then-len-at-lt-FIXED_FRAMES-clause-err
 returns-then-len-at-lt-FIXED_FRAMES-clause-err c =
-    let found : position (λ f. is_delimiter f.items) c.args.frames.items ≡ Some c.in-Some.at = rw c.deref.ensures.value at (sym c.in-Some.ensures) in
-    inr (λ key. too_short (bodies c.args.frames.items) c.in-Some.at (bodies_found c.args.frames.items _ found) (rw length_of_bodies (omega (arith, c.args.frames.ok.0))))
+    let found : position (λ f. is_delimiter f.items) c.args.frames.items ≡ Some c.in-Some.at =
+    rw c.deref.ensures.value at (sym c.in-Some.ensures) in
+    inr (λ key. too_short (bodies c.args.frames.items) c.in-Some.at (bodies_found c.args.frames.items _ found)
+    (rw length_of_bodies (omega (arith, c.args.frames.ok.0))))
 
 pub returns-clause-ok : goal.returns-clause-ok
 returns-clause-ok c =
-    let found : position (λ f. is_delimiter f.items) c.args.frames.items ≡ Some c.in-Some.at = rw c.deref.ensures.value at (sym c.in-Some.ensures) in
+    let found : position (λ f. is_delimiter f.items) c.args.frames.items ≡ Some c.in-Some.at =
+    rw c.deref.ensures.value at (sym c.in-Some.ensures) in
     let split : Split = record {
       identities = c.take_last-delimiter.new.self;
       signature = c.take_last-signature.result;
@@ -32,7 +36,14 @@ returns-clause-ok c =
     let cut = c.in_ok-buffers.ensures.len in
     IsSplit-from_taken c.args.frames.items c.in-Some.at c.take_last-delimiter.result split record {
       front = sym c.in_ok-buffers.ensures.items
-          ∙ rw (c.take_last-content.ensures.items, c.take_last-metadata.ensures.items, c.take_last-parent.ensures.items, c.take_last-header.ensures.items, c.take_last-signature.ensures.items, c.take_last-delimiter.ensures.items) refl;
+          ∙ rw (
+            c.take_last-content.ensures.items,
+            c.take_last-metadata.ensures.items,
+            c.take_last-parent.ensures.items,
+            c.take_last-header.ensures.items,
+            c.take_last-signature.ensures.items,
+            c.take_last-delimiter.ensures.items,
+          ) refl;
       back = sym c.in_ok-buffers.ensures.tail;
       place = omega (arith, cut, c.take_last-delimiter.new.self.ok.0);
     } found

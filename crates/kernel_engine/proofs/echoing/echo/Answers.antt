@@ -6,5 +6,6 @@ returns g c =
     let (left, served) = c.serve.ensures in (
       left,
       echo_served _ c.serve.new.server (g.R.Inlet.inflow c.args.reader.now) (g.R.Inlet.inflow c.serve.new.reader)
-          (g.W.Outlet.outflow c.args.writer.now) (g.W.Outlet.outflow c.serve.new.writer) c.args.turns left c.serve.result served,
+          (g.W.Outlet.outflow c.args.writer.now) (g.W.Outlet.outflow c.serve.new.writer) c.args.turns left
+          c.serve.result served,
     )

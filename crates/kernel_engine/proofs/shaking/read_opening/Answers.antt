@@ -6,7 +6,11 @@ use Rattle.kernel_engine.proofs.Opening.{filled_short, filled_whole, filled_more
 use Rattle.kernel_engine.proofs.shaking.read_opening.Goals as goal
 
 pub loop-filled-init : goal.loop-filled-init
-loop-filled-init g c = record { fits = omega arith; whole = refl; leg = leg_none (g.R.Inlet.inflow c.args.reader.now) c.args.turns.now }
+loop-filled-init g c = record {
+  fits = omega arith;
+  whole = refl;
+  leg = leg_none (g.R.Inlet.inflow c.args.reader.now) c.args.turns.now;
+}
 
 pub returns-in_err-filled-clause-err : goal.returns-in_err-filled-clause-err
 returns-in_err-filled-clause-err g c =
@@ -18,7 +22,8 @@ returns-in_err-filled-clause-err g c =
       (
         take c.loop-filled.filled c.loop-filled.opening,
         filled_short c.loop-filled.opening c.loop-filled.filled c.loop-filled-test.true so_far.whole,
-        stop_on (g.R.Inlet.inflow c.args.reader.now) (g.R.Inlet.inflow c.loop-filled.reader) (g.R.Inlet.inflow c.read_turn.new.reader) c.args.turns.now c.loop-filled.turns c.read_turn.new.turns
+        stop_on (g.R.Inlet.inflow c.args.reader.now) (g.R.Inlet.inflow c.loop-filled.reader)
+            (g.R.Inlet.inflow c.read_turn.new.reader) c.args.turns.now c.loop-filled.turns c.read_turn.new.turns
             (take c.loop-filled.filled c.loop-filled.opening) c.in_err-filled.field-0.0 so_far.leg reading,
       ),
     )
@@ -26,7 +31,8 @@ returns-in_err-filled-clause-err g c =
 pub loop-filled-preserved : goal.loop-filled-preserved
 loop-filled-preserved g c =
     let (some, fits, fewer, leg) = c.in_ok-filled.ensures.ok in
-    filled_more (g.R.Inlet.inflow c.args.reader.now) (g.R.Inlet.inflow c.loop-filled.reader) (g.R.Inlet.inflow c.read_turn.new.reader) c.args.turns.now c.loop-filled.turns c.read_turn.new.turns
+    filled_more (g.R.Inlet.inflow c.args.reader.now) (g.R.Inlet.inflow c.loop-filled.reader)
+    (g.R.Inlet.inflow c.read_turn.new.reader) c.args.turns.now c.loop-filled.turns c.read_turn.new.turns
     c.loop-filled.opening c.read_turn.new.into c.loop-filled.filled c.in_ok-filled.field-0 c.loop-filled.invariant
     c.read_turn.auto.into fits leg
 
@@ -34,6 +40,8 @@ pub returns-clause-ok : goal.returns-clause-ok
 returns-clause-ok g c =
     let so_far = c.loop-filled.invariant in (
       so_far.whole,
-      subst (Leg (g.R.Inlet.inflow c.args.reader.now) (g.R.Inlet.inflow c.loop-filled.reader) c.args.turns.now c.loop-filled.turns)
-          (filled_whole c.loop-filled.opening c.loop-filled.filled so_far.fits c.loop-filled-test.false so_far.whole) so_far.leg,
+      subst (Leg (g.R.Inlet.inflow c.args.reader.now) (g.R.Inlet.inflow c.loop-filled.reader) c.args.turns.now
+          c.loop-filled.turns)
+          (filled_whole c.loop-filled.opening c.loop-filled.filled so_far.fits c.loop-filled-test.false so_far.whole)
+          so_far.leg,
     )

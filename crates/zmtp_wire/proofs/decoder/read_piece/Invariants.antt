@@ -4,7 +4,8 @@ use Rattle.zmtp_wire.proofs.FeedLemmas.{Fed}
 use Rattle.zmtp_wire.proofs.decoder.read_piece.Given as goal
 
 abbrev pub invariant-loop-rest : goal.invariant-loop-rest
-invariant-loop-rest l = Fed l.fn.pending.limits (pending_octets l.fn.pending ++ l.fn.piece) l.traffic.items l.pending l.rest
+invariant-loop-rest l = Fed l.fn.pending.limits (pending_octets l.fn.pending ++ l.fn.piece) l.traffic.items l.pending
+    l.rest
 
 abbrev pub decreases-loop-rest : goal.decreases-loop-rest
 decreases-loop-rest l = length l.rest

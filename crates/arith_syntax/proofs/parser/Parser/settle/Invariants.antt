@@ -5,7 +5,8 @@ use Rattle.arith_syntax.proofs.parser.Parser.settle.Given as goal
 
 abbrev pub invariant-loop-frame : goal.invariant-loop-frame
 invariant-loop-frame l =
-    (settle l.weakest (stack_of l.self.frames.items) (tree_of l.operand) ≡ settle l.weakest (stack_of l.fn.self.frames.items) (tree_of l.fn.operand))
+    (settle l.weakest (stack_of l.self.frames.items) (tree_of l.operand)
+    ≡ settle l.weakest (stack_of l.fn.self.frames.items) (tree_of l.fn.operand))
     × (l.self.operand ≡ l.fn.self.operand)
 
 abbrev pub decreases-loop-frame : goal.decreases-loop-frame

@@ -6,11 +6,17 @@ use Rattle.zmtp_wire.proofs.pending.Pending.judge_flags.Goals as goal
 use Rattle.zmtp_wire.proofs.pending.Pending.judge_flags.Goals.{then-flags-2, else-flags-2}
 
 pub returns-in_default-clause-err : goal.returns-in_default-clause-err
-returns-in_default-clause-err c = λ after. (c.args.octet, after, refl, reserved c.args.octet c.in_default.ensures.reserved)
+returns-in_default-clause-err c = λ after. (
+  c.args.octet,
+  after,
+  refl,
+  reserved c.args.octet c.in_default.ensures.reserved,
+)
 
 pub returns-then-not-is_empty-clause-err : goal.returns-then-not-is_empty-clause-err
 returns-then-not-is_empty-clause-err c =
-    let bad = bad_command c.args.self.now.frames.items c.args.octet c.in-Some.flags.more c.in-Some.flags.long c.in-Some.flags.command c.in-Some.ensures.known c.if-flags.true in
+    let bad = bad_command c.args.self.now.frames.items c.args.octet c.in-Some.flags.more c.in-Some.flags.long
+    c.in-Some.flags.command c.in-Some.ensures.known c.if-flags.true in
     λ after. (
       c.args.octet,
       after,
