@@ -77,13 +77,17 @@ abbrev pub content_text_of : Content → List ℕ
 content_text_of (Status Starting) = codes "{\"execution_state\":\"starting\"}"
 content_text_of (Status Busy) = codes "{\"execution_state\":\"busy\"}"
 content_text_of (Status Idle) = codes "{\"execution_state\":\"idle\"}"
-content_text_of KernelInfo = codes "{\"banner\":\"Shell arithmetic in
-    64
-    bits\",\"help_links\":[],\"implementation\":\"jkernel\",\"implementation_version\":\"1.0\",\"language_info\":{\"file_extension\":\".sha\",\"mimetype\":\"text/plain\",\"name\":\"sharith\",\"version\":\"1.0\"},\"protocol_version\":\"5.3\",\"status\":\"ok\"}"
-content_text_of (Refused NotJson) = codes "{\"ename\":\"ContentError\",\"evalue\":\"content is not
-    JSON\",\"status\":\"error\",\"traceback\":[\"ContentError: content is not JSON\"]}"
-content_text_of (Refused NotAnObject) = codes "{\"ename\":\"ContentError\",\"evalue\":\"content is not an
-    object\",\"status\":\"error\",\"traceback\":[\"ContentError: content is not an object\"]}"
+content_text_of KernelInfo =
+    codes "{\"banner\":\"Shell arithmetic in 64 bits\",\"help_links\":[],\"implementation\":\"jkernel\","
+    ++ codes "\"implementation_version\":\"1.0\",\"language_info\":{\"file_extension\":\".sha\","
+    ++ codes "\"mimetype\":\"text/plain\",\"name\":\"sharith\",\"version\":\"1.0\"},"
+    ++ codes "\"protocol_version\":\"5.3\",\"status\":\"ok\"}"
+content_text_of (Refused NotJson) =
+    codes "{\"ename\":\"ContentError\",\"evalue\":\"content is not JSON\",\"status\":\"error\","
+    ++ codes "\"traceback\":[\"ContentError: content is not JSON\"]}"
+content_text_of (Refused NotAnObject) =
+    codes "{\"ename\":\"ContentError\",\"evalue\":\"content is not an object\",\"status\":\"error\","
+    ++ codes "\"traceback\":[\"ContentError: content is not an object\"]}"
 
 -- The type of the message that carries a content (Messaging in Jupyter 5.3).
 abbrev pub message_type_of : Content → List ℕ
