@@ -9,7 +9,7 @@ use Rattle.kernel_engine.specs.Peer.{Message}
 use Rattle.kernel_engine.specs.Laws.{HearsOnce}
 use Rattle.jkernel.specs.Block.{starting, block, reply_of, reply_text, ids_of}
 use Rattle.jkernel.specs.Lines.{printed_lines}
-use Rattle.jkernel.specs.Session.{Serves, IsSession, SessionHasOneValue, LinesHaveOneValue}
+use Rattle.jkernel.specs.Session.{AnswersMessages, IsSession, SessionHasOneValue, LinesHaveOneValue}
 
 -- the laws of the layers below
 pub record Laws : Type 0 where
@@ -20,7 +20,7 @@ pub record Laws : Type 0 where
 -- what is served is one value
 serves_once : (laws : Laws) (key : List ℕ) (number : ℕ) (messages : List Message) (replies others : List ℕ)
     (published also : List Message)
-    → Serves key number messages replies published → Serves key number messages others also → (replies ≡ others)
+    → AnswersMessages key number messages replies published → AnswersMessages key number messages others also → (replies ≡ others)
     × (published ≡ also)
 serves_once laws key number [] replies others published also one other = (one.0 ∙ sym other.0, one.1 ∙ sym other.1)
 serves_once laws key number (message ∷ messages) replies others published also (inl one) (inl other) =
@@ -35,7 +35,7 @@ serves_once laws key number (message ∷ messages) replies others published also
     (inr (request, r, p, opened, served, replies_are, published_are))
     (inr (request', r', p', opened', served', replies_are', published_are')) =
     let same : request ≡ request' = laws.opened key message request request' opened opened' in
-    let served'' = subst (λ (e : Envelope). Serves key (number + ids_of e) messages r' p') (sym same) served' in
+    let served'' = subst (λ (e : Envelope). AnswersMessages key (number + ids_of e) messages r' p') (sym same) served' in
     let later = serves_once laws key (number + ids_of request) messages r r' p p' served served'' in (
       replies_are ∙ ap (λ o. reply_text (reply_of key number request) ++ o) later.0
           ∙ ap (λ (e : Envelope). reply_text (reply_of key number e) ++ r') same ∙ sym replies_are',
@@ -48,7 +48,7 @@ pub session_once : Laws → SessionHasOneValue
 session_once laws key number octets written others published also one other first second =
     let (opening, messages, ends) = laws.hears Router octets first.opening second.opening first.messages second.messages
     one other first.hears second.hears in
-    let served' = subst (λ ms. Serves key number ms second.replies also) (sym messages) second.serves in
+    let served' = subst (λ ms. AnswersMessages key number ms second.replies also) (sym messages) second.serves in
     let (replies, messages') = serves_once laws key number first.messages first.replies second.replies published also
     first.serves served' in (
       first.all ∙ ap (λ o. o ++ first.replies) opening ∙ ap (λ o. second.opening ++ o) replies ∙ sym second.all,

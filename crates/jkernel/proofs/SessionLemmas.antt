@@ -13,7 +13,7 @@ use Rattle.zmtp_wire.specs.Device.{Inflow, Outflow}
 use Rattle.jmsg_envelope.specs.declared.envelope.Envelope.{Envelope}
 use Rattle.jmsg_envelope.specs.declared.fault.EnvelopeFault.{EnvelopeFault}
 use Rattle.jmsg_envelope.specs.declared.fault.EnvelopeFault.TheVariants.{OutOfMemory as EnvelopeMemory}
-use Rattle.jmsg_envelope.specs.Envelope.{IsRefused}
+use Rattle.jmsg_envelope.specs.Envelope.{IsNoEnvelope}
 use Rattle.kernel_engine.specs.declared.end.SessionEnd.{SessionEnd}
 use Rattle.kernel_engine.specs.declared.end.SessionEnd.TheVariants.{Eof, Shutdown, Wire, Failed}
 use Rattle.kernel_engine.specs.declared.fault.EngineFault.{EngineFault}
@@ -27,7 +27,7 @@ use Rattle.jkernel.specs.declared.content.Content.{Content}
 use Rattle.jkernel.specs.declared.engine.Engine.{Engine}
 use Rattle.jkernel.specs.Block.{reply_with, reply_of, reply_content, reply_text, block, starting}
 use Rattle.jkernel.specs.Lines.{printed_lines}
-use Rattle.jkernel.specs.Session.{IsDropped, Serves, IsSession, IsPrinted}
+use Rattle.jkernel.specs.Session.{IsDropped, AnswersMessages, IsSession, IsPrinted}
 use Rattle.jkernel.specs.Served.{ServesOne, IsServedBy, Sessions}
 use Rattle.jkernel.specs.Replay.{PrintsPeer, IsPrintable}
 
@@ -56,11 +56,11 @@ no_reply_is reply is = ap reply_text is
 
 -- a message that was dropped
 pub dropped : (key : List ℕ) (message frames : Message) (fault : EnvelopeFault) → frames ≡ message
-    → IsRefused key frames fault → IsDropped key message
-dropped key message frames fault same refused = (fault, subst (λ m. IsRefused key m fault) same refused)
+    → IsNoEnvelope key frames fault → IsDropped key message
+dropped key message frames fault same refused = (fault, subst (λ m. IsNoEnvelope key m fault) same refused)
 
 pub dropped_or : (key : List ℕ) (message frames : Message) (fault : EnvelopeFault) → frames ≡ message
-    → fault ≢ EnvelopeMemory → (fault ≡ EnvelopeMemory) ⊎ IsRefused key frames fault → IsDropped key message
+    → fault ≢ EnvelopeMemory → (fault ≡ EnvelopeMemory) ⊎ IsNoEnvelope key frames fault → IsDropped key message
 dropped_or key message frames fault same other (inl memory) = absurd (other memory)
 dropped_or key message frames fault same other (inr refused) = dropped key message frames fault same refused
 
@@ -69,7 +69,7 @@ record ServedAll (old : Engine) (messages : List Message) (replies : List ℕ) (
   published : List Message
   added : new.published.items ≡ old.published.items ++ published
   signer : new.signer ≡ old.signer
-  serves : Serves old.signer old.next messages replies published
+  serves : AnswersMessages old.signer old.next messages replies published
 
 served_all : (old : Engine) (messages : List Message) (replies : List ℕ) (new : Engine)
     → AnswersAll ServesOne old messages replies new → ServedAll old messages replies new
@@ -82,18 +82,18 @@ served_all old [] replies new (none, same) = record {
 served_all old (message ∷ messages) replies new (middle, reply, later, inl one, rest, is) =
     let ih = served_all middle messages later new rest in
     let same : replies ≡ later = is ∙ ap (λ o. o ++ later) one.silent in
-    let serves = subst (λ n. Serves old.signer n messages later ih.published) one.next
-    (subst (λ k. Serves k middle.next messages later ih.published) one.signer ih.serves) in
+    let serves = subst (λ n. AnswersMessages old.signer n messages later ih.published) one.next
+    (subst (λ k. AnswersMessages k middle.next messages later ih.published) one.signer ih.serves) in
     record {
       published = ih.published;
       added = ih.added ∙ ap (λ o. o ++ ih.published) one.published;
       signer = ih.signer ∙ one.signer;
-      serves = inl (one.dropped, subst (λ r. Serves old.signer old.next messages r ih.published) (sym same) serves);
+      serves = inl (one.dropped, subst (λ r. AnswersMessages old.signer old.next messages r ih.published) (sym same) serves);
     }
 served_all old (message ∷ messages) replies new (middle, reply, later, inr one, rest, is) =
     let ih = served_all middle messages later new rest in
-    let serves = subst (λ n. Serves old.signer n messages later ih.published) one.next
-    (subst (λ k. Serves k middle.next messages later ih.published) one.signer ih.serves) in
+    let serves = subst (λ n. AnswersMessages old.signer n messages later ih.published) one.next
+    (subst (λ k. AnswersMessages k middle.next messages later ih.published) one.signer ih.serves) in
     record {
       published = block old.signer old.next one.request ++ ih.published;
       added = ih.added ∙ ap (λ o. o ++ ih.published) one.published

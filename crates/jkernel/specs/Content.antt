@@ -29,10 +29,10 @@ abbrev pub traceback_line : Malformed → List ℕ
 traceback_line malformed = codes "ContentError: " ++ malformed_words malformed
 
 -- The number of a fault in a content.
-abbrev pub fault_number : ContentFault → ℕ
-fault_number (IsMalformed NotJson) = 30
-fault_number (IsMalformed NotAnObject) = 31
-fault_number OutOfMemory = 33
+abbrev pub content_fault_number : ContentFault → ℕ
+content_fault_number (IsMalformed NotJson) = 30
+content_fault_number (IsMalformed NotAnObject) = 31
+content_fault_number OutOfMemory = 33
 
 -- A status: the kernel's state (Messaging in Jupyter 5.3, "Kernel status").
 abbrev pub status_data : State → Data

@@ -4,3 +4,4 @@ pub mod Lines
 pub mod Replay
 pub mod Served
 pub mod Session
+pub mod Status

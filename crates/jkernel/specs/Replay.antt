@@ -4,21 +4,10 @@ use Rattle.std.specs.Io.KnownBytes.{Appends, Consumes, IsAtEnd}
 use Rattle.zmtp_wire.specs.declared.fault.WireFault.TheVariants.{OutOfMemory}
 use Rattle.kernel_engine.specs.declared.end.SessionEnd.{SessionEnd}
 use Rattle.kernel_engine.specs.declared.end.SessionEnd.TheVariants.{Eof, Shutdown, Wire, Failed}
-use Rattle.jkernel.specs.declared.replay.Status.{Status}
-use Rattle.jkernel.specs.declared.replay.Status.TheVariants.{Done, Failed, InputRefused}
+use Rattle.jkernel.specs.declared.status.Status.{Status}
+use Rattle.jkernel.specs.declared.status.Status.TheVariants.{Done, Failed, WordsRefused, InputRefused}
 use Rattle.jkernel.specs.Lines.{hex_octets}
 use Rattle.jkernel.specs.Session.{IsPrinted, IsLines}
-
--- the exit status of the program
-abbrev pub status_code : Status → ℕ
-status_code Done = 0
-status_code Failed = 1
-status_code InputRefused = 6
-
--- the line for a person on standard error, where an exit status has one
-abbrev pub status_words : ℕ → Option (List ℕ)
-status_words code = if code == 1 then Some (codes "jkernel: failed") else if code == 6 then Some
-    (codes "jkernel: replay input refused") else None
 
 -- the peer's octets ended the session, and neither memory nor a device did
 abbrev pub IsPrintable : SessionEnd → Type 0
@@ -47,4 +36,5 @@ IsNotHex input = IfSome input (λ octets. hex_octets octets ≡ None)
 abbrev pub Replays : List ℕ → Option (List ℕ) → Option (List ℕ) → Option (List ℕ) → Option (List ℕ) → Status → Type 0
 Replays key input left before after Done = IsReplayed key input left before after
 Replays key input left before after Failed = ⊤
+Replays key input left before after WordsRefused = ⊥
 Replays key input left before after InputRefused = IsNotHex input

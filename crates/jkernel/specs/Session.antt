@@ -6,7 +6,7 @@ use Rattle.zmtp_wire.specs.declared.socket_type.SocketType.TheVariants.{Router}
 use Rattle.zmtp_wire.specs.Frame.{text}
 use Rattle.jmsg_envelope.specs.declared.envelope.Envelope.{Envelope}
 use Rattle.jmsg_envelope.specs.declared.fault.EnvelopeFault.{EnvelopeFault}
-use Rattle.jmsg_envelope.specs.Envelope.{Opened, IsRefused}
+use Rattle.jmsg_envelope.specs.Envelope.{Opened, IsNoEnvelope}
 use Rattle.kernel_engine.specs.declared.end.SessionEnd.{SessionEnd}
 use Rattle.kernel_engine.specs.Peer.{Message, Hears}
 use Rattle.jkernel.specs.Block.{starting, block, reply_of, reply_text, ids_of}
@@ -14,16 +14,16 @@ use Rattle.jkernel.specs.Lines.{hex_octets, printed_lines}
 
 -- a message that the envelope refuses is dropped
 abbrev pub IsDropped : List ℕ → Message → Type 0
-IsDropped key message = (fault : EnvelopeFault) × IsRefused key message fault
+IsDropped key message = (fault : EnvelopeFault) × IsNoEnvelope key message fault
 
 -- The texts of the replies to these messages in turn, and the messages that are published for them, with ids
 -- from this number on.
-abbrev pub Serves : List ℕ → ℕ → List Message → List ℕ → List Message → Type 0
-Serves key number [] replies published = (replies ≡ []) × (published ≡ [])
-Serves key number (message ∷ messages) replies published =
-    (IsDropped key message × Serves key number messages replies published)
+abbrev pub AnswersMessages : List ℕ → ℕ → List Message → List ℕ → List Message → Type 0
+AnswersMessages key number [] replies published = (replies ≡ []) × (published ≡ [])
+AnswersMessages key number (message ∷ messages) replies published =
+    (IsDropped key message × AnswersMessages key number messages replies published)
     ⊎ ((request : Envelope) × (later_replies : List ℕ) × (later_published : List Message) × Opened key message request
-    × Serves key (number + ids_of request) messages later_replies later_published
+    × AnswersMessages key (number + ids_of request) messages later_replies later_published
     × (replies ≡ reply_text (reply_of key number request) ++ later_replies)
     × (published ≡ block key number request ++ later_published))
 
@@ -35,7 +35,7 @@ pub record IsSession (key : List ℕ) (number : ℕ) (octets written : List ℕ)
   pub messages : List Message
   pub replies : List ℕ
   pub hears : Hears Router octets opening messages ending
-  pub serves : Serves key number messages replies published
+  pub serves : AnswersMessages key number messages replies published
   pub all : written ≡ opening ++ replies
 
 -- the lines that are printed for all the octets that a peer sends: those of the session with it, behind the message

@@ -3,7 +3,7 @@
 ghost use Rattle.std.specs.Prelude.{◌≡◌, IfOk, OnOk, IsErrOf};
 ghost use Rattle.serde_json.specs.View.{view};
 ghost use Rattle.serde_json.specs.Written.{compact_text};
-ghost use Rattle.jkernel.specs.Content.{content_data, content_text_of, fault_number, judged_object, kernel_info_data};
+ghost use Rattle.jkernel.specs.Content.{content_data, content_text_of, content_fault_number, judged_object, kernel_info_data};
 ghost use Rattle.jkernel.specs.Content.{language_data, malformed_words, message_type_of, refusal_data, state_word};
 ghost use Rattle.jkernel.specs.Content.{status_data, traceback_line};
 
@@ -13,7 +13,7 @@ use thiserror::Error;
 
 /// What the kernel is doing.
 #[derive(Clone, Copy, Debug, PartialEq, Eq)]
-pub enum State {
+pub(crate) enum State {
     /// It has begun, and answered nothing yet.
     Starting,
     /// It works on a request.
@@ -24,7 +24,7 @@ pub enum State {
 
 /// What is wrong with a content.
 #[derive(Clone, Copy, Debug, PartialEq, Eq, Error)]
-pub enum Malformed {
+pub(crate) enum Malformed {
     /// It is no JSON.
     #[error("content is not JSON")]
     NotJson,
@@ -35,7 +35,7 @@ pub enum Malformed {
 
 /// A content that the kernel writes.
 #[derive(Clone, Copy, Debug, PartialEq, Eq)]
-pub enum Content {
+pub(crate) enum Content {
     /// What the kernel is doing.
     Status(State),
     /// What the kernel is.
@@ -46,7 +46,7 @@ pub enum Content {
 
 /// Why a content was not read.
 #[derive(Clone, Copy, Debug, PartialEq, Eq, Error)]
-pub enum ContentFault {
+pub(crate) enum ContentFault {
     /// The content is malformed.
     #[error(transparent)]
     Malformed(Malformed),
@@ -92,8 +92,8 @@ impl Malformed {
 
 impl ContentFault {
     /// Its number.
-    pub fn number(self) -> u8
-        ensures { result ≡ fault_number self }
+    pub(crate) fn number(self) -> u8
+        ensures { result ≡ content_fault_number self }
     {
         match self {
             ContentFault::Malformed(Malformed::NotJson) => 30,
@@ -162,7 +162,7 @@ fn content_value(alloc: Global, content: &Content) -> Result<Value, AllocError>
 }
 
 /// The text of a content: its JSON with no space.
-pub fn content_text(alloc: Global, content: &Content) -> Result<Vec<u8>, AllocError>
+pub(crate) fn content_text(alloc: Global, content: &Content) -> Result<Vec<u8>, AllocError>
     ensures json { IfOk result (λ text. text.items ≡ compact_text (content_data content.now)) }
     ensures letters { IfOk result (λ text. text.items ≡ content_text_of content.now) }
 {
@@ -171,7 +171,7 @@ pub fn content_text(alloc: Global, content: &Content) -> Result<Vec<u8>, AllocEr
 }
 
 /// The type of the message that carries a content.
-pub fn message_type(content: &Content) -> &'static str
+pub(crate) fn message_type(content: &Content) -> &'static str
     ensures { result.now ≡ message_type_of content.now }
 {
     match content {
@@ -181,7 +181,7 @@ pub fn message_type(content: &Content) -> &'static str
 }
 
 /// Reads a content, which is to be an object in JSON. JSON that nests over 127 deep counts as none.
-pub fn read_object(alloc: Global, content: &[u8]) -> Result<(), ContentFault>
+pub(crate) fn read_object(alloc: Global, content: &[u8]) -> Result<(), ContentFault>
     ensures fine { OnOk result (judged_object content.now ≡ None) }
     ensures malformed { (fault : Malformed) → IsErrOf result (ContentFault.Malformed fault)
         → judged_object content.now ≡ Some fault }
@@ -201,119 +201,5 @@ pub fn read_object(alloc: Global, content: &[u8]) -> Result<(), ContentFault>
                 Err(ContentFault::Malformed(Malformed::NotJson))
             }
         }
-    }
-}
-
-#[cfg(test)]
-mod tests {
-    use super::*;
-    use std::test::Fail;
-
-    fn is_written(alloc: Global, content: Content, text: &str) -> Result<bool, AllocError> {
-        Ok(content_text(alloc, &content)?.as_slice() == text.as_bytes())
-    }
-
-    #[test]
-    fn writes_each_status(rt: HostRuntime) -> Result<(), Fail> {
-        let starting = "{\"execution_state\":\"starting\"}";
-        let busy = "{\"execution_state\":\"busy\"}";
-        let idle = "{\"execution_state\":\"idle\"}";
-        assert!(rt; is_written(rt.alloc(), Content::Status(State::Starting), starting)?);
-        assert!(rt; is_written(rt.alloc(), Content::Status(State::Busy), busy)?);
-        assert!(rt; is_written(rt.alloc(), Content::Status(State::Idle), idle)?);
-        Ok(())
-    }
-
-    #[test]
-    fn writes_the_kernel_info(rt: HostRuntime) -> Result<(), Fail> {
-        let text =
-            "{\"banner\":\"Shell arithmetic in 64 bits\",\"help_links\":[],\"implementation\":\"jkernel\",\"implementation_version\":\"1.0\",\"language_info\":{\"file_extension\":\".sha\",\"mimetype\":\"text/plain\",\"name\":\"sharith\",\"version\":\"1.0\"},\"protocol_version\":\"5.3\",\"status\":\"ok\"}";
-        assert!(rt; is_written(rt.alloc(), Content::KernelInfo, text)?);
-        Ok(())
-    }
-
-    #[test]
-    fn writes_each_refusal(rt: HostRuntime) -> Result<(), Fail> {
-        let not_json =
-            "{\"ename\":\"ContentError\",\"evalue\":\"content is not JSON\",\"status\":\"error\",\"traceback\":[\"ContentError: content is not JSON\"]}";
-        let not_an_object =
-            "{\"ename\":\"ContentError\",\"evalue\":\"content is not an object\",\"status\":\"error\",\"traceback\":[\"ContentError: content is not an object\"]}";
-        assert!(rt; is_written(rt.alloc(), Content::Refused(Malformed::NotJson), not_json)?);
-        assert!(rt;
-            is_written(
-                rt.alloc(),
-                Content::Refused(Malformed::NotAnObject),
-                not_an_object
-            )?
-        );
-        Ok(())
-    }
-
-    #[test]
-    fn names_the_type_of_each_message(rt: HostRuntime) {
-        assert_eq!(rt; message_type(&Content::Status(State::Busy)), "status");
-        assert_eq!(rt; message_type(&Content::KernelInfo), "kernel_info_reply");
-        assert_eq!(rt;
-            message_type(&Content::Refused(Malformed::NotJson)),
-            "kernel_info_reply"
-        );
-    }
-
-    #[test]
-    fn reads_objects_alone(rt: HostRuntime) {
-        let alloc = rt.alloc();
-        let not_json = Err(ContentFault::Malformed(Malformed::NotJson));
-        let not_an_object = Err(ContentFault::Malformed(Malformed::NotAnObject));
-        assert!(rt; read_object(alloc, b"{}") == Ok(()));
-        assert!(rt; read_object(alloc, b" {\"a\":1} ") == Ok(()));
-        assert!(rt; read_object(alloc, b"{") == not_json);
-        assert!(rt; read_object(alloc, b"") == not_json);
-        assert!(rt; read_object(alloc, b"{\"a\":\"\xff\"}") == not_json);
-        assert!(rt; read_object(alloc, b"{} {}") == not_json);
-        assert!(rt; read_object(alloc, b"[]") == not_an_object);
-        assert!(rt; read_object(alloc, b"null") == not_an_object);
-    }
-
-    // An object of one member, whose value is arrays in one another.
-    fn nested(alloc: Global, arrays: usize) -> Result<Vec<u8>, AllocError> {
-        let mut text = Vec::new(alloc);
-        text.extend_from_slice(b"{\"a\":")?;
-        for _ in 0..arrays {
-            text.push(b'[')?;
-        }
-        for _ in 0..arrays {
-            text.push(b']')?;
-        }
-        text.push(b'}')?;
-        Ok(text)
-    }
-
-    #[test]
-    fn nests_to_127(rt: HostRuntime) -> Result<(), Fail> {
-        let alloc = rt.alloc();
-        let not_json = Err(ContentFault::Malformed(Malformed::NotJson));
-        assert!(rt; read_object(alloc, nested(alloc, 126)?.as_slice()) == Ok(()));
-        assert!(rt; read_object(alloc, nested(alloc, 127)?.as_slice()) == not_json);
-        Ok(())
-    }
-
-    #[test]
-    fn numbers_and_words_of_the_faults(rt: HostRuntime) -> Result<(), Fail> {
-        let alloc = rt.alloc();
-        let not_json = ContentFault::Malformed(Malformed::NotJson);
-        let not_an_object = ContentFault::Malformed(Malformed::NotAnObject);
-        assert_eq!(rt; not_json.number(), 30);
-        assert_eq!(rt; not_an_object.number(), 31);
-        assert_eq!(rt; ContentFault::OutOfMemory.number(), 33);
-        assert_eq!(rt; not_json.to_string(alloc)?.as_str(), "content is not JSON");
-        assert_eq!(rt;
-            not_an_object.to_string(alloc)?.as_str(),
-            "content is not an object"
-        );
-        assert_eq!(rt;
-            ContentFault::OutOfMemory.to_string(alloc)?.as_str(),
-            "out of memory"
-        );
-        Ok(())
     }
 }

@@ -20,20 +20,20 @@ const LAST_ID: u64 = 1 << 62;
 
 /// Answers requests in turn. It keeps what it publishes as a list.
 #[derive(Drop)]
-pub struct Engine {
+pub(crate) struct Engine {
     /// What messages are signed with.
-    pub signer: Signer,
+    pub(crate) signer: Signer,
     /// Where ids and dates come from.
-    pub stamp: ReplayStamp,
+    pub(crate) stamp: ReplayStamp,
     /// The number of the next message's id.
-    pub next: u64,
+    pub(crate) next: u64,
     /// The messages published so far.
-    pub published: Vec<Frames>,
+    pub(crate) published: Vec<Frames>,
 }
 
 impl Engine {
     /// An engine that has published nothing.
-    pub fn new(alloc: Global, signer: Signer) -> Engine
+    pub(crate) fn new(alloc: Global, signer: Signer) -> Engine
         ensures { (result.signer ≡ signer) × (result.next ≡ 1) × (result.published.items ≡ []) }
     {
         Engine {
@@ -45,7 +45,7 @@ impl Engine {
     }
 
     /// Publishes that the kernel starts.
-    pub fn start(&mut self, alloc: Global) -> Result<(), EngineFault>
+    pub(crate) fn start(&mut self, alloc: Global) -> Result<(), EngineFault>
         requires { (self.old.next ≡ 1) × (self.old.published.items ≡ []) }
         ensures same { self.new.signer ≡ self.old.signer }
         ensures started { OnOk result ((self.new.published.items ≡ starting self.old.signer ∷ []) × (self.new.next ≡ 2)) }
@@ -59,7 +59,7 @@ impl Engine {
 
     /// Answers a request: publishes that the kernel is busy, builds the reply where the request has one, and
     /// publishes that the kernel is idle.
-    pub fn handle(
+    pub(crate) fn handle(
         &mut self,
         alloc: Global,
         request: Envelope,
@@ -87,7 +87,7 @@ impl Engine {
         Ok(reply)
     }
 
-    // The reply of this content, where there is one.
+    /// The reply of this content, where there is one.
     fn reply(
         &self,
         alloc: Global,
@@ -110,7 +110,7 @@ impl Engine {
         Ok(Some(Frames::new(reply)))
     }
 
-    // The status that is published with this parent.
+    /// The status that is published with this parent.
     fn status(
         &self,
         alloc: Global,
@@ -132,7 +132,7 @@ impl Engine {
         self.message(alloc, date, prefix, parent, number, content)
     }
 
-    // The message of this content, sealed.
+    /// The message of this content, sealed.
     fn message(
         &self,
         alloc: Global,
@@ -173,7 +173,7 @@ impl Engine {
     }
 }
 
-// What the reply to a message says, where it has a reply.
+/// What the reply to a message says, where it has a reply.
 fn reply_content(alloc: Global, request: &Envelope) -> Result<Option<Content>, AllocError>
     ensures { IfOk result (λ content. content ≡ reply_content request.now) }
 {
@@ -183,7 +183,7 @@ fn reply_content(alloc: Global, request: &Envelope) -> Result<Option<Content>, A
     }
 }
 
-// What a request for the kernel's info is answered.
+/// What a request for the kernel's info is answered.
 fn info_content(alloc: Global, content: &[u8]) -> Result<Content, AllocError>
     ensures { IfOk result (λ content_of. content_of ≡ info_content (judged_object content.now)) }
 {

@@ -40,7 +40,7 @@ fn append_ending(alloc: Global, text: &mut Vec<u8>, ending: SessionEnd) -> Resul
 }
 
 /// The lines of a session: what it wrote to the shell, what it published, and how it ended.
-pub fn lines_text(
+pub(crate) fn lines_text(
     alloc: Global,
     shell: &[u8],
     iopub: &[u8],
@@ -62,64 +62,9 @@ pub fn lines_text(
 }
 
 /// Writes a text, all of it and nothing else, and flushes. Where it fails, a part may be written.
-pub fn write_out<W: Write>(writer: &mut W, text: &[u8]) -> io::Result<()>
+pub(crate) fn write_out<W: Write>(writer: &mut W, text: &[u8]) -> io::Result<()>
     ensures { OnOk result (Appends (W.contents writer.old) (W.contents writer.new) text.now) }
 {
     writer.write_all(text)?;
     writer.flush()
-}
-
-#[cfg(test)]
-mod tests {
-    use super::*;
-    use std::io::ErrorKind;
-    use std::test::Fail;
-    use zmtp_wire::WireFault;
-
-    /// Refuses each write.
-    #[derive(Drop)]
-    struct Closed;
-
-    impl Write for Closed {
-        fn write(&mut self, _buf: &[u8]) -> io::Result<usize> {
-            Err(io::Error::from(ErrorKind::BrokenPipe))
-        }
-
-        fn flush(&mut self) -> io::Result<()> {
-            Ok(())
-        }
-    }
-
-    #[test]
-    fn prints_a_session_that_broke_the_protocol(rt: HostRuntime) -> Result<(), Fail> {
-        let text = lines_text(
-            rt.alloc(),
-            b"\xab",
-            b"",
-            SessionEnd::Wire(WireFault::Version),
-        )?;
-        assert!(rt; text.as_slice() == b"shell ab\niopub \nend fault 2\n".as_slice());
-        Ok(())
-    }
-
-    #[test]
-    fn prints_a_session_that_ended(rt: HostRuntime) -> Result<(), Fail> {
-        let text = lines_text(rt.alloc(), b"", b"\x00\xff", SessionEnd::Eof)?;
-        assert!(rt; text.as_slice() == b"shell \niopub 00ff\nend eof\n".as_slice());
-        Ok(())
-    }
-
-    #[test]
-    fn writes_after_what_was_written(rt: HostRuntime) -> Result<(), Fail> {
-        let mut written = Vec::new(rt.alloc());
-        write_out(&mut written, b"end ")?;
-        write_out(&mut written, b"eof\n")?;
-        assert!(rt; written.as_slice() == b"end eof\n".as_slice());
-        Ok(())
-    }
-
-    #[test]
-    fn fails_where_a_write_fails(rt: HostRuntime) {
-        assert!(rt; write_out(&mut Closed, b"end eof\n").is_err());
-    }
 }

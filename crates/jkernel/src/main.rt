@@ -11,27 +11,26 @@ mod replay;
 mod request;
 mod session;
 mod stamp;
+mod status;
 #[cfg(test)]
-mod tests_cut;
-#[cfg(test)]
-mod tests_replay;
+mod tests;
 
-use replay::Status;
+use replay::run_replay;
+use status::{Status, judge_words};
 use std::process::ExitCode;
 use std::{env, io};
 
-/// The exit status where command words are refused.
-const WORDS_REFUSED: u8 = 2;
-
-fn main(rt: HostRuntime) -> io::Result<ExitCode> {
-    if env::args(&rt)?.count() > 1 {
-        eprintln!(rt; "usage: jkernel < HEX")?;
-        return Ok(ExitCode::from(WORDS_REFUSED));
-    }
-    let key = Vec::new(rt.alloc());
-    let code = replay::run_replay(rt.alloc(), &mut rt.reader(), &mut io::writer(&rt), key);
+/// Reads the command words, runs, and tells the status; a line on standard error that can't be written changes nothing.
+fn main(rt: HostRuntime) -> ExitCode {
+    let code = match judge_words(env::args(&rt)) {
+        Some(status) => status.code(),
+        None => {
+            let key = Vec::new(rt.alloc());
+            run_replay(rt.alloc(), &mut rt.reader(), &mut io::writer(&rt), key)
+        }
+    };
     if let Some(words) = Status::words_of(code) {
-        eprintln!(rt; "{words}")?;
+        let _ = eprintln!(rt; "{words}");
     }
-    Ok(ExitCode::from(code))
+    ExitCode::from(code)
 }

@@ -12,6 +12,7 @@ use crate::engine::Engine;
 use crate::input::{HexFault, octets_of, read_all};
 use crate::lines::{lines_text, write_out};
 use crate::session::session;
+use crate::status::Status;
 use jmsg_envelope::Signer;
 use kernel_engine::{EngineFault, SessionEnd, one_hearing};
 use listed::Frames;
@@ -21,44 +22,6 @@ use zmtp_wire::{Counted, Inlet, WireFault, write_message};
 
 /// The most reads of one session.
 const TURNS: u64 = 1_000_000_000;
-
-/// How a replay ends.
-#[derive(Clone, Copy, Debug, PartialEq, Eq)]
-pub enum Status {
-    /// The lines were printed.
-    Done,
-    /// No memory was left, or the input or the output failed.
-    Failed,
-    /// The input is no even number of hexadecimal digits, and nothing was printed.
-    InputRefused,
-}
-
-impl Status {
-    ghost use Rattle.std.specs.Prelude.{◌≡◌, option_map};
-    ghost use Rattle.jkernel.specs.Replay.{status_code, status_words};
-
-    /// The exit status of the program.
-    pub fn code(self) -> u8
-        ensures { result ≡ status_code self }
-    {
-        match self {
-            Status::Done => 0,
-            Status::Failed => 1,
-            Status::InputRefused => 6,
-        }
-    }
-
-    /// The line for a person on standard error, where the exit status has one.
-    pub fn words_of(code: u8) -> Option<&'static str>
-        ensures { option_map (λ words. words.now) result ≡ status_words code }
-    {
-        match code {
-            1 => Some("jkernel: failed"),
-            6 => Some("jkernel: replay input refused"),
-            _ => None,
-        }
-    }
-}
 
 /// Replays one peer of the shell channel: reads hexadecimal text to its end, white space skipped, of the octets
 /// that the peer sends, answers them under the key, and prints three lines: `shell ` and the octets that were
@@ -86,7 +49,7 @@ pub fn run_replay<R: Read, W: Write>(
     replay(alloc, reader, writer, key).code()
 }
 
-// Reads, answers and prints.
+/// Reads, answers and prints.
 fn replay<R: Read, W: Write>(alloc: Global, reader: &mut R, writer: &mut W, key: Vec<u8>) -> Status
     ensures replays { Replays key.items (R.remaining reader.old) (R.remaining reader.new)
         (W.contents writer.old) (W.contents writer.new) result }
@@ -105,7 +68,7 @@ fn replay<R: Read, W: Write>(alloc: Global, reader: &mut R, writer: &mut W, key:
     }
 }
 
-// The octets that the reader's text spells.
+/// The octets that the reader's text spells.
 fn read_octets<R: Read>(alloc: Global, reader: &mut R) -> Result<Vec<u8>, Status>
     ensures ok { IfOk result (λ octets. IfSome (R.remaining reader.old) (λ input.
         (R.remaining reader.new ≡ Some []) × (hex_octets input ≡ Some octets.items))) }
@@ -122,7 +85,7 @@ fn read_octets<R: Read>(alloc: Global, reader: &mut R) -> Result<Vec<u8>, Status
     }
 }
 
-// The lines of the session with a peer that sends these octets.
+/// The lines of the session with a peer that sends these octets.
 fn answer_octets(alloc: Global, key: Vec<u8>, octets: &[u8]) -> Result<Vec<u8>, EngineFault>
     ensures { IfOk result (λ lines. IsPrinted key.items octets.now lines.items) }
 {
@@ -132,7 +95,7 @@ fn answer_octets(alloc: Global, key: Vec<u8>, octets: &[u8]) -> Result<Vec<u8>, 
 }
 
 /// The lines of the session with the peer whose octets are read here.
-pub fn answer_peer<R: Inlet>(
+pub(crate) fn answer_peer<R: Inlet>(
     alloc: Global,
     key: Vec<u8>,
     reader: &mut R,
@@ -150,7 +113,7 @@ pub fn answer_peer<R: Inlet>(
     Ok(lines)
 }
 
-// How a session ended that its peer's octets ended: its lines are printed.
+/// How a session ended that its peer's octets ended: its lines are printed.
 fn printable(end: SessionEnd) -> Result<SessionEnd, EngineFault>
     ensures { IfOk result (λ kept. (kept ≡ end) × IsPrintable end) }
 {
@@ -161,7 +124,7 @@ fn printable(end: SessionEnd) -> Result<SessionEnd, EngineFault>
     }
 }
 
-// The texts of published messages, one after the other.
+/// The texts of published messages, one after the other.
 fn published_text(alloc: Global, messages: &[Frames]) -> Result<Vec<u8>, AllocError>
     ensures { IfOk result (λ octets. octets.items ≡ flat_map text messages.now) }
 {

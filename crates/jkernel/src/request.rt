@@ -4,7 +4,7 @@ ghost use Rattle.std.specs.Prelude.{◌≡◌};
 
 /// The requests that the kernel knows by their types.
 #[derive(Clone, Copy, Debug, PartialEq, Eq)]
-pub enum Request {
+pub(crate) enum Request {
     /// What the kernel is: `kernel_info_request`.
     KernelInfo,
     /// Any other type.
@@ -15,7 +15,7 @@ impl Request {
     ghost use Rattle.jkernel.specs.Block.{request_of};
 
     /// What a message of this type asks for.
-    pub fn of_type(msg_type: &str) -> Request
+    pub(crate) fn of_type(msg_type: &str) -> Request
         ensures { result ≡ request_of msg_type.now }
     {
         match msg_type {

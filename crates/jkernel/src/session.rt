@@ -46,7 +46,7 @@ impl Server for Engine {
 
 /// A session with a peer of the shell channel, as a ROUTER: greeting out, greeting in, READY out, READY in, then
 /// each message opened, done and its reply written. At most `turns` reads are made.
-pub fn session<R: Inlet, W: Outlet>(
+pub(crate) fn session<R: Inlet, W: Outlet>(
     alloc: Global,
     reader: &mut R,
     writer: &mut W,

@@ -9,7 +9,7 @@ use std::alloc::{AllocError, Global};
 
 /// Session `replay`, ids `replay_s1`, `replay_s2` and so on, and one date.
 #[derive(Clone, Copy, Debug)]
-pub struct ReplayStamp;
+pub(crate) struct ReplayStamp;
 
 impl Stamp for ReplayStamp {
     ghost meaning = { λ _. record {

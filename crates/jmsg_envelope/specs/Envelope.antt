@@ -113,9 +113,9 @@ pub record HasBadHeader (key : List ℕ) (frames : List (List ℕ)) : Type 0 whe
   pub nameless : header_names parts.header ≡ None
 
 -- what each fault says of the frames; want of memory is no fault of theirs
-abbrev pub IsRefused : List ℕ → List (List ℕ) → EnvelopeFault → Type 0
-IsRefused key frames NoDelimiter = ¬ Contains frames delimiter
-IsRefused key frames TooFewParts = IsTooShort frames
-IsRefused key frames BadSignature = HasBadSignature key frames
-IsRefused key frames BadHeader = HasBadHeader key frames
-IsRefused key frames OutOfMemory = ⊥
+abbrev pub IsNoEnvelope : List ℕ → List (List ℕ) → EnvelopeFault → Type 0
+IsNoEnvelope key frames NoDelimiter = ¬ Contains frames delimiter
+IsNoEnvelope key frames TooFewParts = IsTooShort frames
+IsNoEnvelope key frames BadSignature = HasBadSignature key frames
+IsNoEnvelope key frames BadHeader = HasBadHeader key frames
+IsNoEnvelope key frames OutOfMemory = ⊥

@@ -5,9 +5,9 @@ use Rattle.jmsg_envelope.specs.declared.fault.EnvelopeFault.TheVariants.{NoDelim
 use Rattle.jmsg_envelope.specs.declared.fault.EnvelopeFault.TheVariants.{BadHeader, OutOfMemory}
 
 -- the number that names a fault where only a number goes
-abbrev pub fault_number : EnvelopeFault → ℕ
-fault_number NoDelimiter = 20
-fault_number TooFewParts = 21
-fault_number BadSignature = 22
-fault_number BadHeader = 23
-fault_number OutOfMemory = 24
+abbrev pub envelope_fault_number : EnvelopeFault → ℕ
+envelope_fault_number NoDelimiter = 20
+envelope_fault_number TooFewParts = 21
+envelope_fault_number BadSignature = 22
+envelope_fault_number BadHeader = 23
+envelope_fault_number OutOfMemory = 24

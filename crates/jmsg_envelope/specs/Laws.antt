@@ -1,6 +1,6 @@
 -- What follows from the definitions of opening and sealing.
 use Rattle.std.specs.Prelude.{◌≡◌, ℕ, List, Contains, Some}
-use Rattle.jmsg_envelope.specs.Envelope.{Opened, IsRefused, delimiter, sealed}
+use Rattle.jmsg_envelope.specs.Envelope.{Opened, IsNoEnvelope, delimiter, sealed}
 use Rattle.jmsg_envelope.specs.Header.{header_names}
 use Rattle.jmsg_envelope.specs.declared.envelope.Envelope.{Envelope}
 use Rattle.jmsg_envelope.specs.declared.fault.EnvelopeFault.{EnvelopeFault}
@@ -9,13 +9,13 @@ use Rattle.jmsg_envelope.specs.declared.fault.EnvelopeFault.{EnvelopeFault}
 abbrev pub RefusedIsNotOpened : Type 0
 RefusedIsNotOpened =
     (key : List ℕ) (frames : List (List ℕ)) (e : Envelope) (fault : EnvelopeFault)
-    → IsRefused key frames fault → Opened key frames e → ⊥
+    → IsNoEnvelope key frames fault → Opened key frames e → ⊥
 
 -- frames are refused for one reason
 abbrev pub RefusedOnce : Type 0
 RefusedOnce =
     (key : List ℕ) (frames : List (List ℕ)) (fault other : EnvelopeFault)
-    → IsRefused key frames fault → IsRefused key frames other → fault ≡ other
+    → IsNoEnvelope key frames fault → IsNoEnvelope key frames other → fault ≡ other
 
 -- frames are opened as one envelope
 abbrev pub OpenedOnce : Type 0

@@ -1,6 +1,8 @@
+//! Messages opened: the parts of an envelope, or why frames are none.
+
 ghost use Rattle.std.specs.Prelude.{◌≡◌, ◌⊎◌, ◌↔◌, IfOk, IfErr, IsTrue, IsFalse};
 ghost use Rattle.listed.specs.Bodies.{bodies};
-ghost use Rattle.jmsg_envelope.specs.Envelope.{IsMissigned, IsRefused, IsSigned, Opened, lower_case};
+ghost use Rattle.jmsg_envelope.specs.Envelope.{IsMissigned, IsNoEnvelope, IsSigned, Opened, lower_case};
 ghost use Rattle.jmsg_envelope.specs.Split.{parts_of};
 
 use crate::header::read_names;
@@ -44,7 +46,7 @@ pub fn open_envelope(
 ) -> Result<Envelope, EnvelopeFault>
     ensures opened { IfOk result (Opened signer.now (bodies frames.items)) }
     ensures refused { IfErr result (λ fault. (fault ≡ EnvelopeFault.OutOfMemory)
-        ⊎ IsRefused signer.now (bodies frames.items) fault) }
+        ⊎ IsNoEnvelope signer.now (bodies frames.items) fault) }
 {
     let split = cut_frames(frames)?;
     if !is_signed(signer, &split) {

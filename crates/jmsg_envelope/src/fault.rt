@@ -1,5 +1,7 @@
+//! Why frames are no envelope.
+
 ghost use Rattle.std.specs.Prelude.{◌≡◌};
-ghost use Rattle.jmsg_envelope.specs.Fault.{fault_number};
+ghost use Rattle.jmsg_envelope.specs.Fault.{envelope_fault_number};
 ghost use Rattle.jmsg_envelope.specs.declared.fault.EnvelopeFault.TheVariants.{OutOfMemory};
 
 use std::alloc::{AllocError, AllocFailed};
@@ -28,7 +30,7 @@ pub enum EnvelopeFault {
 impl EnvelopeFault {
     /// The number that names this fault where only a number goes.
     pub fn number(self) -> u8
-        ensures { result ≡ fault_number self }
+        ensures { result ≡ envelope_fault_number self }
     {
         match self {
             EnvelopeFault::NoDelimiter => 20,

@@ -1,3 +1,5 @@
+//! Headers: the names that one says, and the text of a new one.
+
 ghost use Rattle.std.specs.Prelude.{◌≡◌, ◌⊎◌, Some, None, IfOk, IfErr, option_map};
 ghost use Rattle.jmsg_envelope.specs.Header.{header_data, header_names, header_octets, names_of, text_at};
 ghost use Rattle.serde_json.specs.View.{view};

@@ -1,3 +1,5 @@
+//! HMAC-SHA256 (RFC 2104).
+
 ghost use Rattle.std.specs.Prelude.{◌≡◌, ◌≤◌, length, flat_map};
 ghost use Rattle.jmsg_envelope.specs.Hmac.{hmac, key_block, zero_padded, xored, block_length};
 

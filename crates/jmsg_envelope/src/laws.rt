@@ -1,3 +1,5 @@
+//! Laws of envelopes: what is opened or refused is so in one way, and what is sealed is opened.
+
 ghost use Rattle.jmsg_envelope.specs.Laws.{OpenedOnce, RefusedIsNotOpened, RefusedOnce, SealedIsOpened};
 
 /// A law with no code: no frames are both refused and opened under one key.

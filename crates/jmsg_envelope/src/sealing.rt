@@ -1,3 +1,5 @@
+//! Messages sealed: frames made of parts.
+
 ghost use Rattle.std.specs.Prelude.{◌≡◌, ◌++◌, IfOk, IfErr};
 ghost use Rattle.listed.specs.Bodies.{bodies};
 ghost use Rattle.jmsg_envelope.specs.Envelope.{sealed, signature};

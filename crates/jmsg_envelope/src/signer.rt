@@ -1,3 +1,5 @@
+//! The key, and the digits that sign under it.
+
 ghost use Rattle.std.specs.Prelude.{◌≡◌, ◌++◌, ◌↔◌, [], IsTrue};
 ghost use Rattle.hex.specs.Hex.{encode_lower};
 ghost use Rattle.jmsg_envelope.specs.Hmac.{hmac};
@@ -35,7 +37,7 @@ impl Signer {
         self.key.is_empty()
     }
 
-    // The hex digits of the authentication code of the four parts, joined.
+    /// The hex digits of the authentication code of the four parts, joined.
     pub(crate) fn digits_of(
         &self,
         header: &[u8],

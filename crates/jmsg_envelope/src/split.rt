@@ -1,6 +1,8 @@
+//! Frames cut into identities, signature, parts and buffers.
+
 ghost use Rattle.std.specs.Prelude.{◌≡◌, ◌⊎◌, ℕ, List, IfOk, IfErr, position};
 ghost use Rattle.listed.specs.Bodies.{bodies};
-ghost use Rattle.jmsg_envelope.specs.Envelope.{IsSplit, IsRefused};
+ghost use Rattle.jmsg_envelope.specs.Envelope.{IsSplit, IsNoEnvelope};
 ghost use Rattle.jmsg_envelope.specs.Split.{is_delimiter, parts_of};
 
 use crate::EnvelopeFault;
@@ -8,7 +10,7 @@ use crate::EnvelopeFault;
 /// The frame between the identities and the signature.
 pub(crate) const DELIMITER: &[u8] = b"<IDS|MSG>";
 
-// The delimiter, the signature and the four parts that it is over.
+/// The delimiter, the signature and the four parts that it is over.
 const FIXED_FRAMES: usize = 6;
 
 /// The frames of a message by their parts, cut at the first delimiter.
@@ -27,7 +29,7 @@ pub(crate) struct Split {
 pub(crate) fn cut_frames(mut frames: Vec<Vec<u8>>) -> Result<Split, EnvelopeFault>
     ensures ok { IfOk result (λ split. IsSplit (bodies frames.items) (parts_of split)) }
     ensures err { IfErr result (λ fault. (fault ≡ EnvelopeFault.OutOfMemory)
-        ⊎ ((key : List ℕ) → IsRefused key (bodies frames.items) fault)) }
+        ⊎ ((key : List ℕ) → IsNoEnvelope key (bodies frames.items) fault)) }
 {
     let Some(at) = delimiter_at(&frames) else {
         return Err(EnvelopeFault::NoDelimiter);

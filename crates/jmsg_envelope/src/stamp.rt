@@ -1,3 +1,5 @@
+//! Where ids and dates of messages come from.
+
 ghost use Rattle.std.specs.Prelude.{◌≡◌, ℕ, List, Bool, true, IfOk, IfErr, string_bytes};
 ghost use Rattle.jmsg_envelope.specs.Header.{header_octets};
 ghost use Rattle.jmsg_envelope.specs.Stamp.{IdsDiffer, StampMeaning};

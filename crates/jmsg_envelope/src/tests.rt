@@ -1,3 +1,5 @@
+//! Known codes of RFC 4231, envelopes judged, headers, and the words of faults.
+
 use super::*;
 use std::alloc::{AllocError, Global};
 use std::test::Fail;
@@ -6,14 +8,14 @@ const WANTED: &[u8] = b"what do ya want for nothing?";
 
 const HEADER: &[u8] = b"{\"msg_id\":\"a1\",\"msg_type\":\"kernel_info_request\"}";
 
-// The code of `HEADER` and three times `{}` under the key `secret`.
+/// The code of `HEADER` and three times `{}` under the key `secret`.
 const DIGITS: &[u8] = b"0d95933f4e109d19e2d8a8a169142cdd5cc6564ee7ef081b5ccc30ba04258a90";
 
 const UPPER_DIGITS: &[u8] = b"0D95933F4E109D19E2D8A8A169142CDD5CC6564EE7EF081B5CCC30BA04258A90";
 
 const WRONG_DIGITS: &[u8] = b"1d95933f4e109d19e2d8a8a169142cdd5cc6564ee7ef081b5ccc30ba04258a90";
 
-// RFC 4231, sections 4.2 and 4.3, and keys of one block and of one octet more.
+/// RFC 4231, sections 4.2 and 4.3, and keys of one block and of one octet more.
 #[test]
 fn codes_of_known_texts(rt: HostRuntime) {
     let short: [u8; 4] = *b"Jefe";
@@ -153,14 +155,6 @@ fn frames_are_judged(rt: HostRuntime) -> Result<(), Fail> {
     Ok(())
 }
 
-#[test]
-fn the_laws_hold() {
-    refused_is_not_opened();
-    refused_once();
-    opened_once();
-    sealed_is_opened();
-}
-
 #[derive(Drop)]
 struct Replay;
 
@@ -194,7 +188,11 @@ fn header_by_a_stamp(rt: HostRuntime) -> Result<(), Fail> {
     let text = stamped_header(rt.alloc(), &mut Replay, 4, "kernel_info_reply")?;
     assert_eq!(rt;
         text.as_slice(),
-        b"{\"date\":\"2000-01-01T00:00:00.000000Z\",\"msg_id\":\"replay_s4\",\"msg_type\":\"kernel_info_reply\",\"session\":\"replay\",\"username\":\"kernel\",\"version\":\"5.3\"}".as_slice()
+        concat!(
+            r#"{"date":"2000-01-01T00:00:00.000000Z","msg_id":"replay_s4","#,
+            r#""msg_type":"kernel_info_reply","session":"replay","username":"kernel","version":"5.3"}"#,
+        )
+        .as_bytes()
     );
     Ok(())
 }

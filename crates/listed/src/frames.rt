@@ -1,3 +1,5 @@
+//! Frames that are owned.
+
 ghost use Rattle.std.specs.Prelude.{◌≡◌, ◌==◌, length};
 ghost use Rattle.listed.specs.Bodies.{bodies};
 

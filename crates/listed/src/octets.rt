@@ -1,3 +1,5 @@
+//! Octets that are owned.
+
 ghost use Rattle.std.specs.Prelude.{◌≡◌, ◌==◌, length};
 
 use std::marker::Model;

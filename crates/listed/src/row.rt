@@ -1,3 +1,5 @@
+//! Items of any type that are owned.
+
 ghost use Rattle.std.specs.Prelude.{◌≡◌, ◌==◌, length};
 
 use std::marker::Model;

@@ -1,3 +1,5 @@
+//! Each value once, made and given back.
+
 use super::*;
 use std::test::Fail;
 

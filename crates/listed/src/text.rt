@@ -1,3 +1,5 @@
+//! A text that is owned.
+
 ghost use Rattle.std.specs.Prelude.{◌≡◌, ◌==◌, length, string_bytes};
 
 use std::marker::Model;
