@@ -1,0 +1,93 @@
+-- What a connection file says ('Jupyter Client', "Connection files"), and for what it is refused: the first reason, in the
+-- order of the fields.
+use Rattle.std.specs.Prelude.{ℕ, List, Bool, ◌&&◌, nat_le, if◌then◌else◌, Option, Some, None, Result, Ok, Err, codes}
+use Rattle.std.specs.Prelude.{option_and_then, is_some}
+use Rattle.std.specs.Option.{ok_or, option_map_or}
+use Rattle.std.specs.Str.{bytes_eq}
+use Rattle.serde_json.specs.Data.{Data}
+use Rattle.serde_json.specs.Find.{as_number, as_object, as_str, as_u64, get}
+use Rattle.serde_json.specs.Read.{read}
+use Rattle.conn_file.specs.declared.connection.Connection.{Connection}
+use Rattle.conn_file.specs.declared.field.Field.{Field}
+use Rattle.conn_file.specs.declared.field.Field.TheVariants as fields
+use Rattle.conn_file.specs.declared.fault.ConnFault.{ConnFault}
+use Rattle.conn_file.specs.declared.fault.ConnFault.TheVariants.{NotJson, Missing, Port, Transport, Scheme, OutOfMemory}
+
+-- the key of a field
+abbrev pub field_name : Field → List ℕ
+field_name fields.Transport = codes "transport"
+field_name fields.Ip = codes "ip"
+field_name fields.ShellPort = codes "shell_port"
+field_name fields.IopubPort = codes "iopub_port"
+field_name fields.ControlPort = codes "control_port"
+field_name fields.HbPort = codes "hb_port"
+field_name fields.SignatureScheme = codes "signature_scheme"
+field_name fields.Key = codes "key"
+
+-- the number of a fault, from 40 on in the order in which the faults are listed
+abbrev pub connection_fault_number : ConnFault → ℕ
+connection_fault_number NotJson = 40
+connection_fault_number (Missing field) = 41
+connection_fault_number (Port field) = 42
+connection_fault_number Transport = 43
+connection_fault_number Scheme = 44
+connection_fault_number OutOfMemory = 45
+
+-- a field that has to be there and be a text
+abbrev pub text_in : Field → Data → Result (List ℕ) ConnFault
+text_in field file = ok_or (option_and_then as_str (get (field_name field) file)) (Missing field)
+
+-- a whole number from 1 to 65535
+abbrev pub port_number : Data → Option ℕ
+port_number value =
+    option_and_then (λ port. if nat_le 1 port && nat_le port 65535 then Some port else None)
+    (option_and_then as_u64 (as_number value))
+
+-- a field that has to be there and be a port
+abbrev pub port_in : Field → Data → Result ℕ ConnFault
+port_in field file =
+    option_map_or (λ value. ok_or (port_number value) (Port field)) (get (field_name field) file) (Err (Missing field))
+
+-- a text that has to be this one
+abbrev pub expected : List ℕ → ConnFault → List ℕ → Result Unit ConnFault
+expected wanted fault text = if bytes_eq text wanted then Ok tt else Err fault
+
+-- the first is judged, and the next where it isn't refused
+abbrev pub and_then : {A B : Type 0} → Result A ConnFault → (A → Result B ConnFault) → Result B ConnFault
+and_then (Ok value) next = next value
+and_then (Err fault) next = Err fault
+
+-- what the fields of a connection file say
+abbrev pub fields_in : Data → Result Connection ConnFault
+fields_in file =
+    and_then (text_in fields.Transport file) (λ transport.
+    and_then (expected (codes "tcp") Transport transport) (λ known.
+    and_then (text_in fields.Ip file) (λ ip.
+    and_then (port_in fields.ShellPort file) (λ shell_port.
+    and_then (port_in fields.IopubPort file) (λ iopub_port.
+    and_then (port_in fields.ControlPort file) (λ control_port.
+    and_then (port_in fields.HbPort file) (λ hb_port.
+    and_then (text_in fields.SignatureScheme file) (λ scheme.
+    and_then (expected (codes "hmac-sha256") Scheme scheme) (λ signs.
+    and_then (text_in fields.Key file) (λ key.
+    Ok (record {
+      ip = ip;
+      shell_port = shell_port;
+      iopub_port = iopub_port;
+      control_port = control_port;
+      hb_port = hb_port;
+      key = key;
+    })))))))))))
+
+-- what was read has to be an object of JSON
+abbrev pub object_in : Option Data → Result Data ConnFault
+object_in None = Err NotJson
+object_in (Some file) = if is_some (as_object file) then Ok file else Err NotJson
+
+-- a text as an object of JSON
+abbrev pub object_of : List ℕ → Result Data ConnFault
+object_of text = object_in (read text)
+
+-- what the text of a connection file says
+abbrev pub connection_of : List ℕ → Result Connection ConnFault
+connection_of text = and_then (object_of text) fields_in

@@ -1,0 +1,128 @@
+//! Connection files read.
+
+ghost use Rattle.std.specs.Prelude.{◌≡◌, ◌⊎◌, Ok, Err, IfOk, IfErr, MatchResult};
+ghost use Rattle.serde_json.specs.View.{view};
+ghost use Rattle.conn_file.specs.Connection.{connection_of, expected, fields_in, object_of, port_in, text_in};
+ghost use Rattle.conn_file.specs.declared.fault.ConnFault.TheVariants.{OutOfMemory};
+
+use crate::fault::ConnFault;
+use crate::field::Field;
+use listed::{Octets, Text};
+use serde_json::Value;
+use std::alloc::Global;
+
+/// The transport that a kernel speaks.
+const TRANSPORT: &str = "tcp";
+
+/// The scheme by which it signs.
+const SCHEME: &str = "hmac-sha256";
+
+/// Where a kernel is to listen, and the key of its messages.
+#[derive(Debug, Drop)]
+pub struct Connection {
+    /// The address, as text.
+    pub ip: Text,
+    /// The port of the shell channel.
+    pub shell_port: u16,
+    /// The port of the IOPub channel.
+    pub iopub_port: u16,
+    /// The port of the control channel.
+    pub control_port: u16,
+    /// The port of the heartbeat.
+    pub hb_port: u16,
+    /// The key, empty where nothing is signed.
+    pub key: Octets,
+}
+
+/// Reads a connection file: a JSON object with the fields of `Field`, whose transport is `tcp` and whose signature scheme is
+/// `hmac-sha256`. Other keys are ignored; of a key that comes twice the last counts.
+///
+/// # Errors
+///
+/// The first fault by the order of fields; `OutOfMemory` at any point.
+pub fn read_connection(alloc: Global, text: &str) -> Result<Connection, ConnFault>
+    ensures accepted { IfOk result (λ connection. connection_of text.now ≡ Ok connection) }
+    ensures refused { IfErr result (λ fault. (fault ≡ OutOfMemory) ⊎ (connection_of text.now ≡ Err fault)) }
+{
+    let file = read_object(alloc, text)?;
+    read_fields(alloc, &file)
+}
+
+/// Reads an object in JSON.
+fn read_object(alloc: Global, text: &str) -> Result<Value, ConnFault>
+    ensures { MatchResult result (λ file. object_of text.now ≡ Ok (view file))
+        (λ fault. (fault ≡ OutOfMemory) ⊎ (object_of text.now ≡ Err fault)) }
+{
+    match Value::from_str(alloc, text) {
+        Ok(file) => {
+            if file.is_object() {
+                Ok(file)
+            } else {
+                Err(ConnFault::NotJson)
+            }
+        }
+        Err(error) => {
+            if error.is_memory() {
+                Err(ConnFault::OutOfMemory)
+            } else {
+                Err(ConnFault::NotJson)
+            }
+        }
+    }
+}
+
+/// Reads the fields of a connection file.
+fn read_fields(alloc: Global, file: &Value) -> Result<Connection, ConnFault>
+    ensures { MatchResult result (λ connection. fields_in (view file.now) ≡ Ok connection)
+        (λ fault. (fault ≡ OutOfMemory) ⊎ (fields_in (view file.now) ≡ Err fault)) }
+{
+    let transport = text_field(file, Field::Transport)?;
+    expect(transport, TRANSPORT, ConnFault::Transport)?;
+    let ip = text_field(file, Field::Ip)?;
+    let shell_port = port_field(file, Field::ShellPort)?;
+    let iopub_port = port_field(file, Field::IopubPort)?;
+    let control_port = port_field(file, Field::ControlPort)?;
+    let hb_port = port_field(file, Field::HbPort)?;
+    let scheme = text_field(file, Field::SignatureScheme)?;
+    expect(scheme, SCHEME, ConnFault::Scheme)?;
+    let key = text_field(file, Field::Key)?;
+    Ok(Connection {
+        ip: Text::new(String::from_str(alloc, ip)?),
+        shell_port,
+        iopub_port,
+        control_port,
+        hb_port,
+        key: Octets::new(Vec::from_slice(alloc, key.as_bytes())?),
+    })
+}
+
+/// The text of a field.
+fn text_field(file: &Value, field: Field) -> Result<&str, ConnFault>
+    ensures { MatchResult result (λ text. text_in field (view file.now) ≡ Ok text.now)
+        (λ fault. text_in field (view file.now) ≡ Err fault) }
+{
+    match file.get(field.name()).and_then(Value::as_str) {
+        Some(text) => Ok(text),
+        None => Err(ConnFault::Missing(field)),
+    }
+}
+
+/// The port of a field.
+fn port_field(file: &Value, field: Field) -> Result<u16, ConnFault>
+    ensures { result ≡ port_in field (view file.now) }
+{
+    match file.get(field.name()) {
+        Some(value) => match value.as_u64() {
+            Some(port) if 1 <= port && port <= 65_535 => Ok(port as u16),
+            Some(_) | None => Err(ConnFault::Port(field)),
+        },
+        None => Err(ConnFault::Missing(field)),
+    }
+}
+
+/// Whether a text is the one that is expected, or else the fault.
+fn expect(text: &str, wanted: &str, fault: ConnFault) -> Result<(), ConnFault>
+    ensures { result ≡ expected wanted.now fault text.now }
+{
+    if text == wanted { Ok(()) } else { Err(fault) }
+}
