@@ -1,0 +1,4 @@
+pub mod MemberLemmas
+pub mod TextLemmas
+pub mod ContentLemmas
+pub mod FloatLemmas

@@ -1,0 +1,32 @@
+-- Parts that contents share ('Messaging in Jupyter' 5.3). A content is an object, with its keys in the order of their octets.
+use Rattle.std.specs.Prelude.{ℕ, List, ◌++◌, map, codes}
+use Rattle.serde_json.specs.Data.{Data, string, array, object, no_items, item, member, no_members}
+use Rattle.serde_json.specs.View.{items_of}
+
+-- an object without members
+abbrev pub empty_data : Data
+empty_data = object no_members
+
+-- a result for display, as plain text alone ("display_data")
+abbrev pub plain_data : List ℕ → Data
+plain_data text = object (member (codes "text/plain") (string text) no_members)
+
+-- a list of texts
+abbrev pub texts_data : List (List ℕ) → Data
+texts_data texts = array (items_of (map string texts))
+
+-- the one line of an error's traceback: its name, a colon, a space, its value
+abbrev pub traceback_line : List ℕ → List ℕ → List ℕ
+traceback_line ename evalue = ename ++ (codes ": " ++ evalue)
+
+-- an error's traceback, which is a list of one line ("Request-Reply")
+abbrev pub traceback_data : List ℕ → List ℕ → Data
+traceback_data ename evalue = array (item (string (traceback_line ename evalue)) no_items)
+
+-- an error that a reply tells, or one of its values ("Request-Reply")
+abbrev pub error_data : List ℕ → List ℕ → Data
+error_data ename evalue = object
+    (member (codes "ename") (string ename)
+    (member (codes "evalue") (string evalue)
+    (member (codes "status") (string (codes "error"))
+    (member (codes "traceback") (traceback_data ename evalue) no_members))))

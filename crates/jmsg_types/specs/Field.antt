@@ -1,0 +1,66 @@
+-- How a field of a content is judged ('Messaging in Jupyter' 5.3): its kind, and whether it may be left out.
+use Rattle.std.specs.Prelude.{ℕ, List, [], ◌∷◌, Bool, min, nat_le, if◌then◌else◌, Option, Some, None, option_map, option_and_then, Result, Ok, Err, length}
+use Rattle.std.specs.Option.{ok_or, option_map_or}
+use Rattle.std.specs.Str.{chars, is_utf8}
+use Rattle.serde_json.specs.Data.{Data, Members, no_members, member}
+use Rattle.serde_json.specs.Find.{as_bool, as_number, as_object, as_str, as_u64, get_member}
+use Rattle.serde_json.specs.Read.{read}
+use Rattle.jmsg_types.specs.Fault.{Refusal, not_json, not_an_object, field}
+
+-- a text
+abbrev pub text_in : Data → Option (List ℕ)
+text_in value = as_str value
+
+-- a truth
+abbrev pub truth_in : Data → Option Bool
+truth_in value = as_bool value
+
+-- a whole number, which JSON's reader keeps below 2^64
+abbrev pub whole_in : Data → Option ℕ
+whole_in value = option_and_then as_u64 (as_number value)
+
+-- a level of detail: 0 or 1
+abbrev pub level_in : Data → Option ℕ
+level_in value = option_and_then (λ level. if nat_le level 1 then Some level else None) (whole_in value)
+
+-- the names and texts of members that are texts, all of them, in the order of the names' octets
+abbrev pub texts_of : Members → Option (List (List ℕ × List ℕ))
+texts_of no_members = Some []
+texts_of (member name value rest) =
+    option_and_then (λ text. option_map (λ texts. (name, text) ∷ texts) (texts_of rest)) (text_in value)
+
+-- an object of texts
+abbrev pub texts_in : Data → Option (List (List ℕ × List ℕ))
+texts_in value = option_and_then texts_of (as_object value)
+
+-- a field that has to be there, of a kind
+abbrev pub required : {A : Type 0} → (Data → Option A) → List ℕ → Members → Result A Refusal
+required kind name members = ok_or (option_and_then kind (get_member name members)) (field name)
+
+-- a field of a kind that has a default
+abbrev pub optional : {A : Type 0} → (Data → Option A) → A → List ℕ → Members → Result A Refusal
+optional kind default name members =
+    option_map_or (λ value. ok_or (kind value) (field name)) (get_member name members) (Ok default)
+
+-- the first is judged, and the next where it isn't refused
+abbrev pub and_then : {A B : Type 0} → Result A Refusal → (A → Result B Refusal) → Result B Refusal
+and_then (Ok value) next = next value
+and_then (Err refusal) next = Err refusal
+
+-- how many characters a text has
+abbrev pub code_points : List ℕ → ℕ
+code_points text = length (chars text)
+
+-- a cursor in a code, in code points: one past the code's end is at its end, and so is one that is left out
+abbrev pub optional_cursor : List ℕ → List ℕ → Members → Result ℕ Refusal
+optional_cursor code name members =
+    and_then (optional whole_in (code_points code) name members) (λ cursor. Ok (min cursor (code_points code)))
+
+-- the members of what was read as JSON, which is to be an object
+abbrev pub members_of_data : Option Data → Result Members Refusal
+members_of_data None = Err not_json
+members_of_data (Some value) = ok_or (as_object value) not_an_object
+
+-- the members of a content, which is to be an object of JSON in UTF-8 (RFC 8259, section 8.1)
+abbrev pub members_in : List ℕ → Result Members Refusal
+members_in content = if is_utf8 content then members_of_data (read content) else Err not_json

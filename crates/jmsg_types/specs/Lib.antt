@@ -1,0 +1,12 @@
+pub use Rattle.serde_json.specs.Data
+pub use Rattle.serde_json.specs.Find
+pub use Rattle.serde_json.specs.Read
+pub use Rattle.serde_json.specs.View
+pub use Rattle.serde_json.specs.Written
+pub mod Fault
+pub mod Words
+pub mod Field
+pub mod Request
+pub mod Content
+pub mod Reply
+pub mod Publication

@@ -1,0 +1,124 @@
+-- What a client may ask ('Messaging in Jupyter' 5.3, "Messages on the shell (ROUTER/DEALER) channel", "Custom Messages"
+-- and "Messages on the control (ROUTER/DEALER) channel").
+use Rattle.std.specs.Prelude.{ℕ, List, [], ◌∷◌, true, false, ◌&&◌, not, Option, Some, None, Result, Ok, codes, find, option_and_then}
+use Rattle.std.specs.Option.{option_map_or}
+use Rattle.std.specs.Str.{bytes_eq}
+use Rattle.serde_json.specs.Data.{Members}
+use Rattle.jmsg_types.specs.Fault.{Refusal}
+use Rattle.jmsg_types.specs.Field.{required, optional, and_then, text_in, truth_in, optional_cursor, level_in, texts_in, members_in}
+use Rattle.jmsg_types.specs.declared.request.Request.{Request}
+use Rattle.jmsg_types.specs.declared.request.Request.TheVariants as asks
+use Rattle.jmsg_types.specs.declared.message_type.MessageType.{MessageType}
+use Rattle.jmsg_types.specs.declared.message_type.MessageType.TheVariants.{KernelInfoRequest, ExecuteRequest, CompleteRequest, InspectRequest, IsCompleteRequest, HistoryRequest, CommInfoRequest, CommOpen, CommMsg, CommClose, ShutdownRequest, InterruptRequest}
+
+-- A row of the table of requests: the name of the message type; its fields, in the order in which they are judged, and
+-- the request that they mean; the type of the message that replies.
+pub record RequestRow : Type 0 where
+  pub msg_type : List ℕ
+  pub fields : Members → Result Request Refusal
+  pub reply : Option (List ℕ)
+
+-- The table of requests. Silence keeps a cell out of the history; a cursor past the code's end is at its end.
+abbrev pub row_of : MessageType → RequestRow
+row_of KernelInfoRequest = record {
+  msg_type = codes "kernel_info_request";
+  fields = λ members. Ok asks.KernelInfo;
+  reply = Some (codes "kernel_info_reply");
+}
+row_of ExecuteRequest = record {
+  msg_type = codes "execute_request";
+  fields = λ members.
+      and_then (required text_in (codes "code") members) (λ code.
+      and_then (optional truth_in false (codes "silent") members) (λ silent.
+      and_then (optional truth_in true (codes "store_history") members) (λ store_history.
+      and_then (optional texts_in [] (codes "user_expressions") members) (λ user_expressions.
+      and_then (optional truth_in true (codes "allow_stdin") members) (λ allow_stdin.
+      and_then (optional truth_in true (codes "stop_on_error") members) (λ stop_on_error.
+      Ok (asks.Execute code silent (store_history && not silent) user_expressions allow_stdin stop_on_error)))))));
+  reply = Some (codes "execute_reply");
+}
+row_of CompleteRequest = record {
+  msg_type = codes "complete_request";
+  fields = λ members.
+      and_then (required text_in (codes "code") members) (λ code.
+      and_then (optional_cursor code (codes "cursor_pos") members) (λ cursor.
+      Ok (asks.Complete code cursor)));
+  reply = Some (codes "complete_reply");
+}
+row_of InspectRequest = record {
+  msg_type = codes "inspect_request";
+  fields = λ members.
+      and_then (required text_in (codes "code") members) (λ code.
+      and_then (optional_cursor code (codes "cursor_pos") members) (λ cursor.
+      and_then (optional level_in 0 (codes "detail_level") members) (λ level.
+      Ok (asks.Inspect code cursor level))));
+  reply = Some (codes "inspect_reply");
+}
+row_of IsCompleteRequest = record {
+  msg_type = codes "is_complete_request";
+  fields = λ members.
+      and_then (required text_in (codes "code") members) (λ code.
+      Ok (asks.IsComplete code));
+  reply = Some (codes "is_complete_reply");
+}
+row_of HistoryRequest = record {
+  msg_type = codes "history_request";
+  fields = λ members. Ok asks.History;
+  reply = Some (codes "history_reply");
+}
+row_of CommInfoRequest = record {
+  msg_type = codes "comm_info_request";
+  fields = λ members. Ok asks.CommInfo;
+  reply = Some (codes "comm_info_reply");
+}
+row_of CommOpen = record {
+  msg_type = codes "comm_open";
+  fields = λ members.
+      and_then (required text_in (codes "comm_id") members) (λ comm_id.
+      Ok (asks.CommOpen comm_id));
+  reply = None;
+}
+row_of CommMsg = record {
+  msg_type = codes "comm_msg";
+  fields = λ members. Ok asks.CommMsg;
+  reply = None;
+}
+row_of CommClose = record {
+  msg_type = codes "comm_close";
+  fields = λ members. Ok asks.CommClose;
+  reply = None;
+}
+row_of ShutdownRequest = record {
+  msg_type = codes "shutdown_request";
+  fields = λ members.
+      and_then (optional truth_in false (codes "restart") members) (λ restart.
+      Ok (asks.Shutdown restart));
+  reply = Some (codes "shutdown_reply");
+}
+row_of InterruptRequest = record {
+  msg_type = codes "interrupt_request";
+  fields = λ members. Ok asks.Interrupt;
+  reply = Some (codes "interrupt_reply");
+}
+
+-- the types of the table, all of them
+abbrev pub message_types : List MessageType
+message_types =
+    KernelInfoRequest ∷ ExecuteRequest ∷ CompleteRequest ∷ InspectRequest ∷ IsCompleteRequest ∷ HistoryRequest
+    ∷ CommInfoRequest ∷ CommOpen ∷ CommMsg ∷ CommClose ∷ ShutdownRequest ∷ InterruptRequest ∷ []
+
+-- the type of a name, where the table has one
+abbrev pub message_type : List ℕ → Option MessageType
+message_type name = find (λ kind. bytes_eq name (row_of kind).msg_type) message_types
+
+-- the type of the reply to a message type, where any message replies
+abbrev pub reply_type_of : List ℕ → Option (List ℕ)
+reply_type_of name = option_and_then (λ kind. (row_of kind).reply) (message_type name)
+
+-- the request that a content of a type means, or why it is refused
+abbrev pub request_of : MessageType → List ℕ → Result Request Refusal
+request_of kind content = and_then (members_in content) (row_of kind).fields
+
+-- the request of a message type and a content, or why it is refused; of an unknown type the content isn't read
+abbrev pub reading : List ℕ → List ℕ → Result Request Refusal
+reading msg_type content = option_map_or (λ kind. request_of kind content) (message_type msg_type) (Ok asks.Unknown)

@@ -1,0 +1,188 @@
+//! What is published.
+
+ghost use Rattle.std.specs.Prelude.{◌≡◌, IfOk, IfErr};
+ghost use Rattle.jmsg_types.specs.Publication.{failure_data, publication_data, publication_type, state_word, stream_name, topic};
+ghost use Rattle.serde_json.specs.View.{view};
+ghost use Rattle.serde_json.specs.Written.{compact_text};
+
+use crate::ContentFault;
+use crate::content::{plain_value, traceback_line};
+use listed::Text;
+use serde_json::{Value, json};
+use std::alloc::{AllocError, Global};
+
+/// What is published.
+#[derive(Debug, Drop)]
+pub enum Publication {
+    /// What the kernel is doing.
+    Status(State),
+    /// A cell is to be run.
+    ExecuteInput {
+        /// The cell.
+        code: Text,
+        /// The execution count.
+        count: u64,
+    },
+    /// A cell wrote a text.
+    Stream {
+        /// Whether it wrote to the stream of errors.
+        err: bool,
+        /// The text.
+        text: Text,
+    },
+    /// A cell has a value.
+    ExecuteResult {
+        /// The value, as plain text.
+        text: Text,
+        /// The execution count.
+        count: u64,
+    },
+    /// A cell shows something.
+    Display {
+        /// What it shows, as plain text.
+        text: Text,
+    },
+    /// A cell failed.
+    Error {
+        /// The error's name.
+        ename: Text,
+        /// The error's value.
+        evalue: Text,
+    },
+    /// A comm is closed.
+    CommClose {
+        /// The comm's name.
+        comm_id: Text,
+    },
+}
+
+/// What the kernel is doing.
+#[derive(Clone, Copy, Debug, PartialEq, Eq)]
+pub enum State {
+    /// It has begun, and answered nothing yet.
+    Starting,
+    /// It works on a request.
+    Busy,
+    /// It waits for a request.
+    Idle,
+}
+
+impl State {
+    /// The word for it in a status.
+    fn word(self) -> &'static str
+        ensures { result.now ≡ state_word self }
+    {
+        match self {
+            State::Starting => "starting",
+            State::Busy => "busy",
+            State::Idle => "idle",
+        }
+    }
+}
+
+/// The name of the stream of errors, or of the other one.
+fn stream_name(err: bool) -> &'static str
+    ensures { result.now ≡ stream_name err }
+{
+    if err { "stderr" } else { "stdout" }
+}
+
+/// The type of the message that carries a publication.
+pub fn type_of(publication: &Publication) -> &'static str
+    ensures { result.now ≡ publication_type publication.now }
+{
+    match publication {
+        Publication::Status(_) => "status",
+        Publication::ExecuteInput { .. } => "execute_input",
+        Publication::Stream { .. } => "stream",
+        Publication::ExecuteResult { .. } => "execute_result",
+        Publication::Display { .. } => "display_data",
+        Publication::Error { .. } => "error",
+        Publication::CommClose { .. } => "comm_close",
+    }
+}
+
+/// The topic under which a publication goes out: its message type, of a stream with its name.
+pub fn topic_of(publication: &Publication) -> &'static str
+    ensures { result.now ≡ topic publication.now }
+{
+    match publication {
+        Publication::Stream { err: true, .. } => "stream.stderr",
+        Publication::Stream { err: false, .. } => "stream.stdout",
+        Publication::Status(_)
+        | Publication::ExecuteInput { .. }
+        | Publication::ExecuteResult { .. }
+        | Publication::Display { .. }
+        | Publication::Error { .. }
+        | Publication::CommClose { .. } => type_of(publication),
+    }
+}
+
+/// The content of a publication, as JSON.
+///
+/// # Errors
+///
+/// `OutOfMemory` alone.
+pub fn content_of_publication(
+    alloc: Global,
+    publication: &Publication,
+) -> Result<Value, ContentFault>
+    ensures data { IfOk result (λ value. view value ≡ publication_data publication.now) }
+    ensures memory { IfErr result (λ fault. fault ≡ ContentFault.OutOfMemory) }
+{
+    let value = publication_value(alloc, publication)?;
+    Ok(value)
+}
+
+/// The content of a publication as it is sent: its JSON with no space.
+///
+/// # Errors
+///
+/// `OutOfMemory` alone.
+pub fn content_text_of_publication(
+    alloc: Global,
+    publication: &Publication,
+) -> Result<Vec<u8>, ContentFault>
+    ensures text { IfOk result (λ text. text.items ≡ compact_text (publication_data publication.now)) }
+    ensures memory { IfErr result (λ fault. fault ≡ ContentFault.OutOfMemory) }
+{
+    let value = publication_value(alloc, publication)?;
+    Ok(value.to_string(alloc)?.into_bytes())
+}
+
+/// The content of a publication, as JSON.
+fn publication_value(alloc: Global, publication: &Publication) -> Result<Value, AllocError>
+    ensures { IfOk result (λ value. view value ≡ publication_data publication.now) }
+{
+    match publication {
+        Publication::Status(state) => json!(in alloc; {"execution_state": state.word()}),
+        Publication::ExecuteInput { code, count } => {
+            json!(in alloc; {"code": code.as_str(), "execution_count": *count})
+        }
+        Publication::Stream { err, text } => {
+            json!(in alloc; {"name": stream_name(*err), "text": text.as_str()})
+        }
+        Publication::ExecuteResult { text, count } => {
+            let data = plain_value(alloc, text.as_str())?;
+            json!(in alloc; {"data": data, "execution_count": *count, "metadata": {}})
+        }
+        Publication::Display { text } => {
+            let data = plain_value(alloc, text.as_str())?;
+            json!(in alloc; {"data": data, "metadata": {}})
+        }
+        Publication::Error { ename, evalue } => {
+            failure_value(alloc, ename.as_str(), evalue.as_str())
+        }
+        Publication::CommClose { comm_id } => {
+            json!(in alloc; {"comm_id": comm_id.as_str(), "data": {}})
+        }
+    }
+}
+
+/// A cell that failed.
+fn failure_value(alloc: Global, ename: &str, evalue: &str) -> Result<Value, AllocError>
+    ensures { IfOk result (λ value. view value ≡ failure_data ename.now evalue.now) }
+{
+    let line = traceback_line(alloc, ename, evalue)?;
+    json!(in alloc; {"ename": ename, "evalue": evalue, "traceback": [line]})
+}
