@@ -1,10 +1,16 @@
 -- The texts of an object's members, read one after the other.
-use Rattle.std.proofs.Common.{◌≡◌, ℕ, List, [], ◌∷◌, ◌++◌, Option, Some, None, option_map, option_and_then, String, Global, string_bytes, append_assoc, append-nil, refl, sym, ap, ◌∙◌}
+use Rattle.std.proofs.Common.{◌≡◌, ℕ, List, [], ◌∷◌, ◌++◌, Option, Some, None, option_map, option_and_then, String, Global, string_bytes, append_assoc, append-nil, refl, map, nat_cmp, string_cmp, Less, sym, ap, ◌∙◌}
+use Rattle.std.specs.Prelude.{IfSome, ⊤}
+use Rattle.std.specs.Cmp.Lexicographic.{slice_cmp}
+use Rattle.std.specs.List.{AllByRecursion}
+use Rattle.std.specs.List.Sorted.{IsStrictlySortedBy}
+use Rattle.std.specs.Map.{keys_of}
+use Rattle.std.proofs.lemmas.Option.{MatchOption-at_some}
 use Rattle.serde_json.specs.Data.{Members}
 use Rattle.serde_json.specs.View.{view, members_view}
 use Rattle.serde_json.specs.declared.value.Value.{Value}
 use Rattle.serde_json.proofs.Views.{Entry}
-use Rattle.jmsg_types.specs.Field.{text_in, texts_of}
+use Rattle.jmsg_types.specs.Field.{NamesRise, text_in, texts_of}
 
 -- names and their texts
 abbrev pub Texts : Type 0
@@ -56,3 +62,43 @@ left_other all done left later name value left_is turn other =
 pub left_last : (all : Option Texts) (done : Texts) (left : List Entry) → AreLeft all done left → left ≡ [] → Some done ≡ all
 left_last all done left left_is none =
     sym (left_is ∙ ap (λ entries. option_map (λ rest. done ++ rest) (texts_of (members_view entries))) none ∙ ap Some (append-nil done))
+
+-- the names of the texts are the keys of the entries
+names_behind : (key : List ℕ) (text : Option (List ℕ)) (rest : Option Texts) (keys : List (List ℕ))
+    → IfSome rest (λ texts. map (λ text. text.0) texts ≡ keys)
+    → IfSome (option_and_then (λ words. option_map (λ texts. (key, words) ∷ texts) rest) text)
+    (λ texts. map (λ text. text.0) texts ≡ key ∷ keys)
+names_behind key None rest keys h = tt
+names_behind key (Some words) None keys h = tt
+names_behind key (Some words) (Some texts) keys h = ap (λ names. key ∷ names) h
+
+names_are_keys : (entries : List Entry) → IfSome (texts_of (members_view entries))
+    (λ texts. map (λ text. text.0) texts ≡ map string_bytes (keys_of entries))
+names_are_keys [] = refl
+names_are_keys (entry ∷ entries) =
+    names_behind (string_bytes entry.0) (text_in (view entry.1)) (texts_of (members_view entries)) (map string_bytes (keys_of entries))
+    (names_are_keys entries)
+
+-- keys in the order of texts are in the order of their octets
+above : (key : String Global) (keys : List (String Global)) → AllByRecursion (λ other. string_cmp key other ≡ Less) keys
+    → AllByRecursion (λ other. slice_cmp nat_cmp (string_bytes key) other ≡ Less) (map string_bytes keys)
+above key [] h = h
+above key (first ∷ keys) h = (h.0, above key keys h.1)
+
+octets_rise : (keys : List (String Global)) → IsStrictlySortedBy string_cmp keys
+    → IsStrictlySortedBy (slice_cmp nat_cmp) (map string_bytes keys)
+unfolding IsStrictlySortedBy
+octets_rise [] h = h
+octets_rise (key ∷ keys) h = (above key keys h.0, octets_rise keys h.1)
+
+pub names_rise : (entries : List Entry) (texts : Texts) → IsStrictlySortedBy string_cmp (keys_of entries)
+    → Some texts ≡ texts_of (members_view entries) → NamesRise texts
+names_rise entries texts order is =
+    let names : map (λ text. text.0) texts ≡ map string_bytes (keys_of entries) =
+    MatchOption-at_some ⊤ (λ texts. map (λ text. text.0) texts ≡ map string_bytes (keys_of entries)) texts (sym is) (names_are_keys entries) in
+    rw names (octets_rise (keys_of entries) order)
+
+-- no names are in order
+pub no_names_rise : (texts : Texts) → texts ≡ [] → NamesRise texts
+unfolding IsStrictlySortedBy
+no_names_rise texts none = rw none tt

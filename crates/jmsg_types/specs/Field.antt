@@ -1,5 +1,8 @@
 -- How a field of a content is judged ('Messaging in Jupyter' 5.3): its kind, and whether it may be left out.
-use Rattle.std.specs.Prelude.{ℕ, List, [], ◌∷◌, Bool, min, nat_le, if◌then◌else◌, Option, Some, None, option_map, option_and_then, Result, Ok, Err, length}
+use Rattle.std.specs.Prelude.{ℕ, List, [], ◌∷◌, Bool, min, nat_le, if◌then◌else◌, Option, Some, None, option_map, option_and_then, Result, Ok, Err, length, map}
+use Rattle.std.specs.Ordering.{nat_cmp}
+use Rattle.std.specs.Cmp.Lexicographic.{slice_cmp}
+use Rattle.std.specs.List.Sorted.{IsStrictlySortedBy}
 use Rattle.std.specs.Option.{ok_or, option_map_or}
 use Rattle.std.specs.Str.{chars, is_utf8}
 use Rattle.serde_json.specs.Data.{Data, Members, no_members, member}
@@ -28,6 +31,10 @@ abbrev pub texts_of : Members → Option (List (List ℕ × List ℕ))
 texts_of no_members = Some []
 texts_of (member name value rest) =
     option_and_then (λ text. option_map (λ texts. (name, text) ∷ texts) (texts_of rest)) (text_in value)
+
+-- names and texts by the order of the names' octets, each name once
+abbrev pub NamesRise : List (List ℕ × List ℕ) → Type 0
+NamesRise texts = IsStrictlySortedBy (slice_cmp nat_cmp) (map (λ text. text.0) texts)
 
 -- an object of texts
 abbrev pub texts_in : Data → Option (List (List ℕ × List ℕ))

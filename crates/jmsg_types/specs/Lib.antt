@@ -10,3 +10,4 @@ pub mod Request
 pub mod Content
 pub mod Reply
 pub mod Publication
+pub mod Laws

@@ -1,11 +1,11 @@
 -- What a client may ask ('Messaging in Jupyter' 5.3, "Messages on the shell (ROUTER/DEALER) channel", "Custom Messages"
 -- and "Messages on the control (ROUTER/DEALER) channel").
-use Rattle.std.specs.Prelude.{ℕ, List, [], ◌∷◌, true, false, ◌&&◌, not, Option, Some, None, Result, Ok, codes, find, option_and_then}
+use Rattle.std.specs.Prelude.{ℕ, List, [], ◌∷◌, true, false, ◌&&◌, not, ⊤, Option, Some, None, Result, Ok, codes, find, option_and_then}
 use Rattle.std.specs.Option.{option_map_or}
 use Rattle.std.specs.Str.{bytes_eq}
 use Rattle.serde_json.specs.Data.{Members}
 use Rattle.jmsg_types.specs.Fault.{Refusal}
-use Rattle.jmsg_types.specs.Field.{required, optional, and_then, text_in, truth_in, optional_cursor, level_in, texts_in, members_in}
+use Rattle.jmsg_types.specs.Field.{required, optional, and_then, text_in, truth_in, optional_cursor, level_in, texts_in, members_in, NamesRise}
 use Rattle.jmsg_types.specs.declared.request.Request.{Request}
 use Rattle.jmsg_types.specs.declared.request.Request.TheVariants as asks
 use Rattle.jmsg_types.specs.declared.message_type.MessageType.{MessageType}
@@ -122,3 +122,19 @@ request_of kind content = and_then (members_in content) (row_of kind).fields
 -- the request of a message type and a content, or why it is refused; of an unknown type the content isn't read
 abbrev pub reading : List ℕ → List ℕ → Result Request Refusal
 reading msg_type content = option_map_or (λ kind. request_of kind content) (message_type msg_type) (Ok asks.Unknown)
+
+-- the user expressions of a request, where it has any, stand by the order of their names' octets
+abbrev pub ExpressionsRise : Request → Type 0
+ExpressionsRise asks.KernelInfo = ⊤
+ExpressionsRise (asks.Execute code silent store_history user_expressions allow_stdin stop_on_error) = NamesRise user_expressions
+ExpressionsRise (asks.Complete code cursor_pos) = ⊤
+ExpressionsRise (asks.Inspect code cursor_pos detail_level) = ⊤
+ExpressionsRise (asks.IsComplete code) = ⊤
+ExpressionsRise asks.History = ⊤
+ExpressionsRise asks.CommInfo = ⊤
+ExpressionsRise (asks.CommOpen comm_id) = ⊤
+ExpressionsRise asks.CommMsg = ⊤
+ExpressionsRise asks.CommClose = ⊤
+ExpressionsRise (asks.Shutdown restart) = ⊤
+ExpressionsRise asks.Interrupt = ⊤
+ExpressionsRise asks.Unknown = ⊤

@@ -1,9 +1,9 @@
 //! The fields of a content. Texts are moved out of it, and not copied.
 
-ghost use Rattle.std.specs.Prelude.{◌≡◌, ℕ, List, [], false, Some, option_map, IfOk};
+ghost use Rattle.std.specs.Prelude.{◌≡◌, ℕ, List, [], false, Some, option_map, IfOk, IfSome};
 ghost use Rattle.std.specs.Str.{bytes_eq};
 ghost use Rattle.jmsg_types.specs.Fault.{IsAnswer, IsAnswerOrMemory};
-ghost use Rattle.jmsg_types.specs.Field.{code_points, level_in, optional, optional_cursor, required, text_in, texts_in, texts_of, truth_in, whole_in};
+ghost use Rattle.jmsg_types.specs.Field.{NamesRise, code_points, level_in, optional, optional_cursor, required, text_in, texts_in, texts_of, truth_in, whole_in};
 ghost use Rattle.serde_json.specs.Find.{as_object, get_member};
 ghost use Rattle.serde_json.specs.View.{view, members_view};
 
@@ -145,6 +145,7 @@ pub(crate) fn take_texts(
 ) -> Result<Row<(Text, Text)>, ContentFault>
     ensures answer { IsAnswerOrMemory result
         (optional texts_in [] name.now (members_view members.old.entries)) }
+    ensures ordered { IfOk result NamesRise }
     ensures others { (other : List ℕ) → bytes_eq other name.now ≡ false
         → get_member other (members_view members.new.entries)
         ≡ get_member other (members_view members.old.entries) }
@@ -163,7 +164,8 @@ fn owned_texts(
     alloc: Global,
     members: Map<String, Value>,
 ) -> Result<Option<Row<(Text, Text)>>, AllocError>
-    ensures { IfOk result (λ texts. texts ≡ texts_of (members_view members.entries)) }
+    ensures value { IfOk result (λ texts. texts ≡ texts_of (members_view members.entries)) }
+    ensures ordered { IfOk result (λ texts. IfSome texts NamesRise) }
 {
     let mut texts = Vec::with_capacity(alloc, members.len())?;
     for (name, value) in members {

@@ -3,7 +3,7 @@
 ghost use Rattle.std.specs.Prelude.{◌≡◌, None, Ok, Err, IfOk, IfErr, IfSome, MatchResult};
 ghost use Rattle.jmsg_types.specs.Fault.{IsAnswer, IsAnswerOrMemory, refusal_of};
 ghost use Rattle.jmsg_types.specs.Field.{members_in};
-ghost use Rattle.jmsg_types.specs.Request.{message_type, reading, request_of, row_of};
+ghost use Rattle.jmsg_types.specs.Request.{ExpressionsRise, message_type, reading, request_of, row_of};
 ghost use Rattle.serde_json.specs.View.{members_view};
 
 use crate::field::{cursor_field, into_members, level_field, take_text, take_texts, truth_field};
@@ -89,6 +89,7 @@ pub fn read_request(alloc: Global, msg_type: &str, content: &[u8]) -> Result<Req
     ensures read { IfOk result (λ request. reading msg_type.now content.now ≡ Ok request) }
     ensures refused { IfErr result (λ fault. IfSome (refusal_of fault)
         (λ refusal. reading msg_type.now content.now ≡ Err refusal)) }
+    ensures ordered { IfOk result ExpressionsRise }
     ensures unknown { message_type msg_type.now ≡ None → result ≡ Ok Request.Unknown }
 {
     match MessageType::from_name(msg_type) {
@@ -99,7 +100,8 @@ pub fn read_request(alloc: Global, msg_type: &str, content: &[u8]) -> Result<Req
 
 /// Reads the content of a message of a known type.
 fn read_known(alloc: Global, kind: MessageType, content: &[u8]) -> Result<Request, ContentFault>
-    ensures { IsAnswerOrMemory result (request_of kind content.now) }
+    ensures answer { IsAnswerOrMemory result (request_of kind content.now) }
+    ensures ordered { IfOk result ExpressionsRise }
 {
     let members = read_members(alloc, content)?;
     read_fields(alloc, kind, members)
@@ -124,7 +126,8 @@ fn read_fields(
     kind: MessageType,
     members: Map<String, Value>,
 ) -> Result<Request, ContentFault>
-    ensures { IsAnswerOrMemory result ((row_of kind).fields (members_view members.entries)) }
+    ensures answer { IsAnswerOrMemory result ((row_of kind).fields (members_view members.entries)) }
+    ensures ordered { IfOk result ExpressionsRise }
 {
     match kind {
         MessageType::KernelInfoRequest => Ok(Request::KernelInfo),
@@ -144,8 +147,9 @@ fn read_fields(
 
 /// Reads an `execute_request`. Each kind is judged before silence has its effect.
 fn read_execute(alloc: Global, mut members: Map<String, Value>) -> Result<Request, ContentFault>
-    ensures { IsAnswerOrMemory result
+    ensures answer { IsAnswerOrMemory result
         ((row_of MessageType.ExecuteRequest).fields (members_view members.entries)) }
+    ensures ordered { IfOk result ExpressionsRise }
 {
     let code = take_text(&mut members, "code")?;
     let silent = truth_field(&members, "silent", false)?;
@@ -165,8 +169,9 @@ fn read_execute(alloc: Global, mut members: Map<String, Value>) -> Result<Reques
 
 /// Reads a `complete_request`.
 fn read_complete(mut members: Map<String, Value>) -> Result<Request, ContentFault>
-    ensures { IsAnswer result
+    ensures answer { IsAnswer result
         ((row_of MessageType.CompleteRequest).fields (members_view members.entries)) }
+    ensures ordered { IfOk result ExpressionsRise }
 {
     let code = take_text(&mut members, "code")?;
     let cursor_pos = cursor_field(&members, "cursor_pos", code.as_str())?;
@@ -175,8 +180,9 @@ fn read_complete(mut members: Map<String, Value>) -> Result<Request, ContentFaul
 
 /// Reads an `inspect_request`.
 fn read_inspect(mut members: Map<String, Value>) -> Result<Request, ContentFault>
-    ensures { IsAnswer result
+    ensures answer { IsAnswer result
         ((row_of MessageType.InspectRequest).fields (members_view members.entries)) }
+    ensures ordered { IfOk result ExpressionsRise }
 {
     let code = take_text(&mut members, "code")?;
     let cursor_pos = cursor_field(&members, "cursor_pos", code.as_str())?;
@@ -190,8 +196,9 @@ fn read_inspect(mut members: Map<String, Value>) -> Result<Request, ContentFault
 
 /// Reads an `is_complete_request`.
 fn read_is_complete(mut members: Map<String, Value>) -> Result<Request, ContentFault>
-    ensures { IsAnswer result
+    ensures answer { IsAnswer result
         ((row_of MessageType.IsCompleteRequest).fields (members_view members.entries)) }
+    ensures ordered { IfOk result ExpressionsRise }
 {
     let code = take_text(&mut members, "code")?;
     Ok(Request::IsComplete { code })
@@ -199,8 +206,9 @@ fn read_is_complete(mut members: Map<String, Value>) -> Result<Request, ContentF
 
 /// Reads a `comm_open`.
 fn read_comm_open(mut members: Map<String, Value>) -> Result<Request, ContentFault>
-    ensures { IsAnswer result
+    ensures answer { IsAnswer result
         ((row_of MessageType.CommOpen).fields (members_view members.entries)) }
+    ensures ordered { IfOk result ExpressionsRise }
 {
     let comm_id = take_text(&mut members, "comm_id")?;
     Ok(Request::CommOpen { comm_id })
@@ -208,8 +216,9 @@ fn read_comm_open(mut members: Map<String, Value>) -> Result<Request, ContentFau
 
 /// Reads a `shutdown_request`.
 fn read_shutdown(members: &Map<String, Value>) -> Result<Request, ContentFault>
-    ensures { IsAnswer result
+    ensures answer { IsAnswer result
         ((row_of MessageType.ShutdownRequest).fields (members_view members.now.entries)) }
+    ensures ordered { IfOk result ExpressionsRise }
 {
     let restart = truth_field(members, "restart", false)?;
     Ok(Request::Shutdown { restart })

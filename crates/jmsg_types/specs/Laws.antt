@@ -1,0 +1,15 @@
+-- What follows from the table of requests.
+use Rattle.std.specs.Prelude.{◌≡◌, ℕ, List, ◌++◌, Some, codes}
+use Rattle.jmsg_types.specs.Request.{message_type, row_of}
+use Rattle.jmsg_types.specs.declared.message_type.MessageType.{MessageType}
+
+-- each type is the type of its name: no two have one name, and the list of all of them has each
+abbrev pub EachTypeIsFound : Type 0
+EachTypeIsFound = (kind : MessageType) → message_type (row_of kind).msg_type ≡ Some kind
+
+-- a request that is replied to has a type that ends in `_request`, and its reply's type has `_reply` in that place
+-- ('Messaging in Jupyter' 5.3, "General Message Format")
+abbrev pub RepliesAreNamedForRequests : Type 0
+RepliesAreNamedForRequests =
+    (kind : MessageType) (name : List ℕ) → (row_of kind).reply ≡ Some name
+    → (stem : List ℕ) × ((row_of kind).msg_type ≡ stem ++ codes "_request") × (name ≡ stem ++ codes "_reply")
