@@ -16,11 +16,7 @@ pub(crate) fn plain_value(alloc: Global, text: &str) -> Result<Value, AllocError
 }
 
 /// The one line of an error's traceback.
-pub(crate) fn traceback_line(
-    alloc: Global,
-    ename: &str,
-    evalue: &str,
-) -> Result<String, AllocError>
+pub(crate) fn traceback_line(alloc: Global, ename: &str, evalue: &str) -> Result<String, AllocError>
     ensures { IfOk result (λ line. string_bytes line ≡ traceback_line ename.now evalue.now) }
 {
     format!(in alloc; "{ename}: {evalue}")

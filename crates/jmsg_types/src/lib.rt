@@ -22,3 +22,6 @@ pub use publication::{
 };
 pub use reply::{Reply, Shown, Verdict, content_of, content_text};
 pub use request::{Request, read_request};
+
+#[cfg(test)]
+mod tests;

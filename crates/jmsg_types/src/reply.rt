@@ -243,12 +243,7 @@ fn execute_error_value(
 }
 
 /// How the word between two places may go on.
-fn complete_value(
-    alloc: Global,
-    matches: Value,
-    start: u64,
-    end: u64,
-) -> Result<Value, AllocError>
+fn complete_value(alloc: Global, matches: Value, start: u64, end: u64) -> Result<Value, AllocError>
     ensures { IfOk result (λ value. view value ≡ complete_data (view matches) start end) }
 {
     json!(in alloc; {
