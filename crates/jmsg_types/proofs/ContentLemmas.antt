@@ -1,5 +1,6 @@
 -- What reading a content says of its members.
-use Rattle.std.proofs.Common.{◌≡◌, ℕ, List, Bool, true, false, Option, Some, None, option_map, Result, Ok, Err, String, Global, BTreeMap, refl, sym, ap, ◌∙◌, if◌then◌else◌}
+use Rattle.std.proofs.Common.{◌≡◌, ℕ, List, Bool, true, false, Option, Some, None, option_map, Result, Ok, Err, String}
+use Rattle.std.proofs.Common.{Global, BTreeMap, refl, sym, ap, ◌∙◌, if◌then◌else◌}
 use Rattle.std.specs.Prelude.{IsUtf8, IfSome, MatchResult}
 use Rattle.std.specs.Option.{ok_or}
 use Rattle.std.specs.Str.{is_utf8}
@@ -23,8 +24,10 @@ members_in-read : (content : List ℕ) (value : Data) → IsUtf8 content → rea
     → members_in content ≡ ok_or (as_object value) not_an_object
 members_in-read content value text h = rw (is_utf8-from_IsUtf8 content text, h) refl
 
-pub members_answer : (content : List ℕ) (value : Data) (found : Option MemberMap) (answer : Result MemberMap ContentFault)
-    → IsUtf8 content → read content ≡ Some value → option_map (λ members. members_view members.entries) found ≡ as_object value
+pub members_answer : (content : List ℕ) (value : Data) (found : Option MemberMap)
+    (answer : Result MemberMap ContentFault)
+    → IsUtf8 content → read content ≡ Some value → option_map (λ members. members_view members.entries) found
+    ≡ as_object value
     → answer ≡ ok_or found NotAnObject
     → MatchResult answer (λ members. members_in content ≡ Ok (members_view members.entries))
     (λ fault. IfSome (refusal_of fault) (λ refusal. members_in content ≡ Err refusal))

@@ -1,5 +1,6 @@
 -- No content that is written has a number with a fraction, so its printed text is known to the letter.
-use Rattle.std.proofs.Common.{◌≡◌, ℕ, List, [], ◌∷◌, false, Some, None, map, nat_cmp, Ordering, Less, Equal, Greater, refl}
+use Rattle.std.proofs.Common.{◌≡◌, ℕ, List, [], ◌∷◌, false, Some, None, map, nat_cmp, Ordering, Less, Equal, Greater}
+use Rattle.std.proofs.Common.{refl}
 use Rattle.std.proofs.lemmas.Bool.{or_parts}
 use Rattle.std.specs.Cmp.Lexicographic.{slice_cmp}
 use Rattle.std.specs.Ordering.{match_ordering}
@@ -23,13 +24,16 @@ items_have_float-texts (text ∷ texts) = items_have_float-texts texts
 
 -- members with one more or another
 members_have_float-at : (order : Ordering) (name key : List ℕ) (value old : Data) (rest later : Members)
-    → has_float value ≡ false → has_float old ≡ false → members_have_float rest ≡ false → members_have_float later ≡ false
-    → members_have_float (match_ordering order (member name value (member key old rest)) (member key value rest) (member key old later)) ≡ false
+    → has_float value ≡ false → has_float old ≡ false → members_have_float rest ≡ false → members_have_float later
+    ≡ false
+    → members_have_float (match_ordering order (member name value (member key old rest)) (member key value rest)
+    (member key old later)) ≡ false
 members_have_float-at Less name key value old rest later v o r l = rw (v, o, r) refl
 members_have_float-at Equal name key value old rest later v o r l = rw (v, r) refl
 members_have_float-at Greater name key value old rest later v o r l = rw (o, l) refl
 
-members_have_float-put : (name : List ℕ) (value : Data) (members : Members) → has_float value ≡ false → members_have_float members ≡ false
+members_have_float-put : (name : List ℕ) (value : Data) (members : Members) → has_float value ≡ false
+    → members_have_float members ≡ false
     → members_have_float (put name value members) ≡ false
 members_have_float-put name value no_members v h = rw v refl
 members_have_float-put name value (member key old rest) v h =
@@ -42,7 +46,8 @@ has_float-shown_data : (shown : Shown) → has_float (shown_data shown) ≡ fals
 has_float-shown_data (shows.Text text) = refl
 has_float-shown_data (shows.Fault ename evalue) = refl
 
-members_have_float-values_members : (values : List (List ℕ × Shown)) (found : Members) → members_have_float found ≡ false
+members_have_float-values_members : (values : List (List ℕ × Shown)) (found : Members) → members_have_float found
+    ≡ false
     → members_have_float (values_members values found) ≡ false
 members_have_float-values_members [] found h = h
 members_have_float-values_members (value ∷ values) found h =

@@ -1,5 +1,6 @@
 -- The members of a content beside the entries of the map that holds them.
-use Rattle.std.proofs.Common.{◌≡◌, ℕ, List, [], ◌∷◌, Bool, true, false, Option, Some, None, option_map, String, Global, Bor, string_bytes, nat_cmp, cond, bytes_eq, true≢false, refl, sym, ap, ◌∙◌}
+use Rattle.std.proofs.Common.{◌≡◌, ℕ, List, [], ◌∷◌, Bool, true, false, Option, Some, None, option_map, String, Global}
+use Rattle.std.proofs.Common.{Bor, string_bytes, nat_cmp, cond, bytes_eq, true≢false, refl, sym, ap, ◌∙◌}
 use Rattle.std.proofs.lemmas.Map.Text.{is_eq-slice_cmp}
 use Rattle.std.proofs.lemmas.Slice.Eq.{bytes_eq-Decides}
 use Rattle.std.specs.BTreeMap.{is_at}
@@ -22,7 +23,8 @@ pub member-value : (name : List ℕ) (entries : List Entry) (found : Option Valu
 member-value name entries found e = ap (option_map view) e ∙ view-lookup name entries
 
 -- the same, where it is lent
-pub member-lent : (name : List ℕ) (entries : List Entry) (found : Option (Bor Value)) → option_copied found ≡ lookup (named name) entries
+pub member-lent : (name : List ℕ) (entries : List Entry) (found : Option (Bor Value)) → option_copied found
+    ≡ lookup (named name) entries
     → option_map (λ value. view value.now) found ≡ get_member name (members_view entries)
 member-lent name entries None e = member-value name entries None e
 member-lent name entries (Some value) e = member-value name entries (Some value.now) e
@@ -33,7 +35,8 @@ apart name other key differ same is =
     true≢false (sym ((bytes_eq-Decides other name).1 (is ∙ sym ((bytes_eq-Decides name key).0 same))) ∙ differ)
 
 -- the entry that leaves a map at a test leaves the members of other names
-other_stays : (test : Bool) (name other : List ℕ) (entry : Entry) (entries : List Entry) → bytes_eq name (string_bytes entry.0) ≡ test
+other_stays : (test : Bool) (name other : List ℕ) (entry : Entry) (entries : List Entry)
+    → bytes_eq name (string_bytes entry.0) ≡ test
     → bytes_eq other name ≡ false
     → get_member other (members_view (remove_entry (named name) entries)) ≡ get_member other (members_view entries)
     → get_member other (members_view (cond test entries (entry ∷ remove_entry (named name) entries)))

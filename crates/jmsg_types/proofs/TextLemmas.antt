@@ -1,5 +1,7 @@
 -- The texts of an object's members, read one after the other.
-use Rattle.std.proofs.Common.{◌≡◌, ℕ, List, [], ◌∷◌, ◌++◌, Option, Some, None, option_map, option_and_then, String, Global, string_bytes, append_assoc, append-nil, refl, map, nat_cmp, string_cmp, Less, sym, ap, ◌∙◌}
+use Rattle.std.proofs.Common.{◌≡◌, ℕ, List, [], ◌∷◌, ◌++◌, Option, Some, None, option_map, option_and_then, String}
+use Rattle.std.proofs.Common.{Global, string_bytes, append_assoc, append-nil, refl, map, nat_cmp, string_cmp, Less}
+use Rattle.std.proofs.Common.{sym, ap, ◌∙◌}
 use Rattle.std.specs.Prelude.{IfSome, ⊤}
 use Rattle.std.specs.Cmp.Lexicographic.{slice_cmp}
 use Rattle.std.specs.List.{AllByRecursion}
@@ -41,13 +43,15 @@ one_more : (done : Texts) (name text : List ℕ) (rest : Option Texts)
 one_more done name text None = refl
 one_more done name text (Some texts) = ap Some (sym (append_assoc done ((name, text) ∷ []) texts))
 
-pub left_next : (all : Option Texts) (done new : Texts) (left later : List Entry) (name : String Global) (value : Value) (key text : List ℕ)
+pub left_next : (all : Option Texts) (done new : Texts) (left later : List Entry) (name : String Global) (value : Value)
+    (key text : List ℕ)
     → AreLeft all done left → left ≡ (name, value) ∷ later → Some text ≡ text_in (view value) → key ≡ string_bytes name
     → new ≡ done ++ (key, text) ∷ [] → AreLeft all new later
 left_next all done new left later name value key text left_is turn is named more =
     let entry = ap (λ entries. option_map (λ rest. done ++ rest) (texts_of (members_view entries))) turn in
     let longer : new ≡ done ++ (string_bytes name, text) ∷ [] = rw (more, named) refl in
-    let worded = ap (option_map (λ rest. done ++ rest)) (ap (texts_behind (string_bytes name) (members_view later)) (sym is)) in
+    let worded = ap (option_map (λ rest. done ++ rest))
+    (ap (texts_behind (string_bytes name) (members_view later)) (sym is)) in
     rw longer (left_is ∙ entry ∙ worded ∙ one_more done (string_bytes name) text (texts_of (members_view later)))
 
 -- a value that is no text
@@ -55,13 +59,16 @@ pub left_other : (all : Option Texts) (done : Texts) (left later : List Entry) (
     → AreLeft all done left → left ≡ (name, value) ∷ later → None ≡ text_in (view value) → None ≡ all
 left_other all done left later name value left_is turn other =
     let entry = ap (λ entries. option_map (λ rest. done ++ rest) (texts_of (members_view entries))) turn in
-    let worded = ap (option_map (λ rest. done ++ rest)) (ap (texts_behind (string_bytes name) (members_view later)) (sym other)) in
+    let worded = ap (option_map (λ rest. done ++ rest))
+    (ap (texts_behind (string_bytes name) (members_view later)) (sym other)) in
     sym (left_is ∙ entry ∙ worded)
 
 -- at the end none is left
-pub left_last : (all : Option Texts) (done : Texts) (left : List Entry) → AreLeft all done left → left ≡ [] → Some done ≡ all
+pub left_last : (all : Option Texts) (done : Texts) (left : List Entry) → AreLeft all done left → left ≡ [] → Some done
+    ≡ all
 left_last all done left left_is none =
-    sym (left_is ∙ ap (λ entries. option_map (λ rest. done ++ rest) (texts_of (members_view entries))) none ∙ ap Some (append-nil done))
+    sym (left_is ∙ ap (λ entries. option_map (λ rest. done ++ rest) (texts_of (members_view entries))) none
+    ∙ ap Some (append-nil done))
 
 -- the names of the texts are the keys of the entries
 names_behind : (key : List ℕ) (text : Option (List ℕ)) (rest : Option Texts) (keys : List (List ℕ))
@@ -76,7 +83,8 @@ names_are_keys : (entries : List Entry) → IfSome (texts_of (members_view entri
     (λ texts. map (λ text. text.0) texts ≡ map string_bytes (keys_of entries))
 names_are_keys [] = refl
 names_are_keys (entry ∷ entries) =
-    names_behind (string_bytes entry.0) (text_in (view entry.1)) (texts_of (members_view entries)) (map string_bytes (keys_of entries))
+    names_behind (string_bytes entry.0) (text_in (view entry.1)) (texts_of (members_view entries))
+    (map string_bytes (keys_of entries))
     (names_are_keys entries)
 
 -- keys in the order of texts are in the order of their octets
@@ -95,7 +103,8 @@ pub names_rise : (entries : List Entry) (texts : Texts) → IsStrictlySortedBy s
     → Some texts ≡ texts_of (members_view entries) → NamesRise texts
 names_rise entries texts order is =
     let names : map (λ text. text.0) texts ≡ map string_bytes (keys_of entries) =
-    MatchOption-at_some ⊤ (λ texts. map (λ text. text.0) texts ≡ map string_bytes (keys_of entries)) texts (sym is) (names_are_keys entries) in
+    MatchOption-at_some ⊤ (λ texts. map (λ text. text.0) texts ≡ map string_bytes (keys_of entries)) texts (sym is)
+    (names_are_keys entries) in
     rw names (octets_rise (keys_of entries) order)
 
 -- no names are in order

@@ -1,9 +1,13 @@
 -- The table of requests, row by row.
-use Rattle.std.proofs.Common.{◌≡◌, ℕ, List, ◌++◌, Some, codes, refl, sym}
+use Rattle.std.proofs.Common.{codes, refl, sym}
 use Rattle.std.proofs.lemmas.Option.{same_Some}
 use Rattle.jmsg_types.specs.Laws.{EachTypeIsFound, RepliesAreNamedForRequests}
-use Rattle.jmsg_types.specs.declared.message_type.MessageType.{MessageType}
-use Rattle.jmsg_types.specs.declared.message_type.MessageType.TheVariants.{KernelInfoRequest, ExecuteRequest, CompleteRequest, InspectRequest, IsCompleteRequest, HistoryRequest, CommInfoRequest, CommOpen, CommMsg, CommClose, ShutdownRequest, InterruptRequest}
+use Rattle.jmsg_types.specs.declared.message_type.MessageType.TheVariants.{KernelInfoRequest, ExecuteRequest}
+use Rattle.jmsg_types.specs.declared.message_type.MessageType.TheVariants.{CompleteRequest, InspectRequest}
+use Rattle.jmsg_types.specs.declared.message_type.MessageType.TheVariants.{IsCompleteRequest, HistoryRequest}
+use Rattle.jmsg_types.specs.declared.message_type.MessageType.TheVariants.{CommInfoRequest, CommOpen, CommMsg}
+use Rattle.jmsg_types.specs.declared.message_type.MessageType.TheVariants.{CommClose, ShutdownRequest}
+use Rattle.jmsg_types.specs.declared.message_type.MessageType.TheVariants.{InterruptRequest}
 
 -- each name computes
 pub found : EachTypeIsFound

@@ -1,4 +1,5 @@
--- Parts that contents share ('Messaging in Jupyter' 5.3). A content is an object, with its keys in the order of their octets.
+-- Parts that contents share ('Messaging in Jupyter' 5.3). A content is an object, with its keys in the order of their
+-- octets.
 use Rattle.std.specs.Prelude.{ℕ, List, ◌++◌, map, codes}
 use Rattle.serde_json.specs.Data.{Data, string, array, object, no_items, item, member, no_members}
 use Rattle.serde_json.specs.View.{items_of}

@@ -1,4 +1,4 @@
--- What may be wrong with a content.
+-- What may be wrong with a content, and what an answer tells of it.
 use Rattle.std.specs.Prelude.{◌≡◌, ℕ, List, Option, Some, None, IfSome, option_map, Result, Ok, Err, MatchResult}
 use Rattle.jmsg_types.specs.declared.fault.ContentFault.{ContentFault}
 use Rattle.jmsg_types.specs.declared.fault.ContentFault.TheVariants.{NotJson, NotAnObject, Field, OutOfMemory}

@@ -1,10 +1,11 @@
 -- How a field of a content is judged ('Messaging in Jupyter' 5.3): its kind, and whether it may be left out.
-use Rattle.std.specs.Prelude.{ℕ, List, [], ◌∷◌, Bool, min, nat_le, if◌then◌else◌, Option, Some, None, option_map, option_and_then, Result, Ok, Err, length, map}
+use Rattle.std.specs.Prelude.{◌≡◌, ℕ, List, [], ◌∷◌, Bool, false, min, nat_le, if◌then◌else◌}
+use Rattle.std.specs.Prelude.{Option, Some, None, option_map, option_and_then, Result, Ok, Err, length, map}
 use Rattle.std.specs.Ordering.{nat_cmp}
 use Rattle.std.specs.Cmp.Lexicographic.{slice_cmp}
 use Rattle.std.specs.List.Sorted.{IsStrictlySortedBy}
 use Rattle.std.specs.Option.{ok_or, option_map_or}
-use Rattle.std.specs.Str.{chars, is_utf8}
+use Rattle.std.specs.Str.{bytes_eq, chars, is_utf8}
 use Rattle.serde_json.specs.Data.{Data, Members, no_members, member}
 use Rattle.serde_json.specs.Find.{as_bool, as_number, as_object, as_str, as_u64, get_member}
 use Rattle.serde_json.specs.Read.{read}
@@ -39,6 +40,11 @@ NamesRise texts = IsStrictlySortedBy (slice_cmp nat_cmp) (map (λ text. text.0) 
 -- an object of texts
 abbrev pub texts_in : Data → Option (List (List ℕ × List ℕ))
 texts_in value = option_and_then texts_of (as_object value)
+
+-- members without a name have those of the other names as before
+abbrev pub KeepsOthers : List ℕ → Members → Members → Type 0
+KeepsOthers name old new =
+    (other : List ℕ) → bytes_eq other name ≡ false → get_member other new ≡ get_member other old
 
 -- a field that has to be there, of a kind
 abbrev pub required : {A : Type 0} → (Data → Option A) → List ℕ → Members → Result A Refusal

@@ -3,7 +3,8 @@ use Rattle.std.specs.Prelude.{ℕ, List, Bool, true, false, ◌++◌, codes}
 use Rattle.serde_json.specs.Data.{Data, number, unsigned, string, object, member, no_members}
 use Rattle.jmsg_types.specs.Content.{empty_data, plain_data, traceback_data}
 use Rattle.jmsg_types.specs.declared.publication.Publication.{Publication}
-use Rattle.jmsg_types.specs.declared.publication.Publication.TheVariants.{Status, ExecuteInput, Stream, ExecuteResult, Display, Error, CommClose}
+use Rattle.jmsg_types.specs.declared.publication.Publication.TheVariants.{Status, ExecuteInput, Stream, ExecuteResult}
+use Rattle.jmsg_types.specs.declared.publication.Publication.TheVariants.{Display, Error, CommClose}
 use Rattle.jmsg_types.specs.declared.publication.State.{State}
 use Rattle.jmsg_types.specs.declared.publication.State.TheVariants.{Starting, Busy, Idle}
 

@@ -2,7 +2,8 @@
 -- the control (ROUTER/DEALER) channel").
 use Rattle.std.specs.Prelude.{ℕ, List, [], ◌∷◌, Option, is_some, codes}
 use Rattle.std.specs.Option.{option_map_or}
-use Rattle.serde_json.specs.Data.{Data, boolean, number, unsigned, string, array, object, no_items, Members, member, no_members, put}
+use Rattle.serde_json.specs.Data.{Data, boolean, number, unsigned, string, array, object, no_items, Members, member}
+use Rattle.serde_json.specs.Data.{no_members, put}
 use Rattle.jmsg_types.specs.Content.{empty_data, error_data, plain_data, texts_data, traceback_data}
 use Rattle.jmsg_types.specs.declared.reply.Reply.{Reply}
 use Rattle.jmsg_types.specs.declared.reply.Reply.TheVariants as tells

@@ -1,15 +1,22 @@
 -- What a client may ask ('Messaging in Jupyter' 5.3, "Messages on the shell (ROUTER/DEALER) channel", "Custom Messages"
 -- and "Messages on the control (ROUTER/DEALER) channel").
-use Rattle.std.specs.Prelude.{ℕ, List, [], ◌∷◌, true, false, ◌&&◌, not, ⊤, Option, Some, None, Result, Ok, codes, find, option_and_then}
+use Rattle.std.specs.Prelude.{ℕ, List, [], ◌∷◌, true, false, ◌&&◌, not, ⊤, codes, find}
+use Rattle.std.specs.Prelude.{Option, Some, None, option_and_then, Result, Ok}
 use Rattle.std.specs.Option.{option_map_or}
 use Rattle.std.specs.Str.{bytes_eq}
 use Rattle.serde_json.specs.Data.{Members}
 use Rattle.jmsg_types.specs.Fault.{Refusal}
-use Rattle.jmsg_types.specs.Field.{required, optional, and_then, text_in, truth_in, optional_cursor, level_in, texts_in, members_in, NamesRise}
+use Rattle.jmsg_types.specs.Field.{required, optional, and_then, text_in, truth_in, optional_cursor, level_in}
+use Rattle.jmsg_types.specs.Field.{texts_in, members_in, NamesRise}
 use Rattle.jmsg_types.specs.declared.request.Request.{Request}
 use Rattle.jmsg_types.specs.declared.request.Request.TheVariants as asks
 use Rattle.jmsg_types.specs.declared.message_type.MessageType.{MessageType}
-use Rattle.jmsg_types.specs.declared.message_type.MessageType.TheVariants.{KernelInfoRequest, ExecuteRequest, CompleteRequest, InspectRequest, IsCompleteRequest, HistoryRequest, CommInfoRequest, CommOpen, CommMsg, CommClose, ShutdownRequest, InterruptRequest}
+use Rattle.jmsg_types.specs.declared.message_type.MessageType.TheVariants.{KernelInfoRequest, ExecuteRequest}
+use Rattle.jmsg_types.specs.declared.message_type.MessageType.TheVariants.{CompleteRequest, InspectRequest}
+use Rattle.jmsg_types.specs.declared.message_type.MessageType.TheVariants.{IsCompleteRequest, HistoryRequest}
+use Rattle.jmsg_types.specs.declared.message_type.MessageType.TheVariants.{CommInfoRequest, CommOpen, CommMsg}
+use Rattle.jmsg_types.specs.declared.message_type.MessageType.TheVariants.{CommClose, ShutdownRequest}
+use Rattle.jmsg_types.specs.declared.message_type.MessageType.TheVariants.{InterruptRequest}
 
 -- A row of the table of requests: the name of the message type; its fields, in the order in which they are judged, and
 -- the request that they mean; the type of the message that replies.
@@ -101,7 +108,7 @@ row_of InterruptRequest = record {
   reply = Some (codes "interrupt_reply");
 }
 
--- the types of the table, all of them
+-- The types of the table, all of them.
 abbrev pub message_types : List MessageType
 message_types =
     KernelInfoRequest ∷ ExecuteRequest ∷ CompleteRequest ∷ InspectRequest ∷ IsCompleteRequest ∷ HistoryRequest
@@ -126,7 +133,8 @@ reading msg_type content = option_map_or (λ kind. request_of kind content) (mes
 -- the user expressions of a request, where it has any, stand by the order of their names' octets
 abbrev pub ExpressionsRise : Request → Type 0
 ExpressionsRise asks.KernelInfo = ⊤
-ExpressionsRise (asks.Execute code silent store_history user_expressions allow_stdin stop_on_error) = NamesRise user_expressions
+ExpressionsRise (asks.Execute code silent store_history user_expressions allow_stdin stop_on_error) =
+    NamesRise user_expressions
 ExpressionsRise (asks.Complete code cursor_pos) = ⊤
 ExpressionsRise (asks.Inspect code cursor_pos detail_level) = ⊤
 ExpressionsRise (asks.IsComplete code) = ⊤

@@ -1,9 +1,9 @@
-//! The fields of a content. Texts are moved out of it, and not copied.
+//! The fields of a content: each is looked up once, and texts are moved out of it.
 
-ghost use Rattle.std.specs.Prelude.{◌≡◌, ℕ, List, [], false, Some, option_map, IfOk, IfSome};
-ghost use Rattle.std.specs.Str.{bytes_eq};
+ghost use Rattle.std.specs.Prelude.{◌≡◌, [], option_map, IfOk, IfSome};
 ghost use Rattle.jmsg_types.specs.Fault.{IsAnswer, IsAnswerOrMemory};
-ghost use Rattle.jmsg_types.specs.Field.{NamesRise, code_points, level_in, optional, optional_cursor, required, text_in, texts_in, texts_of, truth_in, whole_in};
+ghost use Rattle.jmsg_types.specs.Field.{KeepsOthers, NamesRise, code_points, level_in, optional, optional_cursor};
+ghost use Rattle.jmsg_types.specs.Field.{required, text_in, texts_in, texts_of, truth_in, whole_in};
 ghost use Rattle.serde_json.specs.Find.{as_object, get_member};
 ghost use Rattle.serde_json.specs.View.{view, members_view};
 
@@ -24,9 +24,8 @@ fn member<'m>(members: &'m Map<String, Value>, name: &str) -> Option<&'m Value>
 fn take_member(members: &mut Map<String, Value>, name: &str) -> Option<Value>
     ensures found { option_map view result
         ≡ get_member name.now (members_view members.old.entries) }
-    ensures others { (other : List ℕ) → bytes_eq other name.now ≡ false
-        → get_member other (members_view members.new.entries)
-        ≡ get_member other (members_view members.old.entries) }
+    ensures others { KeepsOthers name.now (members_view members.old.entries)
+        (members_view members.new.entries) }
 {
     members.remove(name)
 }
@@ -58,9 +57,8 @@ pub(crate) fn take_text(
 ) -> Result<Text, ContentFault>
     ensures answer { IsAnswer result
         (required text_in name.now (members_view members.old.entries)) }
-    ensures others { (other : List ℕ) → bytes_eq other name.now ≡ false
-        → get_member other (members_view members.new.entries)
-        ≡ get_member other (members_view members.old.entries) }
+    ensures others { KeepsOthers name.now (members_view members.old.entries)
+        (members_view members.new.entries) }
 {
     match take_member(members, name) {
         Some(value) => into_text(value).ok_or(ContentFault::Field(name)),
@@ -146,9 +144,8 @@ pub(crate) fn take_texts(
     ensures answer { IsAnswerOrMemory result
         (optional texts_in [] name.now (members_view members.old.entries)) }
     ensures ordered { IfOk result NamesRise }
-    ensures others { (other : List ℕ) → bytes_eq other name.now ≡ false
-        → get_member other (members_view members.new.entries)
-        ≡ get_member other (members_view members.old.entries) }
+    ensures others { KeepsOthers name.now (members_view members.old.entries)
+        (members_view members.new.entries) }
 {
     let Some(value) = take_member(members, name) else {
         return Ok(Row::new(Vec::new(alloc)));

@@ -1,7 +1,8 @@
 //! What is published.
 
 ghost use Rattle.std.specs.Prelude.{◌≡◌, IfOk, IfErr};
-ghost use Rattle.jmsg_types.specs.Publication.{failure_data, publication_data, publication_type, state_word, stream_name, topic};
+ghost use Rattle.jmsg_types.specs.Publication.{failure_data, publication_data, publication_type, state_word};
+ghost use Rattle.jmsg_types.specs.Publication.{stream_name, topic};
 ghost use Rattle.serde_json.specs.View.{view};
 ghost use Rattle.serde_json.specs.Written.{compact_text};
 

@@ -1,7 +1,9 @@
 //! What a client is replied.
 
 ghost use Rattle.std.specs.Prelude.{◌≡◌, Some, None, IfOk, IfErr};
-ghost use Rattle.jmsg_types.specs.Reply.{complete_data, execute_error_data, execute_ok_data, inspect_data, kernel_info_data, language_data, reply_data, shown_data, values_members, verdict_data};
+ghost use Rattle.jmsg_types.specs.Reply.{complete_data, execute_error_data, execute_ok_data, inspect_data};
+ghost use Rattle.jmsg_types.specs.Reply.{kernel_info_data, language_data, reply_data, shown_data, values_members};
+ghost use Rattle.jmsg_types.specs.Reply.{verdict_data};
 ghost use Rattle.serde_json.specs.Data.{object, no_members};
 ghost use Rattle.serde_json.specs.View.{view};
 ghost use Rattle.serde_json.specs.Written.{compact_text};

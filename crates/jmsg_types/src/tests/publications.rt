@@ -98,8 +98,8 @@ fn publishes_errors(rt: HostRuntime) -> Result<(), Fail> {
     let ename = text(rt.alloc(), "OverflowError")?;
     let evalue = text(rt.alloc(), "result outside 64 bits")?;
     let error = Publication::Error { ename, evalue };
-    let content =
-        "{\"ename\":\"OverflowError\",\"evalue\":\"result outside 64 bits\",\"traceback\":[\"OverflowError: result outside 64 bits\"]}";
+    let content = "{\"ename\":\"OverflowError\",\"evalue\":\"result outside 64 bits\",\
+         \"traceback\":[\"OverflowError: result outside 64 bits\"]}";
     assert!(rt; is_published(rt.alloc(), &error, "error", "error", content)?);
     Ok(())
 }

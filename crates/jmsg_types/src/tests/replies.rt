@@ -24,7 +24,10 @@ fn writes_the_kernel_info(rt: HostRuntime) -> Result<(), Fail> {
         version: text(alloc, "1.0")?,
     };
     let expected =
-        "{\"banner\":\"Shell arithmetic in 64 bits\",\"help_links\":[],\"implementation\":\"jkernel\",\"implementation_version\":\"1.0\",\"language_info\":{\"file_extension\":\".sha\",\"mimetype\":\"text/plain\",\"name\":\"sharith\",\"version\":\"1.0\"},\"protocol_version\":\"5.3\",\"status\":\"ok\"}";
+        "{\"banner\":\"Shell arithmetic in 64 bits\",\"help_links\":[],\"implementation\":\"jkernel\",\
+         \"implementation_version\":\"1.0\",\"language_info\":{\"file_extension\":\".sha\",\
+         \"mimetype\":\"text/plain\",\"name\":\"sharith\",\"version\":\"1.0\"},\"protocol_version\":\"5.3\",\
+         \"status\":\"ok\"}";
     assert!(rt; is_written(alloc, &reply, expected)?);
     Ok(())
 }
@@ -94,13 +97,15 @@ fn writes_cells_that_failed(rt: HostRuntime) -> Result<(), Fail> {
             "OverflowError",
             "result outside 64 bits",
             1,
-            "{\"ename\":\"OverflowError\",\"evalue\":\"result outside 64 bits\",\"execution_count\":1,\"status\":\"error\",\"traceback\":[\"OverflowError: result outside 64 bits\"]}",
+            "{\"ename\":\"OverflowError\",\"evalue\":\"result outside 64 bits\",\"execution_count\":1,\
+             \"status\":\"error\",\"traceback\":[\"OverflowError: result outside 64 bits\"]}",
         ),
         (
             "ContentError",
             "content is not JSON",
             0,
-            "{\"ename\":\"ContentError\",\"evalue\":\"content is not JSON\",\"execution_count\":0,\"status\":\"error\",\"traceback\":[\"ContentError: content is not JSON\"]}",
+            "{\"ename\":\"ContentError\",\"evalue\":\"content is not JSON\",\"execution_count\":0,\
+             \"status\":\"error\",\"traceback\":[\"ContentError: content is not JSON\"]}",
         ),
     ];
     for (ename, evalue, count, expected) in rows {
@@ -126,8 +131,10 @@ fn writes_what_user_expressions_came_to(rt: HostRuntime) -> Result<(), Fail> {
         count: 1,
         values: Row::new(values),
     };
-    let expected =
-        "{\"execution_count\":1,\"payload\":[],\"status\":\"ok\",\"user_expressions\":{\"a\":{\"data\":{\"text/plain\":\"16\"},\"metadata\":{},\"status\":\"ok\"},\"b\":{\"ename\":\"ZeroDivisionError\",\"evalue\":\"division by zero\",\"status\":\"error\",\"traceback\":[\"ZeroDivisionError: division by zero\"]}}}";
+    let expected = "{\"execution_count\":1,\"payload\":[],\"status\":\"ok\",\
+         \"user_expressions\":{\"a\":{\"data\":{\"text/plain\":\"16\"},\"metadata\":{},\"status\":\"ok\"},\
+         \"b\":{\"ename\":\"ZeroDivisionError\",\"evalue\":\"division by zero\",\"status\":\"error\",\
+         \"traceback\":[\"ZeroDivisionError: division by zero\"]}}}";
     assert!(rt; is_written(alloc, &reply, expected)?);
     Ok(())
 }
@@ -136,8 +143,8 @@ fn writes_what_user_expressions_came_to(rt: HostRuntime) -> Result<(), Fail> {
 fn writes_other_errors(rt: HostRuntime) -> Result<(), Fail> {
     let alloc = rt.alloc();
     let reply = error(alloc, "ContentError", "field code")?;
-    let expected =
-        "{\"ename\":\"ContentError\",\"evalue\":\"field code\",\"status\":\"error\",\"traceback\":[\"ContentError: field code\"]}";
+    let expected = "{\"ename\":\"ContentError\",\"evalue\":\"field code\",\"status\":\"error\",\
+         \"traceback\":[\"ContentError: field code\"]}";
     assert!(rt; is_written(alloc, &reply, expected)?);
     Ok(())
 }
@@ -221,7 +228,8 @@ fn writes_any_character(rt: HostRuntime) -> Result<(), Fail> {
     let alloc = rt.alloc();
     let reply = error(alloc, "a\"b\\/", "\n\t\0\x1f\x7fé𝔸")?;
     let expected =
-        "{\"ename\":\"a\\\"b\\\\/\",\"evalue\":\"\\n\\t\\u0000\\u001f\x7fé𝔸\",\"status\":\"error\",\"traceback\":[\"a\\\"b\\\\/: \\n\\t\\u0000\\u001f\x7fé𝔸\"]}";
+        "{\"ename\":\"a\\\"b\\\\/\",\"evalue\":\"\\n\\t\\u0000\\u001f\x7fé𝔸\",\"status\":\"error\",\
+         \"traceback\":[\"a\\\"b\\\\/: \\n\\t\\u0000\\u001f\x7fé𝔸\"]}";
     assert!(rt; is_written(alloc, &reply, expected)?);
     Ok(())
 }

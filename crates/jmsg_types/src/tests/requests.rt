@@ -19,7 +19,8 @@ fn reads_each_type(rt: HostRuntime) -> Result<(), Fail> {
         ),
         (
             "execute_request",
-            "{\"code\":\"x\",\"silent\":false,\"store_history\":true,\"user_expressions\":{},\"allow_stdin\":true,\"stop_on_error\":true}",
+            "{\"code\":\"x\",\"silent\":false,\"store_history\":true,\"user_expressions\":{},\"allow_stdin\":true,\
+             \"stop_on_error\":true}",
             "execute <x> false true <> true true",
         ),
         (
@@ -116,7 +117,8 @@ fn silent_cells_are_not_stored(rt: HostRuntime) -> Result<(), Fail> {
 #[test]
 fn user_expressions_stand_by_the_octets_of_their_names(rt: HostRuntime) -> Result<(), Fail> {
     let content =
-        "{\"user_expressions\":{\"é\":\"6\",\"b\":\"4\",\"ab\":\"3\",\"a\":\"2\",\"\":\"0\",\"z\":\"5\",\"B\":\"1\"},\"code\":\"\"}";
+        "{\"user_expressions\":{\"é\":\"6\",\"b\":\"4\",\"ab\":\"3\",\"a\":\"2\",\"\":\"0\",\"z\":\"5\",\
+         \"B\":\"1\"},\"code\":\"\"}";
     let read = answer(rt.alloc(), "execute_request", content.as_bytes())?;
     assert_eq!(rt;
         read.as_str(),

@@ -9,4 +9,5 @@ pub returns-clause-text : goal.returns-clause-text
 returns-clause-text c =
     let built : view c.in_ok-value.value ≡ publication_data c.args.publication.now = c.in_ok-value.ensures in
     ap (λ v. v.items) c.into_bytes.ensures.value
-    ∙ c.in_ok-to_string.ensures.text (ap has_float built ∙ has_float-publication_data c.args.publication.now) ∙ ap compact_text built
+    ∙ c.in_ok-to_string.ensures.text (ap has_float built ∙ has_float-publication_data c.args.publication.now)
+    ∙ ap compact_text built

@@ -4,7 +4,8 @@ use Rattle.jmsg_types.proofs.request.read_members.Goals as goal
 
 pub returns-in-Ok : goal.returns-in-Ok
 returns-in-Ok c =
-    members_answer c.args.content.now _ _ _ c.in-Ok.ensures.ok.0 c.in-Ok.ensures.ok.1 c.into_members.ensures c.ok_or.ensures.value
+    members_answer c.args.content.now _ _ _ c.in-Ok.ensures.ok.0 c.in-Ok.ensures.ok.1 c.into_members.ensures
+    c.ok_or.ensures.value
 
 pub returns-in-Err-2 : goal.returns-in-Err-2
 returns-in-Err-2 c =
