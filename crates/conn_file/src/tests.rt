@@ -23,7 +23,9 @@ fn file(alloc: Global, others: &[(&str, &str)]) -> Result<String, Fail> {
         let other = others.iter().find(|it| it.0 == name);
         let value = other.map_or(value, |it| it.1);
         if !value.is_empty() {
-            text.push_str(&format!(in alloc; ",\"{name}\":{value}")?)?;
+            for part in [",\"", name, "\":", value] {
+                text.push_str(part)?;
+            }
         }
     }
     text.push_str("}")?;
