@@ -1,6 +1,5 @@
-pub mod ContentText
+pub mod BlockLemmas
 pub mod HexText
-pub mod Judged
 pub mod KnownReads
 pub mod SessionLemmas
 pub mod OneValue

@@ -1,5 +1,5 @@
 -- What a session makes of the messages of a peer.
-use Rattle.std.proofs.Common.{◌≡◌, ◌≢◌, ◌⊎◌, inl, inr, ℕ, ◌<◌, ◌^◌, List, [], ◌∷◌, ◌++◌, length, Option, Some, None}
+use Rattle.std.proofs.Common.{◌≡◌, ◌≢◌, ◌⊎◌, inl, inr, ℕ, ◌+◌, ◌<◌, ◌^◌, List, [], ◌∷◌, ◌++◌, length, Option, Some, None}
 use Rattle.std.proofs.Common.{IfSome, Result, Ok, Err, IfOk, refl, sym, ◌∙◌, ap, subst, arith, append_assoc}
 use Rattle.std.proofs.Common.{length-append}
 use Rattle.std.proofs.lemmas.List.{append-nil, length-map}
@@ -23,16 +23,17 @@ use Rattle.kernel_engine.specs.Server.{AnswersAll, IsServed}
 use Rattle.kernel_engine.specs.Server.{Serves as ServesPeer}
 use Rattle.kernel_engine.specs.Exchange.{Exchange, IsCut, IsReadOut}
 use Rattle.kernel_engine.specs.Laws.{EndStays}
-use Rattle.jkernel.specs.declared.content.Content.{Content}
+use Rattle.jmsg_types.specs.declared.reply.Reply.{Reply}
 use Rattle.jkernel.specs.declared.engine.Engine.{Engine}
-use Rattle.jkernel.specs.Block.{reply_with, reply_of, reply_content, reply_text, block, starting}
+use Rattle.jkernel.specs.Block.{ids_between, reply_with, reply_of, reply_text, block, starting}
+use Rattle.jkernel.specs.Answer.{answer_of}
 use Rattle.jkernel.specs.Lines.{printed_lines}
 use Rattle.jkernel.specs.Session.{IsDropped, AnswersMessages, IsSession, IsPrinted}
 use Rattle.jkernel.specs.Served.{ServesOne, IsServedBy, Sessions}
 use Rattle.jkernel.specs.Replay.{PrintsPeer, IsPrintable}
 
 -- a reply has frames
-reply_frames : (key : List ℕ) (number : ℕ) (request : Envelope) (content : Option Content)
+reply_frames : (key : List ℕ) (number : ℕ) (request : Envelope) (content : Option Reply)
     → IfSome (reply_with key number request content) (λ message. 0 < length message)
 reply_frames key number request None = tt
 reply_frames key number request (Some content) = omega (arith, length-append {A = List ℕ})
@@ -42,7 +43,7 @@ pub some_frames : (key : List ℕ) (number : ℕ) (request : Envelope) (frames :
     → Some message ≡ reply_of key number request → bodies frames ≡ message → 0 < length frames
 some_frames key number request frames message is spelled =
     let some = subst (λ o. IfSome o (λ m. 0 < length m)) (sym is)
-    (reply_frames key number request (reply_content request)) in
+    (reply_frames key (number + 2 + ids_between (answer_of request).publication) request (answer_of request).reply) in
     omega (arith, some, ap length spelled, length-map frames (λ (f : Vec ℕ). f.items))
 
 -- the text of a reply

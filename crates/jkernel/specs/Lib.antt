@@ -1,5 +1,5 @@
+pub mod Answer
 pub mod Block
-pub mod Content
 pub mod Lines
 pub mod Replay
 pub mod Served

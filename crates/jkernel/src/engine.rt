@@ -2,18 +2,22 @@
 
 ghost use Rattle.std.specs.Prelude.{◌≡◌, ◌+◌, ◌++◌, ◌∷◌, ◌<◌, ◌^◌, [], IfOk, IfErr, OnOk, option_map};
 ghost use Rattle.listed.specs.Bodies.{bodies};
+ghost use Rattle.jmsg_types.specs.declared.publication.Publication.TheVariants.{Status};
 ghost use Rattle.kernel_engine.specs.Fault.{IsAnswerFault};
-ghost use Rattle.jkernel.specs.Content.{judged_object};
-ghost use Rattle.jkernel.specs.Block.{replay_date, message_of, published, starting, block, reply_content, info_content};
-ghost use Rattle.jkernel.specs.Block.{reply_of, ids_of};
+ghost use Rattle.jkernel.specs.Answer.{answer_of};
+ghost use Rattle.jkernel.specs.Block.{block, ids_between, ids_of, message_of, published, replay_date, reply_of};
+ghost use Rattle.jkernel.specs.Block.{reply_with, starting, between};
 
-use crate::content::{Content, ContentFault, State, content_text, message_type, read_object};
-use crate::request::Request;
+use crate::answer::answer_of;
 use crate::stamp::ReplayStamp;
 use jmsg_envelope::{Envelope, Signer, Stamp, header_text, seal};
+use jmsg_types::{
+    Publication, Reply, State, content_text, content_text_of_publication, reply_type, topic_of,
+    type_of,
+};
 use kernel_engine::EngineFault;
 use listed::Frames;
-use std::alloc::{AllocError, Global};
+use std::alloc::Global;
 
 /// The greatest number of an id before a request.
 const LAST_ID: u64 = 1 << 62;
@@ -80,11 +84,37 @@ impl Engine {
         let busy = self.status(alloc, date.as_str(), header, number, State::Busy)?;
         let idle = self.status(alloc, date.as_str(), header, number + 1, State::Idle)?;
         self.published.push(Frames::new(busy))?;
-        let content = reply_content(alloc, &request)?;
-        let reply = self.reply(alloc, date.as_str(), request, number + 2, content)?;
+        let answer = answer_of(alloc, &request)?;
+        let next = self.publish(alloc, date.as_str(), header, number + 2, answer.publication)?;
+        let reply = self.reply(alloc, date.as_str(), request, next, answer.reply)?;
         self.published.push(Frames::new(idle))?;
-        self.next = number + if reply.is_some() { 3 } else { 2 };
+        self.next = next + if reply.is_some() { 1 } else { 0 };
         Ok(reply)
+    }
+
+    /// Publishes what an answer has between busy and idle, if anything; the next number.
+    fn publish(
+        &mut self,
+        alloc: Global,
+        date: &str,
+        parent: &[u8],
+        number: u64,
+        publication: Option<Publication>,
+    ) -> Result<u64, EngineFault>
+        requires date { date.now ≡ replay_date }
+        requires few { number < 2 ^ 63 }
+        ensures same { (self.new.signer ≡ self.old.signer) × (self.new.next ≡ self.old.next) }
+        ensures published { OnOk result (self.new.published.items ≡ self.old.published.items
+            ++ between self.old.signer parent.now number publication) }
+        ensures next { IfOk result (λ next. next ≡ number + ids_between publication) }
+        ensures fault { IfErr result (λ fault. fault ≡ EngineFault.Memory) }
+    {
+        let Some(publication) = publication else {
+            return Ok(number);
+        };
+        let message = self.publication(alloc, date, parent, number, &publication)?;
+        self.published.push(Frames::new(message))?;
+        Ok(number + 1)
     }
 
     /// The reply of this content, where there is one.
@@ -94,19 +124,22 @@ impl Engine {
         date: &str,
         request: Envelope,
         number: u64,
-        content: Option<Content>,
+        reply: Option<Reply>,
     ) -> Result<Option<Frames>, EngineFault>
         requires { date.now ≡ replay_date }
-        ensures reply { IfOk result (λ reply. reply ≡ option_map
-            (message_of self.now.signer request.identities request.header number) content) }
+        ensures reply { IfOk result (λ message. message ≡ reply_with self.now.signer number request reply) }
         ensures fault { IfErr result (λ fault. fault ≡ EngineFault.Memory) }
     {
-        let Some(content) = content else {
+        let Some(reply) = reply else {
             return Ok(None);
+        };
+        let msg_type = reply_type(request.msg_type.as_str()).unwrap_or("");
+        let Ok(content) = content_text(alloc, &reply) else {
+            return Err(EngineFault::Memory);
         };
         let prefix = request.identities.into_vec();
         let header = request.header.into_vec();
-        let reply = self.message(alloc, date, prefix, header, number, content)?;
+        let reply = self.message(alloc, date, prefix, header, number, msg_type, content)?;
         Ok(Some(Frames::new(reply)))
     }
 
@@ -121,18 +154,45 @@ impl Engine {
     ) -> Result<Vec<Vec<u8>>, EngineFault>
         requires { date.now ≡ replay_date }
         ensures frames { IfOk result (λ frames. bodies frames.items
-            ≡ published self.now.signer parent.now number (Content.Status state)) }
+            ≡ published self.now.signer parent.now number (Status state)) }
         ensures fault { IfErr result (λ fault. fault ≡ EngineFault.Memory) }
     {
-        let content = Content::Status(state);
-        let topic = Vec::from_slice(alloc, message_type(&content).as_bytes())?;
+        self.publication(alloc, date, parent, number, &Publication::Status(state))
+    }
+
+    /// What is published with this parent, as a message behind its topic.
+    fn publication(
+        &self,
+        alloc: Global,
+        date: &str,
+        parent: &[u8],
+        number: u64,
+        publication: &Publication,
+    ) -> Result<Vec<Vec<u8>>, EngineFault>
+        requires { date.now ≡ replay_date }
+        ensures frames { IfOk result (λ frames. bodies frames.items
+            ≡ published self.now.signer parent.now number publication.now) }
+        ensures fault { IfErr result (λ fault. fault ≡ EngineFault.Memory) }
+    {
+        let topic = Vec::from_slice(alloc, topic_of(publication).as_bytes())?;
         let mut prefix = Vec::new(alloc);
         prefix.push(topic)?;
         let parent = Vec::from_slice(alloc, parent)?;
-        self.message(alloc, date, prefix, parent, number, content)
+        let Ok(content) = content_text_of_publication(alloc, publication) else {
+            return Err(EngineFault::Memory);
+        };
+        self.message(
+            alloc,
+            date,
+            prefix,
+            parent,
+            number,
+            type_of(publication),
+            content,
+        )
     }
 
-    /// The message of this content, sealed.
+    /// The message of this type and content, sealed.
     fn message(
         &self,
         alloc: Global,
@@ -140,23 +200,22 @@ impl Engine {
         prefix: Vec<Vec<u8>>,
         parent: Vec<u8>,
         number: u64,
-        content: Content,
+        msg_type: &str,
+        content: Vec<u8>,
     ) -> Result<Vec<Vec<u8>>, EngineFault>
         requires { date.now ≡ replay_date }
         ensures frames { IfOk result (λ frames. bodies frames.items
-            ≡ message_of self.now.signer (bodies prefix.items) parent.items number content) }
+            ≡ message_of self.now.signer (bodies prefix.items) parent.items number msg_type.now content.items) }
         ensures fault { IfErr result (λ fault. fault ≡ EngineFault.Memory) }
     {
         let id = self.stamp.id(alloc, number)?;
         let session = self.stamp.session();
-        let header = header_text(alloc, session, id.as_str(), date, message_type(&content));
-        let Ok(header) = header else {
+        let Ok(header) = header_text(alloc, session, id.as_str(), date, msg_type) else {
             return Err(EngineFault::Memory);
         };
         let metadata = Vec::from_slice(alloc, b"{}")?;
-        let content = content_text(alloc, &content)?;
         let buffers = Vec::new(alloc);
-        let frames = seal(
+        match seal(
             alloc,
             &self.signer,
             prefix,
@@ -165,31 +224,9 @@ impl Engine {
             metadata,
             content,
             buffers,
-        );
-        match frames {
+        ) {
             Ok(frames) => Ok(frames),
             Err(_) => Err(EngineFault::Memory),
         }
-    }
-}
-
-/// What the reply to a message says, where it has a reply.
-fn reply_content(alloc: Global, request: &Envelope) -> Result<Option<Content>, AllocError>
-    ensures { IfOk result (λ content. content ≡ reply_content request.now) }
-{
-    match Request::of_type(request.msg_type.as_str()) {
-        Request::KernelInfo => Ok(Some(info_content(alloc, request.content.as_slice())?)),
-        Request::Unknown => Ok(None),
-    }
-}
-
-/// What a request for the kernel's info is answered.
-fn info_content(alloc: Global, content: &[u8]) -> Result<Content, AllocError>
-    ensures { IfOk result (λ content_of. content_of ≡ info_content (judged_object content.now)) }
-{
-    match read_object(alloc, content) {
-        Ok(()) => Ok(Content::KernelInfo),
-        Err(ContentFault::Malformed(malformed)) => Ok(Content::Refused(malformed)),
-        Err(ContentFault::OutOfMemory) => Err(AllocError),
     }
 }

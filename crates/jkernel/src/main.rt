@@ -2,13 +2,12 @@
 //! hexadecimal text of the octets that the peer sends, and what the kernel makes of them is printed.
 #![tactic(auto)]
 
-mod content;
+mod answer;
 mod engine;
 mod input;
 mod laws;
 mod lines;
 mod replay;
-mod request;
 mod session;
 mod stamp;
 mod status;

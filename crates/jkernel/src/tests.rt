@@ -1,6 +1,5 @@
 //! Tests of what no clause says: printed words, runs whose octets come from outside, devices that fail.
 
-mod content;
 mod cut;
 mod input;
 mod lines;

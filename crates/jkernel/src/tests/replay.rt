@@ -140,6 +140,93 @@ fn an_unknown_type_and_malformed_contents_are_answered(rt: HostRuntime) -> Resul
     Ok(())
 }
 
+/// Asks by a message of this header and content.
+fn asks(alloc: Global, header: &str, content: &str) -> Result<Sent, Fail> {
+    dealer(alloc)?.message(&[DELIMITER, "", header, "{}", "{}", content])
+}
+
+#[test]
+fn history_and_comms_are_told_to_be_empty(rt: HostRuntime) -> Result<(), Fail> {
+    let alloc = rt.alloc();
+    for (asked, replied, content) in [
+        (
+            "history_request",
+            "history_reply",
+            r#"{"history":[],"status":"ok"}"#,
+        ),
+        (
+            "comm_info_request",
+            "comm_info_reply",
+            r#"{"comms":{},"status":"ok"}"#,
+        ),
+    ] {
+        let header = format!(in alloc; "{{\"msg_id\":\"a\",\"msg_type\":\"{asked}\"}}")?;
+        let sent = asks(alloc, &header, "{}")?;
+        let written = met(alloc)?.reply(alloc, "", 4, replied, &header, content)?;
+        let published = Sent::new(alloc).starting(alloc)?.block(alloc, 2, &header)?;
+        assert!(rt; is_replayed(alloc, "", &sent, &written, &published, "eof")?);
+    }
+    Ok(())
+}
+
+#[test]
+fn a_comm_is_closed_as_soon_as_it_is_opened(rt: HostRuntime) -> Result<(), Fail> {
+    let alloc = rt.alloc();
+    let header = r#"{"msg_id":"a","msg_type":"comm_open"}"#;
+    let sent = asks(
+        alloc,
+        header,
+        r#"{"comm_id":"c","target_name":"t","data":{}}"#,
+    )?;
+    // The next request has the ids behind those of busy, idle and comm_close.
+    let sent = sent.info_request("", "{}")?;
+    let started = Sent::new(alloc)
+        .starting(alloc)?
+        .status(alloc, "", 2, header, "busy")?;
+    let closed = started.published(
+        alloc,
+        "",
+        4,
+        "comm_close",
+        header,
+        r#"{"comm_id":"c","data":{}}"#,
+    )?;
+    let idle = closed.status(alloc, "", 3, header, "idle")?;
+    let published = idle.block(alloc, 5, INFO_REQUEST)?;
+    let written = met(alloc)?.info_reply(alloc, "", 7, INFO)?;
+    assert!(rt; is_replayed(alloc, "", &sent, &written, &published, "eof")?);
+    Ok(())
+}
+
+#[test]
+fn what_gets_no_reply_is_busy_and_idle_alone(rt: HostRuntime) -> Result<(), Fail> {
+    let alloc = rt.alloc();
+    for (asked, content) in [
+        ("foo", "{}"),
+        ("foo", "no JSON"),
+        ("comm_open", r#"{"comm_id":null}"#),
+        ("comm_open", "["),
+        ("comm_msg", "{}"),
+        ("comm_close", "[]"),
+        ("execute_request", r#"{"code":"1"}"#),
+        ("execute_request", "{"),
+        ("complete_request", "{}"),
+        ("inspect_request", "{}"),
+        ("is_complete_request", "{}"),
+        ("shutdown_request", "{}"),
+        ("interrupt_request", "{}"),
+    ] {
+        let header = format!(in alloc; "{{\"msg_id\":\"a\",\"msg_type\":\"{asked}\"}}")?;
+        let sent = asks(alloc, &header, content)?;
+        let published = Sent::new(alloc).starting(alloc)?.block(alloc, 2, &header)?;
+        assert!(rt;
+            is_replayed(alloc, "", &sent, &met(alloc)?, &published, "eof")?,
+            "{asked} {content}"
+        );
+    }
+    Ok(())
+}
+
 #[test]
 fn what_ends_a_session_behind_a_request_leaves_its_answer(rt: HostRuntime) -> Result<(), Fail> {
     let alloc = rt.alloc();

@@ -94,6 +94,22 @@ impl Sent {
         self.message(&[DELIMITER, signature, INFO_REQUEST, "{}", "{}", content])
     }
 
+    /// What the kernel publishes under the topic of its type, as its message of this number.
+    pub(crate) fn published<'t>(
+        self,
+        alloc: Global,
+        signature: &'t str,
+        number: u64,
+        msg_type: &'t str,
+        parent: &'t str,
+        content: &'t str,
+    ) -> Result<Sent, Fail> {
+        let header = header(alloc, number, msg_type)?;
+        self.message(&[
+            msg_type, DELIMITER, signature, &header, parent, "{}", content,
+        ])
+    }
+
     /// What the kernel says of its state, as its message of this number.
     pub(crate) fn status(
         self,
@@ -103,11 +119,8 @@ impl Sent {
         parent: &str,
         state: &str,
     ) -> Result<Sent, Fail> {
-        let header = header(alloc, number, "status")?;
         let content = format!(in alloc; "{{\"execution_state\":\"{state}\"}}")?;
-        self.message(&[
-            "status", DELIMITER, signature, &header, parent, "{}", &content,
-        ])
+        self.published(alloc, signature, number, "status", parent, &content)
     }
 
     /// That the kernel starts, unsigned.
@@ -121,6 +134,20 @@ impl Sent {
         busy.status(alloc, "", number.saturating_add(1), parent, "idle")
     }
 
+    /// What the kernel replies to a peer without identities, as its message of this number.
+    pub(crate) fn reply<'t>(
+        self,
+        alloc: Global,
+        signature: &'t str,
+        number: u64,
+        msg_type: &'t str,
+        parent: &'t str,
+        content: &'t str,
+    ) -> Result<Sent, Fail> {
+        let header = header(alloc, number, msg_type)?;
+        self.message(&[DELIMITER, signature, &header, parent, "{}", content])
+    }
+
     /// The reply to a request for the kernel's info, as the kernel's message of this number.
     pub(crate) fn info_reply(
         self,
@@ -129,8 +156,14 @@ impl Sent {
         number: u64,
         content: &str,
     ) -> Result<Sent, Fail> {
-        let header = header(alloc, number, "kernel_info_reply")?;
-        self.message(&[DELIMITER, signature, &header, INFO_REQUEST, "{}", content])
+        self.reply(
+            alloc,
+            signature,
+            number,
+            "kernel_info_reply",
+            INFO_REQUEST,
+            content,
+        )
     }
 
     /// The octets in lower-case digits.
