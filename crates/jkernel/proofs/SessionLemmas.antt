@@ -7,7 +7,7 @@ use Rattle.std.specs.Global.{Vec}
 use Rattle.std.specs.List.{flat_map}
 use Rattle.std.specs.Io.KnownBytes.{Appends, IsAtEnd}
 use Rattle.listed.specs.Bodies.{bodies}
-use Rattle.zmtp_wire.specs.declared.socket_type.SocketType.TheVariants.{Router}
+use Rattle.zmtp_wire.specs.declared.handshake.socket_type.SocketType.TheVariants.{Router}
 use Rattle.zmtp_wire.specs.Frame.{text}
 use Rattle.zmtp_wire.specs.Device.{Inflow, Outflow}
 use Rattle.jmsg_envelope.specs.declared.envelope.Envelope.{Envelope}

@@ -6,7 +6,7 @@ use Rattle.std.proofs.lemmas.List.{append-nil}
 use Rattle.zmtp_wire.specs.declared.fault.WireFault.{WireFault}
 use Rattle.zmtp_wire.specs.declared.fault.WireFault.TheVariants.{PeerError}
 use Rattle.zmtp_wire.specs.declared.traffic.Traffic.{Traffic}
-use Rattle.zmtp_wire.specs.declared.decoder.Fed.{Fed}
+use Rattle.zmtp_wire.specs.declared.traffic.decoder.Fed.{Fed}
 use Rattle.zmtp_wire.specs.Limits.{usual_limits}
 use Rattle.zmtp_wire.specs.Grammar.{Reads, ReadsUpTo, IsFaulty, IsUnfinished}
 use Rattle.zmtp_wire.specs.Decoding.{Decoding, Feeds}

@@ -4,9 +4,9 @@ use Rattle.std.proofs.Common.{arith, append_assoc, length-append}
 use Rattle.std.specs.Prelude.{⊤}
 use Rattle.std.specs.List.{flat_map}
 use Rattle.std.proofs.lemmas.List.{append-nil, take-append-drop, length-take-le}
-use Rattle.zmtp_wire.specs.declared.socket_type.SocketType.{SocketType}
-use Rattle.zmtp_wire.specs.declared.socket_type.SocketType.TheVariants.{Rep}
-use Rattle.zmtp_wire.specs.declared.decoder.Fed.{Fed}
+use Rattle.zmtp_wire.specs.declared.handshake.socket_type.SocketType.{SocketType}
+use Rattle.zmtp_wire.specs.declared.handshake.socket_type.SocketType.TheVariants.{Rep}
+use Rattle.zmtp_wire.specs.declared.traffic.decoder.Fed.{Fed}
 use Rattle.zmtp_wire.specs.Frame.{text}
 use Rattle.zmtp_wire.specs.Greeting.{IsGreeting}
 use Rattle.zmtp_wire.specs.Decoding.{Decoding}

@@ -6,14 +6,14 @@ use Rattle.std.specs.Prelude.{⊤}
 use Rattle.std.proofs.lemmas.List.{append-nil, take_at, drop_at}
 use Rattle.zmtp_wire.specs.declared.fault.WireFault.{WireFault}
 use Rattle.zmtp_wire.specs.declared.traffic.Traffic.{Traffic}
-use Rattle.zmtp_wire.specs.declared.socket_type.SocketType.{SocketType}
+use Rattle.zmtp_wire.specs.declared.handshake.socket_type.SocketType.{SocketType}
 use Rattle.zmtp_wire.specs.Limits.{usual_limits}
 use Rattle.zmtp_wire.specs.Grammar.{Spells, IsFaulty, IsUnfinished}
 use Rattle.zmtp_wire.specs.Greeting.{greeting_octets, IsGreeting, IsRefusedGreeting}
 use Rattle.zmtp_wire.specs.Ready.{IsReady, ready_octets}
 use Rattle.zmtp_wire.specs.Decoding.{Decoding, Feeds}
 use Rattle.zmtp_wire.specs.Device.{Inflow, Outflow, Puts}
-use Rattle.zmtp_wire.specs.declared.decoder.Fed.{Fed}
+use Rattle.zmtp_wire.specs.declared.traffic.decoder.Fed.{Fed}
 use Rattle.kernel_engine.specs.declared.end.SessionEnd.{SessionEnd}
 use Rattle.kernel_engine.specs.declared.end.SessionEnd.TheVariants.{Eof, Shutdown, Wire, Failed}
 use Rattle.kernel_engine.specs.declared.fault.EngineFault.TheVariants.{Memory, Read, Write, Turns, Worn}

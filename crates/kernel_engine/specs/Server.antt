@@ -1,8 +1,8 @@
 -- What a server makes of the messages of a peer.
 use Rattle.std.specs.Prelude.{◌≡◌, ⊤, ℕ, List, [], ◌∷◌, ◌++◌}
 use Rattle.std.specs.List.{flat_map}
-use Rattle.zmtp_wire.specs.declared.socket_type.SocketType.{SocketType}
-use Rattle.zmtp_wire.specs.declared.socket_type.SocketType.TheVariants.{Rep}
+use Rattle.zmtp_wire.specs.declared.handshake.socket_type.SocketType.{SocketType}
+use Rattle.zmtp_wire.specs.declared.handshake.socket_type.SocketType.TheVariants.{Rep}
 use Rattle.zmtp_wire.specs.Frame.{text}
 use Rattle.kernel_engine.specs.declared.end.SessionEnd.{SessionEnd}
 use Rattle.kernel_engine.specs.Peer.{Message, Says, Hears}

@@ -4,8 +4,8 @@ use Rattle.std.proofs.Common.{◌++◌, length, map, refl, sym, ◌∙◌, ap, s
 use Rattle.std.proofs.lemmas.List.{append-nil}
 use Rattle.std.proofs.lemmas.Bool.{ltb-true, ltb-false}
 use Rattle.std.specs.List.{AllByRecursion, flat_map}
-use Rattle.zmtp_wire.specs.declared.frame.Frame.{Frame}
-use Rattle.zmtp_wire.specs.declared.limits.Limits.{Limits}
+use Rattle.zmtp_wire.specs.declared.traffic.frame.Frame.{Frame}
+use Rattle.zmtp_wire.specs.declared.traffic.limits.Limits.{Limits}
 use Rattle.zmtp_wire.specs.declared.traffic.Traffic.{Traffic}
 use Rattle.zmtp_wire.specs.declared.traffic.Traffic.TheVariants as traffic
 use Rattle.zmtp_wire.specs.declared.fault.WireFault.{WireFault}

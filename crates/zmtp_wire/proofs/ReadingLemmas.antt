@@ -9,12 +9,12 @@ use Rattle.std.proofs.lemmas.List.{append-nil, map-append, length-map}
 use Rattle.std.proofs.lemmas.List.Sums.{sum_by-append}
 use Rattle.std.proofs.Math.Seq.{take-append_seam, drop-append_seam}
 use Rattle.std.specs.List.{AllByRecursion}
-use Rattle.zmtp_wire.specs.declared.frame.Frame.{Frame}
-use Rattle.zmtp_wire.specs.declared.flags.Flags.{Flags}
-use Rattle.zmtp_wire.specs.declared.limits.Limits.{Limits}
-use Rattle.zmtp_wire.specs.declared.pending.Pending.{Pending}
-use Rattle.zmtp_wire.specs.declared.pending.Stage.{Stage}
-use Rattle.zmtp_wire.specs.declared.pending.Stage.TheVariants as stages
+use Rattle.zmtp_wire.specs.declared.traffic.frame.Frame.{Frame}
+use Rattle.zmtp_wire.specs.declared.traffic.flags.Flags.{Flags}
+use Rattle.zmtp_wire.specs.declared.traffic.limits.Limits.{Limits}
+use Rattle.zmtp_wire.specs.declared.traffic.pending.Pending.{Pending}
+use Rattle.zmtp_wire.specs.declared.traffic.pending.Stage.{Stage}
+use Rattle.zmtp_wire.specs.declared.traffic.pending.Stage.TheVariants as stages
 use Rattle.zmtp_wire.specs.declared.traffic.Traffic.{Traffic}
 use Rattle.zmtp_wire.specs.declared.traffic.Traffic.TheVariants as traffic
 use Rattle.zmtp_wire.specs.declared.fault.WireFault.{WireFault}

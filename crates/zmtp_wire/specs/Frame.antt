@@ -3,7 +3,7 @@ use Rattle.std.specs.Prelude.{◌≡◌, ℕ, ◌+◌, ◌/◌, ◌%◌, ◌^◌
 use Rattle.std.specs.Prelude.{false, not, if◌then◌else◌, List, [], ◌∷◌, ◌++◌, length, map, sum_by}
 use Rattle.std.specs.Int.{w64, to_be_bytes}
 use Rattle.std.specs.List.{flat_map}
-use Rattle.zmtp_wire.specs.declared.frame.Frame.{Frame}
+use Rattle.zmtp_wire.specs.declared.traffic.frame.Frame.{Frame}
 
 -- the flags octet: bit 0 is MORE, bit 1 LONG, bit 2 COMMAND, the others are zero
 abbrev pub flags_octet : Bool → Bool → Bool → ℕ

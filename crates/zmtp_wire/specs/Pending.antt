@@ -2,16 +2,16 @@
 use Rattle.std.specs.Prelude.{◌≡◌, ◌≢◌, ℕ, ◌+◌, ◌^◌, ◌<◌, ◌≤◌, Bool, true, false, List, [], ◌∷◌, ◌++◌, length, sum_by}
 use Rattle.std.specs.Prelude.{⊤, ◌⊎◌, Option, MatchOption, Result, MatchResult, take, IfErr}
 use Rattle.std.specs.List.{AllByRecursion}
-use Rattle.zmtp_wire.specs.declared.frame.Frame.{Frame}
-use Rattle.zmtp_wire.specs.declared.limits.Limits.{Limits}
+use Rattle.zmtp_wire.specs.declared.traffic.frame.Frame.{Frame}
+use Rattle.zmtp_wire.specs.declared.traffic.limits.Limits.{Limits}
 use Rattle.zmtp_wire.specs.declared.traffic.Traffic.{Traffic}
 use Rattle.zmtp_wire.specs.declared.traffic.Traffic.TheVariants as traffic
 use Rattle.zmtp_wire.specs.declared.fault.WireFault.{WireFault}
 use Rattle.zmtp_wire.specs.declared.fault.WireFault.TheVariants.{OutOfMemory}
-use Rattle.zmtp_wire.specs.declared.flags.Flags.{Flags}
-use Rattle.zmtp_wire.specs.declared.pending.Stage.{Stage}
-use Rattle.zmtp_wire.specs.declared.pending.Stage.TheVariants as stages
-use Rattle.zmtp_wire.specs.declared.pending.Pending.{Pending}
+use Rattle.zmtp_wire.specs.declared.traffic.flags.Flags.{Flags}
+use Rattle.zmtp_wire.specs.declared.traffic.pending.Stage.{Stage}
+use Rattle.zmtp_wire.specs.declared.traffic.pending.Stage.TheVariants as stages
+use Rattle.zmtp_wire.specs.declared.traffic.pending.Pending.{Pending}
 use Rattle.zmtp_wire.specs.Frame.{flags_octet, head_octets, size_bound, HasSize, front_octets, bodies_of}
 use Rattle.zmtp_wire.specs.Grammar.{command_body, IsWithin, Spells, AcceptsFlags, IsFaulty}
 

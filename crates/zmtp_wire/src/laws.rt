@@ -1,7 +1,7 @@
 //! Laws of the grammar of frames, which rest on its definitions alone. Each is the contract of a function
 //! that does nothing.
 ghost use Rattle.std.specs.Prelude.{◌≡◌, ◌≢◌, ◌⊎◌, ℕ, ◌<◌, ◌^◌, List, [], ◌∷◌, ◌++◌};
-ghost use Rattle.zmtp_wire.specs.declared.limits.Limits.{Limits};
+ghost use Rattle.zmtp_wire.specs.declared.traffic.limits.Limits.{Limits};
 ghost use Rattle.zmtp_wire.specs.declared.traffic.Traffic.{Traffic};
 ghost use Rattle.zmtp_wire.specs.declared.traffic.Traffic.TheVariants.{Message};
 ghost use Rattle.zmtp_wire.specs.Frame.{text};
