@@ -1,3 +1,5 @@
+//! The faults of an engine and of its connections.
+
 ghost use Rattle.std.specs.Prelude.{◌≡◌};
 ghost use Rattle.kernel_engine.specs.Fault.{fault_number};
 

@@ -1,3 +1,5 @@
+//! The faults of the wire.
+
 ghost use Rattle.std.specs.Prelude.{◌≡◌};
 ghost use Rattle.zmtp_wire.specs.Fault.{fault_number};
 ghost use Rattle.zmtp_wire.specs.declared.fault.WireFault.TheVariants.{OutOfMemory};

@@ -1,5 +1,6 @@
 //! Laws of the grammar of frames, which rest on its definitions alone. Each is the contract of a function
 //! that does nothing.
+
 ghost use Rattle.std.specs.Prelude.{◌≡◌, ◌≢◌, ◌⊎◌, ℕ, ◌<◌, ◌^◌, List, [], ◌∷◌, ◌++◌};
 ghost use Rattle.zmtp_wire.specs.declared.traffic.limits.Limits.{Limits};
 ghost use Rattle.zmtp_wire.specs.declared.traffic.Traffic.{Traffic};

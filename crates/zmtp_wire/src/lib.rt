@@ -23,8 +23,4 @@ pub use traffic::limits::Limits;
 pub use traffic::message::write_message;
 
 #[cfg(test)]
-mod tests_decoder;
-#[cfg(test)]
-mod tests_device;
-#[cfg(test)]
-mod tests_ready;
+mod tests;

@@ -1,3 +1,5 @@
+//! The greeting: writing ours, and judging the peer's.
+
 ghost use Rattle.std.specs.Prelude.{◌≡◌, IfOk, IfErr};
 ghost use Rattle.zmtp_wire.specs.Greeting.{greeting_octets, IsGreeting, IsRefusedGreeting, peer_of};
 
@@ -12,12 +14,16 @@ pub struct Peer {
     pub minor: u8,
 }
 
+/// The first octet of the signature.
 const SIGNATURE_OPENS: u8 = 0xFF;
 
+/// The last octet of the signature, behind eight of padding.
 const SIGNATURE_CLOSES: u8 = 0x7F;
 
+/// The major version that we speak, and the least that we accept.
 const MAJOR: u8 = 3;
 
+/// The name of the mechanism, padded with zeros.
 const NULL_MECHANISM: [u8; 20] = *b"NULL\0\0\0\0\0\0\0\0\0\0\0\0\0\0\0\0";
 
 /// The greeting that the kernel sends: ZMTP 3.0 with the mechanism NULL (RFC 23, rule `greeting`).

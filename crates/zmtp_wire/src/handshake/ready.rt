@@ -1,3 +1,5 @@
+//! The command READY: writing ours, and judging the peer's.
+
 ghost use Rattle.std.specs.Prelude.{◌≡◌, ◌≢◌, ◌<◌, ◌≤◌, ◌^◌, ◌⊎◌, ◌++◌, ℕ, List, length, codes, IfSome, IfNone, IfOk};
 ghost use Rattle.std.specs.Prelude.{IfErr};
 ghost use Rattle.zmtp_wire.specs.Ready.{Property, BeginsWith, AnnouncesIn, HasNoProperties, AnnouncesNoneIn, Accepts};
@@ -65,7 +67,7 @@ pub fn read_ready(first: &Traffic, ours: SocketType) -> Result<Ready, WireFault>
     }
 }
 
-// Reads a command that isn't ERROR.
+/// Reads a command that isn't ERROR.
 fn read_command(name: &[u8], rest: &[u8], ours: SocketType) -> Result<Ready, WireFault>
     requires { name.now ≢ codes "ERROR" }
     ensures { IsReady (Traffic.Command name.now rest.now) ours result }

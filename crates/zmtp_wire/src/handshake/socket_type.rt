@@ -1,3 +1,5 @@
+//! The types of a socket, and which of them talk to each other.
+
 ghost use Rattle.std.specs.Prelude.{◌≡◌, ◌↔◌, IsTrue, IfSome, IfNone};
 ghost use Rattle.zmtp_wire.specs.SocketType.{type_name, NamesType, partners, Pairs};
 

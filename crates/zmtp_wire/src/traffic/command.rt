@@ -1,3 +1,5 @@
+//! Reading the body of a command.
+
 ghost use Rattle.std.specs.Prelude.{◌≡◌, ◌⊎◌, IfOk, IfErr};
 ghost use Rattle.zmtp_wire.specs.Grammar.{IsBadCommand};
 ghost use Rattle.zmtp_wire.specs.Pending.{IsCommandOf};
@@ -9,9 +11,10 @@ use listed::Octets;
 use std::alloc::Global;
 
 /// The command that a frame's body is.
-pub fn command_of(alloc: Global, body: &[u8]) -> Result<Traffic, WireFault>
+pub(crate) fn command_of(alloc: Global, body: &[u8]) -> Result<Traffic, WireFault>
     ensures ok { IfOk result (IsCommandOf body.now) }
-    ensures err { IfErr result (λ fault. (fault ≡ OutOfMemory) ⊎ ((fault ≡ WireFault.Command) × IsBadCommand body.now)) }
+    ensures err { IfErr result (λ fault. (fault ≡ OutOfMemory)
+        ⊎ ((fault ≡ WireFault.Command) × IsBadCommand body.now)) }
 {
     let [size, named @ ..] = body else {
         return Err(WireFault::Command);

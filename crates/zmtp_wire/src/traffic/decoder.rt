@@ -1,3 +1,5 @@
+//! Reading a stream in pieces.
+
 ghost use Rattle.std.specs.Prelude.{◌≡◌, [], ◌++◌, true, false, Some, ℕ, List, OnOk, IfErr};
 ghost use Rattle.zmtp_wire.specs.Grammar.{ReadsUpTo};
 ghost use Rattle.zmtp_wire.specs.Pending.{pending_octets, IsPending};
@@ -25,8 +27,11 @@ pub struct Fed {
 /// the heads of these frames, and looks at each octet once.
 #[derive(Debug, Drop)]
 pub struct Decoder {
+    /// What has come of traffic that isn't whole.
     pending: Pending,
+    /// Whether a fault was answered.
     is_spent: bool,
+    /// What gives the memory.
     alloc: Global,
 }
 
@@ -102,7 +107,7 @@ impl Decoder {
     }
 }
 
-// Reads a piece to its end, or to the fault.
+/// Reads a piece to its end, or to the fault.
 fn read_piece(
     alloc: Global,
     pending: &mut Pending,

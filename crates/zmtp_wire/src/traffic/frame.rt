@@ -1,3 +1,5 @@
+//! A frame (RFC 23, "Framing").
+
 use listed::Octets;
 
 /// A frame as it was spelled: the same body may stand behind a short or a long size.

@@ -1,3 +1,5 @@
+//! How much a peer may send.
+
 ghost use Rattle.std.specs.Prelude.{◌≡◌};
 ghost use Rattle.zmtp_wire.specs.Limits.{usual_limits};
 

@@ -1,3 +1,5 @@
+//! Writing a message.
+
 ghost use Rattle.std.specs.Prelude.{◌≡◌, ◌<◌, ◌++◌, length, take, OnOk, OnErr, IfErr, vec_len, false};
 ghost use Rattle.zmtp_wire.specs.Frame.{text, frame_octets, shortest};
 ghost use Rattle.listed.specs.Bodies.{bodies};
@@ -23,7 +25,7 @@ pub fn write_message(frames: &[Vec<u8>], out: &mut Vec<u8>) -> Result<(), WireFa
     Ok(())
 }
 
-// Appends the frames, or some octets of them.
+/// Appends the frames, or some octets of them.
 fn append_frames(frames: &[Vec<u8>], out: &mut Vec<u8>) -> Result<(), AllocError>
     ensures ok { OnOk result (out.new.items ≡ out.old.items ++ text (bodies frames.now)) }
     ensures kept { take (vec_len out.old) out.new.items ≡ out.old.items }
@@ -35,7 +37,7 @@ fn append_frames(frames: &[Vec<u8>], out: &mut Vec<u8>) -> Result<(), AllocError
     Ok(())
 }
 
-// Appends a frame, or some octets of it.
+/// Appends a frame, or some octets of it.
 fn append_frame(more: bool, body: &[u8], out: &mut Vec<u8>) -> Result<(), AllocError>
     ensures ok { OnOk result (out.new.items ≡ out.old.items ++ frame_octets more false (shortest body.now)) }
     ensures kept { take (vec_len out.old) out.new.items ≡ out.old.items }

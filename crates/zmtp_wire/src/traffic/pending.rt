@@ -1,3 +1,5 @@
+//! What has come of traffic that isn't whole, and the steps by which it grows.
+
 ghost use Rattle.std.specs.Prelude.{◌≡◌, ◌+◌, ◌-◌, ◌<◌, ◌≤◌, ◌^◌, ◌∷◌, ◌++◌, ℕ, List, length, take, drop, IfOk, IfErr};
 ghost use Rattle.std.specs.Prelude.{IfSome, OnOk, true, [], Ok};
 ghost use Rattle.zmtp_wire.specs.Frame.{flags_octet, front_octets, size_bound, size_octets, bodies_of};
@@ -17,7 +19,7 @@ use std::mem;
 
 /// How far a frame has come.
 #[derive(Debug, Drop)]
-pub enum Stage {
+pub(crate) enum Stage {
     /// Its flags are next.
     Flags,
     /// Its size is next, of which these octets have come.
@@ -28,29 +30,29 @@ pub enum Stage {
 
 /// What has come of a message, or of a command, that isn't whole.
 #[derive(Debug, Drop)]
-pub struct Pending {
+pub(crate) struct Pending {
     /// How much a peer may send.
-    pub limits: Limits,
+    pub(crate) limits: Limits,
     /// The message's frames that are whole.
-    pub frames: Vec<Frame>,
+    pub(crate) frames: Vec<Frame>,
     /// How many octets the bodies of the message's other frames may have together.
-    pub left: usize,
+    pub(crate) left: usize,
     /// How far the next frame has come.
-    pub stage: Stage,
+    pub(crate) stage: Stage,
 }
 
 /// What one step of reading did.
 #[derive(Debug, Drop)]
-pub struct Step {
+pub(crate) struct Step {
     /// How many octets it took.
-    pub taken: usize,
+    pub(crate) taken: usize,
     /// What became whole with them.
-    pub traffic: Option<Traffic>,
+    pub(crate) traffic: Option<Traffic>,
 }
 
 impl Pending {
     /// Nothing has come yet.
-    pub fn new(alloc: Global, limits: Limits) -> Pending
+    pub(crate) fn new(alloc: Global, limits: Limits) -> Pending
         ensures { result.limits ≡ limits × (pending_octets result ≡ []) × IsPending result }
     {
         Pending {
@@ -63,7 +65,7 @@ impl Pending {
 
     /// Takes the next octets, as far as they belong to one frame.
     #[inline(always)]
-    pub fn step(&mut self, alloc: Global, octets: &[u8]) -> Result<Step, WireFault>
+    pub(crate) fn step(&mut self, alloc: Global, octets: &[u8]) -> Result<Step, WireFault>
         requires pending { IsPending self.old }
         requires some { 0 < length octets.now }
         ensures within { IfOk result (λ step. (0 < step.taken) × (step.taken ≤ length octets.now)) }
@@ -90,7 +92,7 @@ impl Pending {
         }
     }
 
-    // Takes the flags octet of the next frame, and what follows it where the size is whole.
+    /// Takes the flags octet of the next frame, and what follows it where the size is whole.
     #[inline(always)]
     fn begin(&mut self, alloc: Global, octets: &[u8]) -> Result<Step, WireFault>
         requires front { IsFront self.old }
@@ -112,7 +114,7 @@ impl Pending {
         self.open(alloc, flags, size, at, octets)
     }
 
-    // Judges the flags octet of the next frame.
+    /// Judges the flags octet of the next frame.
     fn judge_flags(&self, octet: u8) -> Result<Flags, WireFault>
         ensures ok { IfOk result (λ flags. (octet ≡ flags_octet flags.more flags.long flags.command)
             × AcceptsFlags self.now.limits (bodies_before self.now) flags.more flags.command) }
@@ -131,7 +133,7 @@ impl Pending {
         Ok(flags)
     }
 
-    // Takes octets of the size, and of the body behind it.
+    /// Takes octets of the size, and of the body behind it.
     #[inline(never)]
     fn measure(
         &mut self,
@@ -168,7 +170,7 @@ impl Pending {
         self.open(alloc, flags, long_size(&size), taken, octets)
     }
 
-    // Judges the size, which ends before the octet at `at`, and takes octets of the body.
+    /// Judges the size, which ends before the octet at `at`, and takes octets of the body.
     #[inline(always)]
     fn open(
         &mut self,
@@ -206,7 +208,7 @@ impl Pending {
         })
     }
 
-    // Judges the size of the next frame.
+    /// Judges the size of the next frame.
     fn judge_size(&self, flags: Flags, size: usize) -> Result<(), WireFault>
         requires front { IsFront self.now }
         requires flags { AcceptsFlags self.now.limits (bodies_before self.now) flags.more flags.command }
@@ -224,7 +226,7 @@ impl Pending {
         Ok(())
     }
 
-    // Takes octets of the body.
+    /// Takes octets of the body.
     #[inline(never)]
     fn gather(
         &mut self,
@@ -258,7 +260,7 @@ impl Pending {
         Ok(Step { taken, traffic })
     }
 
-    // Takes a whole frame.
+    /// Takes a whole frame.
     #[inline(always)]
     fn finish(
         &mut self,
@@ -284,7 +286,7 @@ impl Pending {
         Ok(Some(self.end_with(alloc, body)?))
     }
 
-    // Takes a whole frame with MORE.
+    /// Takes a whole frame with MORE.
     fn continue_with(&mut self, long: bool, body: Vec<u8>) -> Result<(), AllocError>
         requires front { IsFront self.old }
         requires said { length body.items < size_bound long }
@@ -306,7 +308,7 @@ impl Pending {
         Ok(())
     }
 
-    // Takes a message's last frame.
+    /// Takes a message's last frame.
     fn end_with(&mut self, alloc: Global, body: Vec<u8>) -> Result<Traffic, AllocError>
         ensures message { IfOk result (λ traffic. traffic ≡ Traffic.Message (bodies_before self.old ++ body.items ∷ [])) }
         ensures empty { OnOk result (self.new.frames.items ≡ []) }
@@ -320,7 +322,7 @@ impl Pending {
     }
 }
 
-// Takes out the bodies of these frames, and puts the last one behind them, none of them copied.
+/// Takes out the bodies of these frames, and puts the last one behind them, none of them copied.
 fn message(alloc: Global, frames: &mut Vec<Frame>, last: Vec<u8>) -> Result<Frames, AllocError>
     ensures message { IfOk result (λ message. message ≡ bodies_of frames.old.items ++ last.items ∷ []) }
     ensures empty { OnOk result (frames.new.items ≡ []) }
@@ -333,7 +335,7 @@ fn message(alloc: Global, frames: &mut Vec<Frame>, last: Vec<u8>) -> Result<Fram
     Ok(Frames::new(bodies))
 }
 
-// The size that these octets begin with, where all of it has come.
+/// The size that these octets begin with, where all of it has come.
 fn size_behind(long: bool, octets: &[u8]) -> Option<usize>
     ensures said { IfSome result (λ size. size < size_bound long) }
     ensures come { IfSome result (λ _. size_len long ≤ length octets.now) }
@@ -348,7 +350,7 @@ fn size_behind(long: bool, octets: &[u8]) -> Option<usize>
     Some(long_size(&octets[..8]))
 }
 
-// The number that eight octets say in network order.
+/// The number that eight octets say in network order.
 fn long_size(octets: &[u8]) -> usize
     requires { length octets.now ≡ 8 }
     ensures said { result < 2 ^ 64 }

@@ -1,4 +1,6 @@
-use super::*;
+//! Messages and commands, read and written.
+
+use crate::{Decoder, Fed, Limits, Traffic, write_message};
 use std::alloc::Global;
 use std::test::Fail;
 
@@ -31,6 +33,7 @@ fn said(alloc: Global, fed: &Fed) -> Result<String, Fail> {
     Ok(text)
 }
 
+/// Octets in hexadecimal digits.
 fn hex_of(alloc: Global, octets: &[u8]) -> Result<String, Fail> {
     let mut text = String::new(alloc);
     for octet in octets {

@@ -1,8 +1,14 @@
-use super::*;
+//! The greeting, READY and socket types.
+
+use crate::{
+    Decoder, Limits, Peer, Ready, SocketType, Traffic, WireFault, greeting, read_greeting,
+    read_ready, ready_text,
+};
 use listed::{Frames, Octets};
 use std::alloc::{AllocError, Global};
 use std::test::Fail;
 
+/// Our greeting: signature, version 3.0, `NULL`, not as server, filler.
 const GREETING: [u8; 64] = [
     0xFF, 0, 0, 0, 0, 0, 0, 0, 0, 0x7F, 3, 0, 0x4E, 0x55, 0x4C, 0x4C, 0, 0, 0, 0, 0, 0, 0, 0, 0, 0,
     0, 0, 0, 0, 0, 0, 0, 0, 0, 0, 0, 0, 0, 0, 0, 0, 0, 0, 0, 0, 0, 0, 0, 0, 0, 0, 0, 0, 0, 0, 0, 0,
@@ -37,49 +43,6 @@ fn greetings_of_peers(rt: HostRuntime) {
 }
 
 #[test]
-fn faults_have_numbers_and_words(rt: HostRuntime) -> Result<(), Fail> {
-    let cases = [
-        (
-            WireFault::Signature,
-            1,
-            "the greeting has no ZMTP signature",
-        ),
-        (
-            WireFault::Version,
-            2,
-            "the peer speaks a version of ZMTP before 3.0",
-        ),
-        (
-            WireFault::Mechanism,
-            3,
-            "the peer's security mechanism is not NULL",
-        ),
-        (WireFault::Flags, 4, "a frame's flags are refused"),
-        (WireFault::FrameTooLong, 5, "a frame is too long"),
-        (WireFault::TooManyFrames, 6, "a message has too many frames"),
-        (WireFault::MessageTooLong, 7, "a message is too long"),
-        (
-            WireFault::Command,
-            8,
-            "a command is malformed or out of place",
-        ),
-        (
-            WireFault::Pairing,
-            9,
-            "the peer's socket type does not pair",
-        ),
-        (WireFault::PeerError, 10, "the peer reported an error"),
-        (WireFault::Spent, 11, "the connection was refused before"),
-        (WireFault::OutOfMemory, 12, "out of memory"),
-    ];
-    for (fault, number, words) in cases {
-        assert_eq!(rt; fault.number(), number);
-        assert_eq!(rt; fault.to_string(rt.alloc())?.as_str(), words);
-    }
-    Ok(())
-}
-
-#[test]
 fn socket_types_have_names_and_partners(rt: HostRuntime) {
     assert_eq!(rt; SocketType::Dealer.name(), b"DEALER".as_slice());
     assert_eq!(rt; SocketType::from_name(b"xSub"), Some(SocketType::Xsub));
@@ -98,6 +61,7 @@ fn ready_of_a_router(rt: HostRuntime) -> Result<(), Fail> {
     Ok(())
 }
 
+/// The command of this name, and the rest of its body.
 fn command(alloc: Global, name: &[u8], rest: &[u8]) -> Result<Traffic, AllocError> {
     let name = Octets::new(name.to_vec(alloc)?);
     let rest = Octets::new(rest.to_vec(alloc)?);

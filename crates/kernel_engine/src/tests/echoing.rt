@@ -1,8 +1,10 @@
-use super::*;
-use crate::tests::{
+//! The heartbeat.
+
+use super::{
     ERROR, GREETING, HELLO, PEER_GREETING, PING, Peer, READY_REP, READY_REQ, READY_ROUTER, Sink,
     join,
 };
+use crate::{EngineFault, SessionEnd, echo};
 use std::alloc::Global;
 use std::io::ErrorKind;
 use std::test::Fail;

@@ -1,12 +1,14 @@
-use super::*;
-use crate::tests::{
+//! Shaking hands.
+
+use super::{
     ERROR, GREETING, HELLO, PEER_GREETING, PING, Peer, READY_DEALER, READY_REP, READY_REQ,
     READY_ROUTER, Sink, join,
 };
+use crate::{EngineFault, SessionEnd, shake};
 use std::alloc::Global;
 use std::io::ErrorKind;
 use std::test::Fail;
-use zmtp_wire::{Counted, Inlet, ReadFailed, SocketType, Traffic, WireFault};
+use zmtp_wire::{Counted, SocketType, Traffic, WireFault};
 
 /// How shaking hands as a REP socket ended, what was written, and how often was read.
 fn shaken(
@@ -23,37 +25,6 @@ fn shaken(
         Err(end) => Err(end),
     };
     (end, writer.into_inner().octets, reader.into_inner().reads)
-}
-
-/// A device of its own that gives an octet a read.
-#[derive(Drop)]
-struct Drip<'a> {
-    rest: &'a [u8],
-    reads: u64,
-    failures: u64,
-}
-
-impl<'a> Inlet for Drip<'a> {
-    ghost use Rattle.std.specs.Prelude.{Some};
-
-    ghost inflow = { λ device. record {
-      left = Some device.rest.now;
-      reads = device.reads;
-      failures = device.failures;
-    } };
-
-    fn read(&mut self, into: &mut [u8]) -> Result<usize, ReadFailed> {
-        self.reads = self.reads.saturating_add(1);
-        let Some(place) = into.first_mut() else {
-            return Ok(0);
-        };
-        let Some((first, rest)) = self.rest.split_first() else {
-            return Ok(0);
-        };
-        *place = *first;
-        self.rest = rest;
-        Ok(1)
-    }
 }
 
 #[test]
@@ -76,11 +47,9 @@ fn hands_are_shaken_octet_by_octet(rt: HostRuntime) -> Result<(), Fail> {
         ),
     ] {
         let octets = join(alloc, &[PEER_GREETING, theirs, PING])?;
-        let mut reader = Drip {
-            rest: &octets,
-            reads: 0,
-            failures: 0,
-        };
+        let mut sender = Peer::of(&octets, b"");
+        sender.width = 1;
+        let mut reader = Counted::new(sender);
         let mut writer = Counted::new(Vec::new(alloc));
         let met = shake(alloc, &mut reader, &mut writer, ours, 1000)
             .ok()
@@ -88,7 +57,7 @@ fn hands_are_shaken_octet_by_octet(rt: HostRuntime) -> Result<(), Fail> {
         assert_eq!(rt; met.peer, peer);
         assert!(rt; met.fed.traffic.is_empty());
         assert_eq!(rt; met.fed.fault, None);
-        assert_eq!(rt; reader.rest, PING);
+        assert_eq!(rt; reader.into_inner().front, PING);
         let written = join(alloc, &[GREETING, ready])?;
         assert_eq!(rt; writer.into_inner().as_slice(), written.as_slice());
     }
@@ -343,13 +312,10 @@ fn a_publisher_meets_a_subscriber(rt: HostRuntime) -> Result<(), Fail> {
     let octets = join(alloc, &[PEER_GREETING, ready_sub, subscription])?;
     let mut reader = Counted::new(octets.as_slice());
     let mut writer = Counted::new(Vec::new(alloc));
-    match shake(alloc, &mut reader, &mut writer, SocketType::Pub, 10) {
-        Ok(shaken) => {
-            assert_eq!(rt; shaken.peer, SocketType::Sub);
-            assert_eq!(rt; shaken.fed.traffic.len(), 1);
-        }
-        Err(_) => assert!(rt; false),
-    }
+    let met = shake(alloc, &mut reader, &mut writer, SocketType::Pub, 10);
+    let met = met.ok().ok_or("met")?;
+    assert_eq!(rt; met.peer, SocketType::Sub);
+    assert_eq!(rt; met.fed.traffic.len(), 1);
     let ready_pub = b"\x04\x19\x05READY\x0BSocket-Type\0\0\0\x03PUB".as_slice();
     let both = join(alloc, &[GREETING, ready_pub])?;
     assert_eq!(rt; writer.into_inner().as_slice(), both.as_slice());

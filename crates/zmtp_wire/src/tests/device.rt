@@ -1,12 +1,17 @@
-use super::*;
+//! Devices of the standard library, and one of its own.
+
+use crate::{Counted, Inlet, Outlet, ReadFailed, WriteFailed, write_all};
 use std::io::{self, ErrorKind, Read, Write};
 use std::test::Fail;
 
 /// Refuses a number of calls with one kind of error, and then gives its octets, two at a time.
 #[derive(Drop)]
 struct Unready<'a> {
+    /// How many calls are still refused.
     refusals: u32,
+    /// The kind of error with which they are.
     kind: ErrorKind,
+    /// The octets to be given.
     rest: &'a [u8],
 }
 
@@ -27,9 +32,13 @@ impl<'a> Read for Unready<'a> {
 /// Takes so many octets a write, and after so many writes answers each with an error or, where there is none, with 0.
 #[derive(Drop)]
 struct Narrow {
+    /// What was taken.
     octets: Vec<u8>,
+    /// How many octets a write takes.
     width: usize,
+    /// How many writes are still taken.
     writes: u32,
+    /// The error of each write then.
     last: Option<ErrorKind>,
 }
 
@@ -55,7 +64,9 @@ impl Write for Narrow {
 /// Refuses a number of writes with `Interrupted`, and then takes all.
 #[derive(Drop)]
 struct Interrupted {
+    /// How many writes are still refused.
     refusals: u32,
+    /// What was taken.
     octets: Vec<u8>,
 }
 
@@ -77,9 +88,13 @@ impl Write for Interrupted {
 /// An inlet and an outlet by itself: it takes one octet a write, and gives one octet a read.
 #[derive(Drop)]
 struct OneByOne<'a> {
+    /// The octets to be given.
     rest: &'a [u8],
+    /// The octets that were taken.
     taken: Vec<u8>,
+    /// How often it was read.
     reads: u64,
+    /// How many reads or writes failed.
     failures: u64,
 }
 
