@@ -330,8 +330,8 @@ piece_ends IsWorn answers old now new decoder decoder' octets written piece more
       more = whole.written;
       puts = whole.puts;
       is = tt;
-      outcome = fault_ends IsWorn answers old now new decoder decoder' octets written piece more fault found before after
-          heard feeds is whole;
+      outcome = fault_ends IsWorn answers old now new decoder decoder' octets written piece more fault found before
+          after heard feeds is whole;
     }
 piece_ends IsWorn answers old now new decoder decoder' octets written piece more fault before after (Failed Memory)
     heard feeds (state, some) = record {
@@ -341,8 +341,8 @@ piece_ends IsWorn answers old now new decoder decoder' octets written piece more
       outcome = (
         state,
         subst (λ w. IsCut (IsAnswered answers old) (octets ++ piece) (written ++ w) state) (append-nil some.written)
-            (some_cut answers old now state decoder decoder' octets written piece more fault before after [] 0 heard feeds
-            some),
+            (some_cut answers old now state decoder decoder' octets written piece more fault before after [] 0 heard
+                feeds some),
       );
     }
 piece_ends IsWorn answers old now new decoder decoder' octets written piece more fault before after (Failed Worn) heard
@@ -354,8 +354,8 @@ piece_ends IsWorn answers old now new decoder decoder' octets written piece more
         state,
         worn,
         subst (λ w. IsCut (IsAnswered answers old) (octets ++ piece) (written ++ w) state) (append-nil some.written)
-            (some_cut answers old now state decoder decoder' octets written piece more fault before after [] 0 heard feeds
-            some),
+            (some_cut answers old now state decoder decoder' octets written piece more fault before after [] 0 heard
+                feeds some),
       );
     }
 piece_ends IsWorn answers old now new decoder decoder' octets written piece more fault before after (Failed Write) heard
@@ -365,9 +365,10 @@ piece_ends IsWorn answers old now new decoder decoder' octets written piece more
       is = tt;
       outcome = (
         lost,
-        subst (λ w. IsCut (IsAnswered answers old) (octets ++ piece) w new) (sym (append_assoc written some.written lost))
-            (some_cut answers old now new decoder decoder' octets written piece more fault before after lost 1 heard feeds
-            some),
+        subst (λ w. IsCut (IsAnswered answers old) (octets ++ piece) w new)
+            (sym (append_assoc written some.written lost))
+            (some_cut answers old now new decoder decoder' octets written piece more fault before after lost 1 heard
+                feeds some),
       );
     }
 

@@ -2,7 +2,8 @@
 use Rattle.std.specs.Prelude.{◌≡◌, ℕ, List, [], ◌∷◌, codes, Contains}
 use Rattle.std.specs.Str.{str_to_ascii_lowercase}
 use Rattle.zmtp_wire.specs.declared.handshake.socket_type.SocketType.{SocketType}
-use Rattle.zmtp_wire.specs.declared.handshake.socket_type.SocketType.TheVariants.{Req, Rep, Dealer, Router, Pub, Sub, Xsub}
+use Rattle.zmtp_wire.specs.declared.handshake.socket_type.SocketType.TheVariants.{Req, Rep, Dealer, Router, Pub, Sub}
+use Rattle.zmtp_wire.specs.declared.handshake.socket_type.SocketType.TheVariants.{Xsub}
 
 -- the name of a type, as it is sent
 abbrev pub type_name : SocketType → List ℕ

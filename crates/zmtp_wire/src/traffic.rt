@@ -7,6 +7,7 @@ pub(crate) mod frame;
 pub(crate) mod limits;
 pub(crate) mod message;
 mod pending;
+mod size;
 
 use listed::{Frames, Octets};
 

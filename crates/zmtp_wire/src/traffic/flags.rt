@@ -23,19 +23,22 @@ const LONG: u8 = 2;
 /// The frame is a command.
 const COMMAND: u8 = 4;
 
+/// No frame has one of these.
+const RESERVED: u8 = !(MORE | LONG | COMMAND);
+
 impl Flags {
     /// What the octet says, or nothing where a reserved bit is set.
     pub(crate) fn read(octet: u8) -> Option<Flags>
         ensures known { IfSome result (λ flags. octet ≡ flags_octet flags.more flags.long flags.command) }
         ensures reserved { IfNone result (8 ≤ octet) }
     {
-        if octet > MORE + LONG + COMMAND {
+        if octet & RESERVED != 0 {
             return None;
         }
         Some(Flags {
-            more: octet % 2 == 1,
-            long: octet / 2 % 2 == 1,
-            command: octet / 4 == 1,
+            more: octet & MORE != 0,
+            long: octet & LONG != 0,
+            command: octet & COMMAND != 0,
         })
     }
 
@@ -44,7 +47,7 @@ impl Flags {
         ensures { result ≡ flags_octet self.more self.long self.command }
     {
         (if self.more { MORE } else { 0 })
-            + (if self.long { LONG } else { 0 })
-            + (if self.command { COMMAND } else { 0 })
+            | (if self.long { LONG } else { 0 })
+            | (if self.command { COMMAND } else { 0 })
     }
 }

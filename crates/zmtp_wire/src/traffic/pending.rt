@@ -13,6 +13,7 @@ use crate::traffic::command::command_of;
 use crate::traffic::flags::Flags;
 use crate::traffic::frame::Frame;
 use crate::traffic::limits::Limits;
+use crate::traffic::size::{SizeOctets, size_behind};
 use listed::{Frames, Octets};
 use std::alloc::{AllocError, Global};
 use std::mem;
@@ -23,7 +24,7 @@ pub(crate) enum Stage {
     /// Its flags are next.
     Flags,
     /// Its size is next, of which these octets have come.
-    Size(Flags, Vec<u8>),
+    Size(Flags, SizeOctets),
     /// Its body is next, of this size, of which these octets have come.
     Body(Flags, usize, Vec<u8>),
 }
@@ -104,7 +105,7 @@ impl Pending {
     {
         let flags = self.judge_flags(octets[0])?;
         let Some(size) = size_behind(flags.long, &octets[1..]) else {
-            self.stage = Stage::Size(flags, Vec::new(alloc));
+            self.stage = Stage::Size(flags, SizeOctets::new());
             return Ok(Step {
                 taken: 1,
                 traffic: None,
@@ -139,35 +140,33 @@ impl Pending {
         &mut self,
         alloc: Global,
         flags: Flags,
-        size: Vec<u8>,
+        size: SizeOctets,
         octets: &[u8],
     ) -> Result<Step, WireFault>
         requires front { IsFront self.old }
         requires flags { AcceptsFlags self.old.limits (bodies_before self.old) flags.more flags.command }
-        requires cut { length size.items < size_len flags.long }
+        requires cut { length size < size_len flags.long }
         requires some { 0 < length octets.now }
         ensures within { IfOk result (λ step. (0 < step.taken) × (step.taken ≤ length octets.now)) }
         ensures ok { IfOk result (λ step. Keeps self.old.limits (front_octets self.old.frames.items
-            ++ (flags_octet flags.more flags.long flags.command ∷ size.items) ++ take step.taken octets.now) self.new
+            ++ (flags_octet flags.more flags.long flags.command ∷ size) ++ take step.taken octets.now) self.new
             step.traffic) }
         ensures err { IfErr result (Refuses self.old.limits (front_octets self.old.frames.items
-            ++ (flags_octet flags.more flags.long flags.command ∷ size.items) ++ octets.now)) }
+            ++ (flags_octet flags.more flags.long flags.command ∷ size) ++ octets.now)) }
     {
         if !flags.long {
             return self.open(alloc, flags, usize::from(octets[0]), 1, octets);
         }
         let mut size = size;
-        let needed = 8 - size.len();
-        let taken = needed.min(octets.len());
-        size.extend_from_slice(&octets[..taken])?;
-        if taken < needed {
+        let taken = size.extend(octets);
+        let Some(number) = size.number() else {
             self.stage = Stage::Size(flags, size);
             return Ok(Step {
                 taken,
                 traffic: None,
             });
-        }
-        self.open(alloc, flags, long_size(&size), taken, octets)
+        };
+        self.open(alloc, flags, number, taken, octets)
     }
 
     /// Judges the size, which ends before the octet at `at`, and takes octets of the body.
@@ -333,31 +332,4 @@ fn message(alloc: Global, frames: &mut Vec<Frame>, last: Vec<u8>) -> Result<Fram
     }
     bodies.push(last)?;
     Ok(Frames::new(bodies))
-}
-
-/// The size that these octets begin with, where all of it has come.
-fn size_behind(long: bool, octets: &[u8]) -> Option<usize>
-    ensures said { IfSome result (λ size. size < size_bound long) }
-    ensures come { IfSome result (λ _. size_len long ≤ length octets.now) }
-    ensures value { IfSome result (λ size. size_octets long size ≡ take (size_len long) octets.now) }
-{
-    if !long {
-        return octets.first().map(|size| usize::from(*size));
-    }
-    if octets.len() < 8 {
-        return None;
-    }
-    Some(long_size(&octets[..8]))
-}
-
-/// The number that eight octets say in network order.
-fn long_size(octets: &[u8]) -> usize
-    requires { length octets.now ≡ 8 }
-    ensures said { result < 2 ^ 64 }
-    ensures value { size_octets true result ≡ octets.now }
-{
-    let number = u64::from_be_bytes([
-        octets[0], octets[1], octets[2], octets[3], octets[4], octets[5], octets[6], octets[7],
-    ]);
-    number as usize
 }

@@ -1,7 +1,7 @@
-use Rattle.std.proofs.Common.{◌++◌, ◌∷◌, [], drop, rules, sym, ap, subst}
+use Rattle.std.proofs.Common.{◌++◌}
 use Rattle.std.proofs.lemmas.Result.{err_from_is_err_and}
 use Rattle.zmtp_wire.specs.Pending.{pending_octets}
-use Rattle.zmtp_wire.proofs.FeedLemmas.{Fed, fed_whole, fed_fault}
+use Rattle.zmtp_wire.proofs.FeedLemmas.{fed_whole, fed_fault}
 use Rattle.zmtp_wire.proofs.traffic.decoder.read_piece.Goals as goal
 
 pub returns-in_err-step-clause-err : goal.returns-in_err-step-clause-err

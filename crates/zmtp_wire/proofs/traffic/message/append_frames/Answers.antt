@@ -1,6 +1,6 @@
 use Rattle.std.proofs.Common.{◌+◌, length, nat_lt, vec_len, refl, rules, arith}
 use Rattle.std.proofs.lemmas.Grind.{common_steps}
-use Rattle.zmtp_wire.proofs.MessageLemmas.{appended_more, kept_through}
+use Rattle.zmtp_wire.proofs.MessageLemmas.{appended_more}
 use Rattle.zmtp_wire.proofs.traffic.message.append_frames.Goals as goal
 
 pub loop-i-preserved : goal.loop-i-preserved

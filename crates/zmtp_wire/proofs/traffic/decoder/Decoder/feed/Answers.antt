@@ -1,4 +1,4 @@
-use Rattle.std.proofs.Common.{◌≡◌, ◌++◌, false, rules, subst, sym, ap}
+use Rattle.std.proofs.Common.{◌≡◌, ◌++◌, false, subst}
 use Rattle.zmtp_wire.specs.declared.traffic.limits.Limits.{Limits}
 use Rattle.zmtp_wire.specs.Decoding.{Decoding}
 use Rattle.zmtp_wire.specs.Grammar.{ReadsUpTo, IsUnfinished}

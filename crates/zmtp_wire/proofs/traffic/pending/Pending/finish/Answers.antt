@@ -1,4 +1,3 @@
-use Rattle.std.proofs.Common.{refl, rules}
 use Rattle.std.proofs.lemmas.Result.{err_from_is_err_and}
 use Rattle.zmtp_wire.proofs.PendingLemmas.{command_refused, message_kept}
 use Rattle.zmtp_wire.proofs.traffic.pending.Pending.finish.Goals as goal

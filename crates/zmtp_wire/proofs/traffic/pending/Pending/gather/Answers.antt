@@ -1,4 +1,4 @@
-use Rattle.std.proofs.Common.{refl, rules, arith, subst, sym, ◌≡◌, ◌++◌, List, ℕ, drop, take, length}
+use Rattle.std.proofs.Common.{rules, arith, subst, List, ℕ, drop}
 use Rattle.std.proofs.lemmas.Result.{err_from_is_err_and}
 use Rattle.std.proofs.lemmas.Grind.{common_steps}
 use Rattle.zmtp_wire.specs.Frame.{front_octets}

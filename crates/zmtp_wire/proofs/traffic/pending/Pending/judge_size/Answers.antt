@@ -1,4 +1,4 @@
-use Rattle.std.proofs.Common.{arith, rules, false, not, ◌≡◌}
+use Rattle.std.proofs.Common.{arith, rules}
 use Rattle.zmtp_wire.proofs.PendingLemmas.{too_long}
 use Rattle.zmtp_wire.proofs.traffic.pending.Pending.judge_size.Goals as goal
 
