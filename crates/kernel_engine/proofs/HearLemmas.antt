@@ -16,7 +16,7 @@ use Rattle.kernel_engine.specs.declared.end.SessionEnd.TheVariants.{Eof, Shutdow
 use Rattle.kernel_engine.specs.declared.fault.EngineFault.TheVariants.{Memory, Read, Write, Turns, Worn}
 use Rattle.kernel_engine.specs.Peer.{messages_in, has_error, EndsAs, EndsBehind}
 use Rattle.kernel_engine.specs.Server.{Answering, AnswersAll, IsAnswered}
-use Rattle.kernel_engine.specs.Exchange.{Reading, Exchange, Outcome, IsCut, failed_writes}
+use Rattle.kernel_engine.specs.Exchange.{Reading, Exchange, ComesToByEnd, IsCut, failed_writes}
 use Rattle.kernel_engine.specs.Steps.{Leg, IsFed, HearsOn, HearsPiece, HearsNone, AnswersWhole, AnswersSome}
 use Rattle.kernel_engine.specs.Steps.{AnswersFed, fresh}
 use Rattle.kernel_engine.proofs.Legs.{leg_none, leg_on, stop_on, puts_on}
@@ -208,7 +208,7 @@ record PieceEnds {Server : Type 0} (IsWorn : Server → Type 0) (answers : Answe
   more : List ℕ
   puts : Puts before after more (failed_writes end)
   is : IsDecided end
-  outcome : Outcome IsWorn (IsAnswered answers old) octets (written ++ more) new end
+  outcome : ComesToByEnd IsWorn (IsAnswered answers old) octets (written ++ more) new end
 
 -- all that was fed is read up to some rest
 fed_read : (decoder decoder' : Decoding) (piece : List ℕ) (more : List Traffic) (fault : Option WireFault)
@@ -241,7 +241,7 @@ refused_ends : {Server : Type 0} (IsWorn : Server → Type 0) (answers : Answeri
     (before after : Outflow)
     → HeardSoFar answers old now decoder octets written → Feeds decoder piece more (Some found) decoder'
     → (whole : AnswersWhole answers now more new before after false)
-    → Outcome IsWorn (IsAnswered answers old) (octets ++ piece) (written ++ whole.written) new (Wire found)
+    → ComesToByEnd IsWorn (IsAnswered answers old) (octets ++ piece) (written ++ whole.written) new (Wire found)
 refused_ends IsWorn answers old now new decoder decoder' octets written piece more found before after heard
     ((rest, read, inl memory), spent) whole =
     let all = read_more answers old now decoder octets written piece more rest heard read in
@@ -274,7 +274,7 @@ fault_ends : {Server : Type 0} (IsWorn : Server → Type 0) (answers : Answering
     (found : WireFault) (before after : Outflow)
     → HeardSoFar answers old now decoder octets written → Feeds decoder piece more fault decoder' → fault ≡ Some found
     → (whole : AnswersWhole answers now more new before after false)
-    → Outcome IsWorn (IsAnswered answers old) (octets ++ piece) (written ++ whole.written) new (Wire found)
+    → ComesToByEnd IsWorn (IsAnswered answers old) (octets ++ piece) (written ++ whole.written) new (Wire found)
 fault_ends IsWorn answers old now new decoder decoder' octets written piece more fault found before after heard feeds is
     whole =
     refused_ends IsWorn answers old now new decoder decoder' octets written piece more found before after heard
@@ -286,7 +286,7 @@ peer_ends : {Server : Type 0} (IsWorn : Server → Type 0) (answers : Answering 
     (found : WireFault) (before after : Outflow)
     → HeardSoFar answers old now decoder octets written → Feeds decoder piece more fault decoder' → found ≡ PeerError
     → (whole : AnswersWhole answers now more new before after true)
-    → Outcome IsWorn (IsAnswered answers old) (octets ++ piece) (written ++ whole.written) new (Wire found)
+    → ComesToByEnd IsWorn (IsAnswered answers old) (octets ++ piece) (written ++ whole.written) new (Wire found)
 peer_ends IsWorn answers old now new decoder decoder' octets written piece more fault found before after heard feeds is
     whole =
     let (rest, read) = fed_read decoder decoder' piece more fault feeds in
@@ -412,7 +412,7 @@ hearing_ends_first IsWorn answers old new fed decoder inflow outflow outflow' tu
       written = ends.more;
       reading = decided inflow inflow turns turns [] end ends.is (leg_none inflow turns);
       puts = ends.puts;
-      outcome = subst (λ o. Outcome IsWorn (IsAnswered answers old) o ends.more new end) (sym (append-nil before))
+      outcome = subst (λ o. ComesToByEnd IsWorn (IsAnswered answers old) o ends.more new end) (sym (append-nil before))
           ends.outcome;
     }
 
@@ -480,7 +480,7 @@ hearing_ends IsWorn answers old now new decoder decoder' one two three out middl
       reading = decided one three turns left (so_far.read ++ piece.octets) end ends.is
           (leg_on one two three turns between left so_far.read piece.octets so_far.leg piece.leg);
       puts = puts_on out middle last so_far.written ends.more (failed_writes end) so_far.puts ends.puts;
-      outcome = subst (λ o. Outcome IsWorn (IsAnswered answers old) o (so_far.written ++ ends.more) new end)
+      outcome = subst (λ o. ComesToByEnd IsWorn (IsAnswered answers old) o (so_far.written ++ ends.more) new end)
           (append_assoc before so_far.read piece.octets) ends.outcome;
     }
 

@@ -18,7 +18,7 @@ use Rattle.kernel_engine.specs.declared.end.SessionEnd.{SessionEnd}
 use Rattle.kernel_engine.specs.declared.end.SessionEnd.TheVariants.{Eof, Shutdown, Wire, Failed}
 use Rattle.kernel_engine.specs.declared.fault.EngineFault.TheVariants.{Memory, Read, Write, Turns, Worn}
 use Rattle.kernel_engine.specs.Peer.{IsGreeted, IsTurnedAway}
-use Rattle.kernel_engine.specs.Exchange.{Reading, Exchange, Outcome, failed_writes}
+use Rattle.kernel_engine.specs.Exchange.{Reading, Exchange, ComesToByEnd, failed_writes}
 use Rattle.kernel_engine.specs.Steps.{Leg, IsStop, IsFed, Meets, TurnsAway, BringsNothing, PutsAll, fresh}
 use Rattle.kernel_engine.proofs.Legs.{leg_none, leg_on, reading_on, puts_on}
 use Rattle.kernel_engine.proofs.Unfinished.{nothing_unfinished}
@@ -26,7 +26,7 @@ use Rattle.kernel_engine.proofs.Unfinished.{nothing_unfinished}
 -- reading that stopped leaves what was due
 pub stop_outcome : {State : Type 0} (IsWorn : State → Type 0) (Comes : List ℕ → List ℕ → State → SessionEnd → Type 0)
     (octets written : List ℕ) (new : State) (end : SessionEnd) → IsStop end
-    → Comes octets written new Eof → Outcome IsWorn Comes octets written new end
+    → Comes octets written new Eof → ComesToByEnd IsWorn Comes octets written new end
 stop_outcome IsWorn Comes octets written new Eof stop comes = comes
 stop_outcome IsWorn Comes octets written new (Shutdown restart) stop comes = absurd stop
 stop_outcome IsWorn Comes octets written new (Wire fault) stop comes = absurd stop

@@ -81,17 +81,18 @@ pub record IsCut {State : Type 0} (Comes : List ℕ → List ℕ → State → S
 -- what all of them come to. A read that failed and a want of turns leave it as it was so far. Where memory was
 -- refused, or the state is worn, all was written of what a beginning of the octets comes
 -- to; where a write failed, a beginning of that.
-abbrev pub Outcome : {State : Type 0} → (State → Type 0) → (List ℕ → List ℕ → State → SessionEnd → Type 0) → List ℕ
-    → List ℕ → State → SessionEnd → Type 0
-Outcome IsWorn Comes octets written new Eof = Comes octets written new Eof
-Outcome IsWorn Comes octets written new (Shutdown restart) = ⊥
-Outcome IsWorn Comes octets written new (Wire fault) =
+abbrev pub ComesToByEnd : {State : Type 0} → (State → Type 0) → (List ℕ → List ℕ → State → SessionEnd → Type 0)
+    → List ℕ → List ℕ → State → SessionEnd → Type 0
+ComesToByEnd IsWorn Comes octets written new Eof = Comes octets written new Eof
+ComesToByEnd IsWorn Comes octets written new (Shutdown restart) = ⊥
+ComesToByEnd IsWorn Comes octets written new (Wire fault) =
     ((fault ≡ OutOfMemory) × IsCut Comes octets written new) ⊎ Comes octets written new (Wire fault)
-Outcome IsWorn Comes octets written new (Failed Read) = Comes octets written new Eof
-Outcome IsWorn Comes octets written new (Failed Turns) = Comes octets written new Eof
-Outcome IsWorn Comes octets written new (Failed Write) = (lost : List ℕ) × IsCut Comes octets (written ++ lost) new
-Outcome {State} IsWorn Comes octets written new (Failed Memory) = (state : State) × IsCut Comes octets written state
-Outcome {State} IsWorn Comes octets written new (Failed Worn) = (state : State) × IsWorn state
+ComesToByEnd IsWorn Comes octets written new (Failed Read) = Comes octets written new Eof
+ComesToByEnd IsWorn Comes octets written new (Failed Turns) = Comes octets written new Eof
+ComesToByEnd IsWorn Comes octets written new (Failed Write) = (lost : List ℕ) × IsCut Comes octets (written ++ lost) new
+ComesToByEnd {State} IsWorn Comes octets written new (Failed Memory) = (state : State)
+    × IsCut Comes octets written state
+ComesToByEnd {State} IsWorn Comes octets written new (Failed Worn) = (state : State) × IsWorn state
     × IsCut Comes octets written state
 
 -- A whole exchange: what was read, what was written, and what the one comes to as the other. Any read may fail and

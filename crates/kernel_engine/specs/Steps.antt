@@ -15,7 +15,7 @@ use Rattle.kernel_engine.specs.declared.end.SessionEnd.{SessionEnd}
 use Rattle.kernel_engine.specs.declared.end.SessionEnd.TheVariants.{Eof, Shutdown, Wire, Failed}
 use Rattle.kernel_engine.specs.Peer.{Message, messages_in, has_error, IsTurnedAway, IsMet}
 use Rattle.kernel_engine.specs.Server.{Answering, AnswersAll, IsAnswered}
-use Rattle.kernel_engine.specs.Exchange.{Reading, Outcome}
+use Rattle.kernel_engine.specs.Exchange.{Reading, ComesToByEnd}
 
 -- These octets were read, one turn a read, with no more reads than octets, and none failed.
 pub record Leg (old new : Inflow) (turns left : ℕ) (octets : List ℕ) : Type 0 where
@@ -44,18 +44,18 @@ abbrev pub IsFed : Fed → Decoding → List ℕ → Type 0
 IsFed fed decoder octets = Feeds fresh octets fed.traffic fed.fault decoder × (decoder.limits ≡ usual_limits)
 
 -- one message was answered and written, or it was answered and a write failed, or it wasn't answered
-abbrev pub AnswersOne : {Server : Type 0} → (Server → Type 0) → Answering Server → Server → Message → Server → Outflow
-    → Outflow → Result Unit SessionEnd → Type 0
-AnswersOne IsWorn answers old message new before after (Ok done) =
+abbrev pub AnswersMessage : {Server : Type 0} → (Server → Type 0) → Answering Server → Server → Message → Server
+    → Outflow → Outflow → Result Unit SessionEnd → Type 0
+AnswersMessage IsWorn answers old message new before after (Ok done) =
     (octets : List ℕ) × answers old message octets new × Puts before after octets 0
-AnswersOne IsWorn answers old message new before after (Err Eof) = ⊥
-AnswersOne IsWorn answers old message new before after (Err (Shutdown restart)) = ⊥
-AnswersOne IsWorn answers old message new before after (Err (Wire fault)) = ⊥
-AnswersOne IsWorn answers old message new before after (Err (Failed Memory)) = after ≡ before
-AnswersOne IsWorn answers old message new before after (Err (Failed Worn)) = IsWorn old × (after ≡ before)
-AnswersOne IsWorn answers old message new before after (Err (Failed Read)) = ⊥
-AnswersOne IsWorn answers old message new before after (Err (Failed Turns)) = ⊥
-AnswersOne IsWorn answers old message new before after (Err (Failed Write)) =
+AnswersMessage IsWorn answers old message new before after (Err Eof) = ⊥
+AnswersMessage IsWorn answers old message new before after (Err (Shutdown restart)) = ⊥
+AnswersMessage IsWorn answers old message new before after (Err (Wire fault)) = ⊥
+AnswersMessage IsWorn answers old message new before after (Err (Failed Memory)) = after ≡ before
+AnswersMessage IsWorn answers old message new before after (Err (Failed Worn)) = IsWorn old × (after ≡ before)
+AnswersMessage IsWorn answers old message new before after (Err (Failed Read)) = ⊥
+AnswersMessage IsWorn answers old message new before after (Err (Failed Turns)) = ⊥
+AnswersMessage IsWorn answers old message new before after (Err (Failed Write)) =
     (written : List ℕ) × (lost : List ℕ) × answers old message (written ++ lost) new × Puts before after written 1
 
 -- a beginning of the traffic was answered, and these octets were written of the answers
@@ -123,14 +123,14 @@ pub record Meets (ours : SocketType) (inflow inflow' : Inflow) (outflow outflow'
 -- what a peer that wasn't met comes to
 abbrev pub TurnsAway : SocketType → List ℕ → List ℕ → ⊤ → SessionEnd → Type 0
 TurnsAway ours octets written nothing end =
-    Outcome (λ (state : ⊤). ⊥) (λ octets written (state : ⊤) ending. IsTurnedAway ours octets written ending) octets
-    written nothing end
+    ComesToByEnd (λ (state : ⊤). ⊥) (λ octets written (state : ⊤) ending. IsTurnedAway ours octets written ending)
+    octets written nothing end
 
 -- what octets behind a peer's READY come to, where these of them were read before
 abbrev pub HearsOn : {Server : Type 0} → (Server → Type 0) → Answering Server → Server → List ℕ → List ℕ → List ℕ
     → Server → SessionEnd → Type 0
 HearsOn IsWorn answers old before octets written new end =
-    Outcome IsWorn (IsAnswered answers old) (before ++ octets) written new end
+    ComesToByEnd IsWorn (IsAnswered answers old) (before ++ octets) written new end
 
 -- octets behind a peer's greeting bring no whole traffic: reading stopped, or they are refused, or memory was
 abbrev pub BringsNothing : List ℕ → SessionEnd → Type 0

@@ -2,7 +2,7 @@
 
 ghost use Rattle.std.specs.Prelude.{◌≡◌, ◌<◌, ◌⊎◌, ℕ, List, length, IfOk, IfErr};
 ghost use Rattle.kernel_engine.specs.Exchange.{Exchange};
-ghost use Rattle.kernel_engine.specs.Steps.{IsFed, HearsOn, HearsPiece, HearsNone, AnswersOne, AnswersFed};
+ghost use Rattle.kernel_engine.specs.Steps.{IsFed, HearsOn, HearsPiece, HearsNone, AnswersMessage, AnswersFed};
 
 use crate::end::SessionEnd;
 use crate::fault::EngineFault;
@@ -134,8 +134,8 @@ fn answer_message<W: Outlet, S: Server>(
     frames: Frames,
     reply: &mut Vec<u8>,
 ) -> Result<(), SessionEnd>
-    ensures { AnswersOne S.is_worn S.answers server.old frames server.new (W.outflow writer.old) (W.outflow writer.new)
-        result }
+    ensures { AnswersMessage S.is_worn S.answers server.old frames server.new (W.outflow writer.old)
+        (W.outflow writer.new) result }
 {
     reply.clear();
     match server.answer(alloc, frames, reply) {

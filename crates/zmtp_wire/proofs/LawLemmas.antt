@@ -216,7 +216,7 @@ refused_stays limits before octets after faults.FrameTooLong (more, long, comman
       allowed,
       over,
     )
-refused_stays limits before octets after faults.MessageTooLong (more, long, size, rest, is, said, allowed, fits, over) = (
+refused_stays limits before octets after faults.MessageTooLong (more, long, size, rest, is, said, flags, fits, over) = (
   more,
   long,
   size,
@@ -224,7 +224,7 @@ refused_stays limits before octets after faults.MessageTooLong (more, long, size
   ap (λ o. o ++ after) is
       ∙ append_assoc (head_octets more long false size) rest after,
   said,
-  allowed,
+  flags,
   fits,
   over,
 )

@@ -90,15 +90,15 @@ no_ready_no_error (Command name rest) (inl other) error = other.1 (error_named n
 no_ready_no_error (Command name rest) (inr (is, _)) error = ready_no_error name is (error_named name error)
 
 -- the outcomes that there are
-data Outcome (first : Traffic) (ours : SocketType) : Result Ready WireFault → Type 0 where
+data ReadyOutcome (first : Traffic) (ours : SocketType) : Result Ready WireFault → Type 0 where
   accepts : (peer : SocketType) (v : List ℕ) → Announces first v → Accepts ours v peer
-      → Outcome first ours (Ok (record { peer = peer }))
-  pairs_not : (v : List ℕ) → Announces first v → AcceptsNone ours v → Outcome first ours (Err fault.Pairing)
-  no_ready : IsNoReady first → Outcome first ours (Err fault.Command)
-  error : IsError first → Outcome first ours (Err fault.PeerError)
+      → ReadyOutcome first ours (Ok (record { peer = peer }))
+  pairs_not : (v : List ℕ) → Announces first v → AcceptsNone ours v → ReadyOutcome first ours (Err fault.Pairing)
+  no_ready : IsNoReady first → ReadyOutcome first ours (Err fault.Command)
+  error : IsError first → ReadyOutcome first ours (Err fault.PeerError)
 
 outcome : (first : Traffic) (ours : SocketType) (r : Result Ready WireFault) → IsReady first ours r
-    → Outcome first ours r
+    → ReadyOutcome first ours r
 outcome first ours (Ok ready) is = accepts ready.peer is.0 is.1 is.2
 outcome first ours (Err fault.Pairing) is = pairs_not is.0 is.1 is.2
 outcome first ours (Err fault.Command) is = no_ready is
@@ -110,8 +110,8 @@ accepts_some : (first : Traffic) (ours peer : SocketType) (v w : List ℕ) → A
 accepts_some first ours peer v w one some other none = none peer
     (subst (λ (u : List ℕ). Accepts ours u peer) (same_value first v w one other) some)
 
-one_outcome : (first : Traffic) (ours : SocketType) (r s : Result Ready WireFault) → Outcome first ours r
-    → Outcome first ours s → r ≡ s
+one_outcome : (first : Traffic) (ours : SocketType) (r s : Result Ready WireFault) → ReadyOutcome first ours r
+    → ReadyOutcome first ours s → r ≡ s
 one_outcome first ours _ _ (accepts t v one some) (accepts u w other more) =
     ap (λ (p : SocketType). Ok (record { peer = p })) (one_type w t u
     (subst (λ (x : List ℕ). NamesType x t) (same_value first v w one other) some.0) more.0)

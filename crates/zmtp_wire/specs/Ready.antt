@@ -37,8 +37,8 @@ abbrev pub Properties : List ℕ → List Property → Type 0
 Properties octets ps = (octets ≡ flat_map property_octets ps) × AllByRecursion IsProperty ps
 
 -- the octets begin with this property, and rest stands behind it
-abbrev pub BeginsWith : List ℕ → Property → List ℕ → Type 0
-BeginsWith octets p rest = IsProperty p × (octets ≡ property_octets p ++ rest)
+abbrev pub BeginsWithProperty : List ℕ → Property → List ℕ → Type 0
+BeginsWithProperty octets p rest = IsProperty p × (octets ≡ property_octets p ++ rest)
 
 -- the property is named Socket-Type, without regard to ASCII case
 abbrev pub is_socket_type : Property → Bool

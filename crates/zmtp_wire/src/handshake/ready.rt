@@ -2,8 +2,8 @@
 
 ghost use Rattle.std.specs.Prelude.{◌≡◌, ◌≢◌, ◌<◌, ◌≤◌, ◌^◌, ◌⊎◌, ◌++◌, ℕ, List, length, codes, IfSome, IfNone, IfOk};
 ghost use Rattle.std.specs.Prelude.{IfErr};
-ghost use Rattle.zmtp_wire.specs.Ready.{Property, BeginsWith, AnnouncesIn, HasNoProperties, AnnouncesNoneIn, Accepts};
-ghost use Rattle.zmtp_wire.specs.Ready.{AcceptsNone, IsReady, ready_octets, PropertiesHaveOneReading};
+ghost use Rattle.zmtp_wire.specs.Ready.{Property, BeginsWithProperty, AnnouncesIn, HasNoProperties, AnnouncesNoneIn};
+ghost use Rattle.zmtp_wire.specs.Ready.{Accepts, AcceptsNone, IsReady, ready_octets, PropertiesHaveOneReading};
 ghost use Rattle.zmtp_wire.specs.Ready.{ReadyHasOneOutcome, OurReadyIsRead};
 ghost use Rattle.zmtp_wire.specs.Lengths.{short_text, long_text};
 
@@ -111,8 +111,9 @@ fn announced_in(rest: &[u8]) -> Option<&[u8]>
 
 /// The name and the value of the property at the front, and what stands behind it.
 fn property_at(octets: &[u8]) -> Option<(&[u8], &[u8], &[u8])>
-    ensures found { IfSome result (λ x. BeginsWith octets.now (record { name = x.0.now; value = x.1.now }) x.2.now) }
-    ensures none { IfNone result ((p : Property) (rest : List ℕ) → ¬ (BeginsWith octets.now p rest)) }
+    ensures found { IfSome result (λ x.
+        BeginsWithProperty octets.now (record { name = x.0.now; value = x.1.now }) x.2.now) }
+    ensures none { IfNone result ((p : Property) (rest : List ℕ) → ¬ (BeginsWithProperty octets.now p rest)) }
 {
     let (name, behind) = short_text_at(octets)?;
     let (value, behind) = long_text_at(behind)?;

@@ -309,7 +309,8 @@ impl Pending {
 
     /// Takes a message's last frame.
     fn end_with(&mut self, alloc: Global, body: Vec<u8>) -> Result<Traffic, AllocError>
-        ensures message { IfOk result (λ traffic. traffic ≡ Traffic.Message (bodies_before self.old ++ body.items ∷ [])) }
+        ensures message { IfOk result (λ traffic.
+            traffic ≡ Traffic.Message (bodies_before self.old ++ body.items ∷ [])) }
         ensures empty { OnOk result (self.new.frames.items ≡ []) }
         ensures rest { self.new ≡ record self.old {
           frames = self.new.frames;
