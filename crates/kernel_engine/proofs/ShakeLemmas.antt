@@ -15,6 +15,7 @@ use Rattle.zmtp_wire.specs.Decoding.{Decoding, Feeds}
 use Rattle.zmtp_wire.specs.Device.{Inflow, Outflow, Puts}
 use Rattle.zmtp_wire.specs.declared.traffic.decoder.Fed.{Fed}
 use Rattle.kernel_engine.specs.declared.end.SessionEnd.{SessionEnd}
+use Rattle.kernel_engine.specs.declared.shaking.Shaken.{Shaken}
 use Rattle.kernel_engine.specs.declared.end.SessionEnd.TheVariants.{Eof, Shutdown, Wire, Failed}
 use Rattle.kernel_engine.specs.declared.fault.EngineFault.TheVariants.{Memory, Read, Write, Turns, Worn}
 use Rattle.kernel_engine.specs.Peer.{IsGreeted, IsTurnedAway}
@@ -346,7 +347,7 @@ split_first octets first others (Some fault) decoder (
 }
 
 -- the peer was met
-pub peer_met : (ours : SocketType) (one two three : Inflow) (before after : Outflow) (turns middle left : ℕ)
+peer_met : (ours : SocketType) (one two three : Inflow) (before after : Outflow) (turns middle left : ℕ)
     (opening octets : List ℕ) (fed fed' : Fed) (decoder : Decoding) (first : Traffic) (peer : SocketType)
     → Opened ours one two before after turns middle opening → Leg two three middle left octets
     → IsFed fed decoder octets → fed.traffic ≡ first ∷ fed'.traffic → fed'.fault ≡ fed.fault
@@ -373,7 +374,7 @@ peer_met ours one two three before after turns middle left opening octets fed fe
     }
 
 -- the peer's first traffic was refused
-pub peer_refused : (ours : SocketType) (one two three : Inflow) (before after : Outflow) (turns middle left : ℕ)
+peer_refused : (ours : SocketType) (one two three : Inflow) (before after : Outflow) (turns middle left : ℕ)
     (opening octets : List ℕ) (fed : Fed) (decoder : Decoding) (first : Traffic) (others : List Traffic)
     (fault : WireFault)
     → Opened ours one two before after turns middle opening → Leg two three middle left octets
@@ -400,13 +401,32 @@ peer_refused ours one two three before after turns middle left opening octets fe
       }))));
     }
 
--- what holds of each outcome
-pub if_ok_map : {T E : Type 0} (result : Result T E) (One Other : T → Type 0) → IfOk result One
-    → ((value : T) → One value → Other value) → IfOk result Other
-if_ok_map (Ok value) One Other holds map = map value holds
-if_ok_map (Err fault) One Other holds map = tt
+-- a peer whose READY was accepted was met
+pub judged_met : (result : Result Shaken SessionEnd) (ours : SocketType) (one two three : Inflow)
+    (before after : Outflow) (turns middle left : ℕ) (opening octets : List ℕ) (fed : Fed) (decoder : Decoding)
+    → Opened ours one two before after turns middle opening → Leg two three middle left octets
+    → IsFed fed decoder octets
+    → IfOk result (λ shaken. (first : Traffic) × (fed.traffic ≡ first ∷ shaken.fed.traffic)
+    × (shaken.fed.fault ≡ fed.fault) × (shaken.decoder ≡ decoder)
+    × IsReady first ours (Ok (record { peer = shaken.peer })))
+    → IfOk result (λ shaken. Meets ours one three before after turns left shaken.peer shaken.fed shaken.decoder)
+judged_met (Err end) ours one two three before after turns middle left opening octets fed decoder o leg is judged = tt
+judged_met (Ok shaken) ours one two three before after turns middle left opening octets fed decoder o leg is
+    (first, traffic_is, fault_is, decoder_is, accepted) = rw decoder_is
+    (peer_met ours one two three before after turns middle left opening octets fed shaken.fed decoder first shaken.peer
+    o leg is traffic_is fault_is accepted)
 
-pub if_err_map : {T E : Type 0} (result : Result T E) (One Other : E → Type 0) → IfErr result One
-    → ((fault : E) → One fault → Other fault) → IfErr result Other
-if_err_map (Ok value) One Other holds map = tt
-if_err_map (Err fault) One Other holds map = map fault holds
+-- a peer whose READY was refused was turned away
+pub judged_refused : (result : Result Shaken SessionEnd) (ours : SocketType) (one two three : Inflow)
+    (before after : Outflow) (turns middle left : ℕ) (opening octets : List ℕ) (fed : Fed) (decoder : Decoding)
+    → Opened ours one two before after turns middle opening → Leg two three middle left octets
+    → IsFed fed decoder octets
+    → IfErr result (λ end. (first : Traffic) × (others : List Traffic) × (fault : WireFault)
+    × (fed.traffic ≡ first ∷ others) × IsReady first ours (Err fault) × (end ≡ Wire fault))
+    → IfErr result (λ end. Exchange (TurnsAway ours) one three before after turns left tt end)
+judged_refused (Ok shaken) ours one two three before after turns middle left opening octets fed decoder o leg is
+    judged = tt
+judged_refused (Err end) ours one two three before after turns middle left opening octets fed decoder o leg is
+    (first, others, fault, traffic_is, refused, end_is) = rw end_is
+    (peer_refused ours one two three before after turns middle left opening octets fed decoder first others fault o leg
+    is traffic_is refused)

@@ -4,7 +4,7 @@ use Rattle.zmtp_wire.specs.Greeting.{greeting_octets}
 use Rattle.zmtp_wire.specs.Ready.{ready_octets}
 use Rattle.zmtp_wire.specs.Device.{Puts}
 use Rattle.kernel_engine.proofs.ShakeLemmas.{greeting_unsent, greeting_refused, ready_refused, ready_unsent, opened}
-use Rattle.kernel_engine.proofs.ShakeLemmas.{nothing_came, peer_met, peer_refused, if_ok_map, if_err_map}
+use Rattle.kernel_engine.proofs.ShakeLemmas.{nothing_came, judged_met, judged_refused}
 use Rattle.kernel_engine.proofs.shaking.shake_within.Goals as goal
 
 pub returns-in_err-put-clause-turned_away : goal.returns-in_err-put-clause-turned_away
@@ -72,13 +72,10 @@ returns-clause-met g c =
     (g.W.Outlet.outflow c.put-2.new.writer) c.args.turns.now c.read_opening.new.turns c.in_ok-opening.opening
     c.in_ok-opening.ensures.ok.0 c.in_ok-opening.ensures.ok.1 c.in_default.ensures.accepted.0 sent ready in
     let (some, (octets, fed, leg)) = c.in_ok-fed.ensures.ok in
-    if_ok_map c.meet.result _ _ c.meet.ensures.ok
-    (λ shaken (first, traffic_is, fault_is, decoder_is, accepted). rw decoder_is
-    (peer_met c.args.ours (g.R.Inlet.inflow c.args.reader.now) (g.R.Inlet.inflow c.read_opening.new.reader)
+    judged_met c.meet.result c.args.ours (g.R.Inlet.inflow c.args.reader.now) (g.R.Inlet.inflow c.read_opening.new.reader)
     (g.R.Inlet.inflow c.read_first.new.reader) (g.W.Outlet.outflow c.args.writer.now)
     (g.W.Outlet.outflow c.put-2.new.writer) c.args.turns.now c.read_opening.new.turns c.read_first.new.turns
-    c.in_ok-opening.opening octets c.in_ok-fed.fed shaken.fed c.read_first.new.decoder first shaken.peer o leg fed
-    traffic_is fault_is accepted))
+    c.in_ok-opening.opening octets c.in_ok-fed.fed c.read_first.new.decoder o leg fed c.meet.ensures.ok
 
 pub returns-clause-turned_away : goal.returns-clause-turned_away
 returns-clause-turned_away g c =
@@ -91,10 +88,7 @@ returns-clause-turned_away g c =
     (g.W.Outlet.outflow c.put-2.new.writer) c.args.turns.now c.read_opening.new.turns c.in_ok-opening.opening
     c.in_ok-opening.ensures.ok.0 c.in_ok-opening.ensures.ok.1 c.in_default.ensures.accepted.0 sent ready in
     let (some, (octets, fed, leg)) = c.in_ok-fed.ensures.ok in
-    if_err_map c.meet.result _ _ c.meet.ensures.err
-    (λ end (first, others, fault, traffic_is, refused, end_is). rw end_is
-    (peer_refused c.args.ours (g.R.Inlet.inflow c.args.reader.now) (g.R.Inlet.inflow c.read_opening.new.reader)
+    judged_refused c.meet.result c.args.ours (g.R.Inlet.inflow c.args.reader.now) (g.R.Inlet.inflow c.read_opening.new.reader)
     (g.R.Inlet.inflow c.read_first.new.reader) (g.W.Outlet.outflow c.args.writer.now)
     (g.W.Outlet.outflow c.put-2.new.writer) c.args.turns.now c.read_opening.new.turns c.read_first.new.turns
-    c.in_ok-opening.opening octets c.in_ok-fed.fed c.read_first.new.decoder first others fault o leg fed traffic_is
-    refused))
+    c.in_ok-opening.opening octets c.in_ok-fed.fed c.read_first.new.decoder o leg fed c.meet.ensures.err
