@@ -168,10 +168,7 @@ added_all octets written is = is
 
 -- the lines of the session with a peer whose octets were read
 read_out : (left : Option (List ℕ)) (end : SessionEnd) → end ≡ Eof → IsReadOut left end → IsAtEnd left
-read_out left Eof is out = out
-read_out left (Shutdown restart) is out = absurd (let e = is in cc)
-read_out left (Wire fault) is out = absurd (let e = is in cc)
-read_out left (Failed fault) is out = absurd (let e = is in cc)
+read_out left end is out = out is
 
 pub prints_peer : (key : List ℕ) (old new : Engine) (one two : Inflow) (out last : Outflow) (turns left : ℕ)
     (shell output : List ℕ) (end : SessionEnd)

@@ -106,8 +106,8 @@ refused_first one two three turns middle left old new piece fault so_far leg fee
         draws = whole.draws;
         counted = whole.counted;
         few = omega (arith, whole.few);
-        spent = tt;
-        read_out = tt;
+        spent = λ is. absurd cc;
+        read_out = λ is. absurd cc;
       },
     )
 

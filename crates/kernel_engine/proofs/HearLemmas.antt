@@ -169,8 +169,8 @@ decided inflow inflow' turns left octets (Wire fault) is leg =
       draws = leg.draws;
       counted = leg.counted;
       few = omega (arith, leg.few);
-      spent = tt;
-      read_out = tt;
+      spent = λ is. absurd cc;
+      read_out = λ is. absurd cc;
     }
 decided inflow inflow' turns left octets (Failed Memory) is leg =
     record {
@@ -178,8 +178,8 @@ decided inflow inflow' turns left octets (Failed Memory) is leg =
       draws = leg.draws;
       counted = leg.counted;
       few = omega (arith, leg.few);
-      spent = tt;
-      read_out = tt;
+      spent = λ is. absurd cc;
+      read_out = λ is. absurd cc;
     }
 decided inflow inflow' turns left octets (Failed Read) is leg = absurd is
 decided inflow inflow' turns left octets (Failed Write) is leg =
@@ -188,8 +188,8 @@ decided inflow inflow' turns left octets (Failed Write) is leg =
       draws = leg.draws;
       counted = leg.counted;
       few = omega (arith, leg.few);
-      spent = tt;
-      read_out = tt;
+      spent = λ is. absurd cc;
+      read_out = λ is. absurd cc;
     }
 decided inflow inflow' turns left octets (Failed Turns) is leg = absurd is
 decided inflow inflow' turns left octets (Failed Worn) is leg =
@@ -198,8 +198,8 @@ decided inflow inflow' turns left octets (Failed Worn) is leg =
       draws = leg.draws;
       counted = leg.counted;
       few = omega (arith, leg.few);
-      spent = tt;
-      read_out = tt;
+      spent = λ is. absurd cc;
+      read_out = λ is. absurd cc;
     }
 
 -- what a piece that ends hearing comes to
@@ -342,7 +342,7 @@ piece_ends IsWorn answers old now new decoder decoder' octets written piece more
         state,
         subst (λ w. IsCut (IsAnswered answers old) (octets ++ piece) (written ++ w) state) (append-nil some.written)
             (some_cut answers old now state decoder decoder' octets written piece more fault before after [] 0 heard
-                feeds some),
+            feeds some),
       );
     }
 piece_ends IsWorn answers old now new decoder decoder' octets written piece more fault before after (Failed Worn) heard
@@ -355,7 +355,7 @@ piece_ends IsWorn answers old now new decoder decoder' octets written piece more
         worn,
         subst (λ w. IsCut (IsAnswered answers old) (octets ++ piece) (written ++ w) state) (append-nil some.written)
             (some_cut answers old now state decoder decoder' octets written piece more fault before after [] 0 heard
-                feeds some),
+            feeds some),
       );
     }
 piece_ends IsWorn answers old now new decoder decoder' octets written piece more fault before after (Failed Write) heard
@@ -368,7 +368,7 @@ piece_ends IsWorn answers old now new decoder decoder' octets written piece more
         subst (λ w. IsCut (IsAnswered answers old) (octets ++ piece) w new)
             (sym (append_assoc written some.written lost))
             (some_cut answers old now new decoder decoder' octets written piece more fault before after lost 1 heard
-                feeds some),
+            feeds some),
       );
     }
 

@@ -16,7 +16,7 @@ use Rattle.zmtp_wire.specs.Ready.{IsReady, ReadyHasOneOutcome}
 use Rattle.kernel_engine.specs.declared.end.SessionEnd.{SessionEnd}
 use Rattle.kernel_engine.specs.declared.end.SessionEnd.TheVariants.{Eof, Shutdown, Wire, Failed}
 use Rattle.kernel_engine.specs.Peer.{Message, messages_in, has_error, EndsAs, EndsBehind, Says, IsGreeted, ComesFirst}
-use Rattle.kernel_engine.specs.Peer.{IsTurnedAway, IsMet}
+use Rattle.kernel_engine.specs.Peer.{IsTurnedAway}
 use Rattle.kernel_engine.specs.Laws.{HearsOnce, MetOrTurnedAway, EndStays}
 use Rattle.kernel_engine.proofs.TrafficLemmas.{messages_to_error, error_stays}
 

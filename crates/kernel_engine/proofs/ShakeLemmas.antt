@@ -74,8 +74,8 @@ greeting_unsent ours inflow before after turns octets (Failed Write) same (front
         draws = none.draws;
         counted = none.counted;
         few = omega (arith, none.few);
-        spent = tt;
-        read_out = tt;
+        spent = λ is. absurd cc;
+        read_out = λ is. absurd cc;
       };
       puts = puts;
       outcome = (
@@ -112,8 +112,8 @@ leg_wire inflow inflow' turns left octets fault leg = record {
   draws = leg.draws;
   counted = leg.counted;
   few = omega (arith, leg.few);
-  spent = tt;
-  read_out = tt;
+  spent = λ is. absurd cc;
+  read_out = λ is. absurd cc;
 }
 
 leg_memory : (inflow inflow' : Inflow) (turns left : ℕ) (octets : List ℕ) → Leg inflow inflow' turns left octets
@@ -123,8 +123,8 @@ leg_memory inflow inflow' turns left octets leg = record {
   draws = leg.draws;
   counted = leg.counted;
   few = omega (arith, leg.few);
-  spent = tt;
-  read_out = tt;
+  spent = λ is. absurd cc;
+  read_out = λ is. absurd cc;
 }
 
 leg_write : (inflow inflow' : Inflow) (turns left : ℕ) (octets : List ℕ) → Leg inflow inflow' turns left octets
@@ -134,8 +134,8 @@ leg_write inflow inflow' turns left octets leg = record {
   draws = leg.draws;
   counted = leg.counted;
   few = omega (arith, leg.few);
-  spent = tt;
-  read_out = tt;
+  spent = λ is. absurd cc;
+  read_out = λ is. absurd cc;
 }
 
 -- the greeting at the front of what was read
