@@ -11,7 +11,7 @@ use Rattle.kernel_engine.specs.declared.end.SessionEnd.TheVariants.{Eof, Shutdow
 use Rattle.kernel_engine.specs.declared.fault.EngineFault.TheVariants.{Memory, Read, Write, Turns, Worn}
 use Rattle.kernel_engine.specs.Peer.{Message, messages_in, has_error}
 use Rattle.kernel_engine.specs.Server.{Answering, AnswersAll}
-use Rattle.kernel_engine.specs.Steps.{AnswersMessage, AnswersWhole, AnswersFed}
+use Rattle.kernel_engine.specs.Steps.{PutsAnswer, AnswersWhole, AnswersFed}
 use Rattle.kernel_engine.proofs.Legs.{puts_none, puts_on}
 use Rattle.kernel_engine.proofs.TrafficLemmas.{messages_on, error_on, answers_on}
 
@@ -113,7 +113,7 @@ pub answered_cut : {Server : Type 0} (IsWorn : Server → Type 0) (answers : Ans
     (all : List Traffic) (message : Message) (rest : List Traffic) (now new : Server) (before middle after : Outflow)
     (end : SessionEnd)
     → AnsweredSoFar answers old all (traffic.Message message ∷ rest) now before middle
-    → AnswersMessage IsWorn answers now message new middle after (Err end)
+    → PutsAnswer IsWorn answers now message new middle after (Err end)
     → AnswersFed IsWorn answers old all None new before after (Err end)
 answered_cut IsWorn answers old all message rest now new before middle after Eof so_far one = absurd one
 answered_cut IsWorn answers old all message rest now new before middle after (Shutdown restart) so_far one = absurd one

@@ -44,18 +44,18 @@ abbrev pub IsFed : Fed → Decoding → List ℕ → Type 0
 IsFed fed decoder octets = Feeds fresh octets fed.traffic fed.fault decoder × (decoder.limits ≡ usual_limits)
 
 -- one message was answered and written, or it was answered and a write failed, or it wasn't answered
-abbrev pub AnswersMessage : {Server : Type 0} → (Server → Type 0) → Answering Server → Server → Message → Server
+abbrev pub PutsAnswer : {Server : Type 0} → (Server → Type 0) → Answering Server → Server → Message → Server
     → Outflow → Outflow → Result Unit SessionEnd → Type 0
-AnswersMessage IsWorn answers old message new before after (Ok done) =
+PutsAnswer IsWorn answers old message new before after (Ok done) =
     (octets : List ℕ) × answers old message octets new × Puts before after octets 0
-AnswersMessage IsWorn answers old message new before after (Err Eof) = ⊥
-AnswersMessage IsWorn answers old message new before after (Err (Shutdown restart)) = ⊥
-AnswersMessage IsWorn answers old message new before after (Err (Wire fault)) = ⊥
-AnswersMessage IsWorn answers old message new before after (Err (Failed Memory)) = after ≡ before
-AnswersMessage IsWorn answers old message new before after (Err (Failed Worn)) = IsWorn old × (after ≡ before)
-AnswersMessage IsWorn answers old message new before after (Err (Failed Read)) = ⊥
-AnswersMessage IsWorn answers old message new before after (Err (Failed Turns)) = ⊥
-AnswersMessage IsWorn answers old message new before after (Err (Failed Write)) =
+PutsAnswer IsWorn answers old message new before after (Err Eof) = ⊥
+PutsAnswer IsWorn answers old message new before after (Err (Shutdown restart)) = ⊥
+PutsAnswer IsWorn answers old message new before after (Err (Wire fault)) = ⊥
+PutsAnswer IsWorn answers old message new before after (Err (Failed Memory)) = after ≡ before
+PutsAnswer IsWorn answers old message new before after (Err (Failed Worn)) = IsWorn old × (after ≡ before)
+PutsAnswer IsWorn answers old message new before after (Err (Failed Read)) = ⊥
+PutsAnswer IsWorn answers old message new before after (Err (Failed Turns)) = ⊥
+PutsAnswer IsWorn answers old message new before after (Err (Failed Write)) =
     (written : List ℕ) × (lost : List ℕ) × answers old message (written ++ lost) new × Puts before after written 1
 
 -- a beginning of the traffic was answered, and these octets were written of the answers

@@ -2,7 +2,7 @@
 
 ghost use Rattle.std.specs.Prelude.{◌≡◌, ◌<◌, ◌⊎◌, ℕ, List, length, IfOk, IfErr};
 ghost use Rattle.kernel_engine.specs.Exchange.{Exchange};
-ghost use Rattle.kernel_engine.specs.Steps.{IsFed, HearsOn, HearsPiece, HearsNone, AnswersMessage, AnswersFed};
+ghost use Rattle.kernel_engine.specs.Steps.{IsFed, HearsOn, HearsPiece, HearsNone, PutsAnswer, AnswersFed};
 
 use crate::end::SessionEnd;
 use crate::fault::EngineFault;
@@ -134,7 +134,7 @@ fn answer_message<W: Outlet, S: Server>(
     frames: Frames,
     reply: &mut Vec<u8>,
 ) -> Result<(), SessionEnd>
-    ensures { AnswersMessage S.is_worn S.answers server.old frames server.new (W.outflow writer.old)
+    ensures { PutsAnswer S.is_worn S.answers server.old frames server.new (W.outflow writer.old)
         (W.outflow writer.new) result }
 {
     reply.clear();
