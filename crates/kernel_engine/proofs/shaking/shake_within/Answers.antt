@@ -72,9 +72,10 @@ returns-clause-met g c =
     (g.W.Outlet.outflow c.put-2.new.writer) c.args.turns.now c.read_opening.new.turns c.in_ok-opening.opening
     c.in_ok-opening.ensures.ok.0 c.in_ok-opening.ensures.ok.1 c.in_default.ensures.accepted.0 sent ready in
     let (some, (octets, fed, leg)) = c.in_ok-fed.ensures.ok in
-    judged_met c.meet.result c.args.ours (g.R.Inlet.inflow c.args.reader.now) (g.R.Inlet.inflow c.read_opening.new.reader)
-    (g.R.Inlet.inflow c.read_first.new.reader) (g.W.Outlet.outflow c.args.writer.now)
-    (g.W.Outlet.outflow c.put-2.new.writer) c.args.turns.now c.read_opening.new.turns c.read_first.new.turns
+    judged_met c.meet.result c.args.ours (g.R.Inlet.inflow c.args.reader.now)
+    (g.R.Inlet.inflow c.read_opening.new.reader) (g.R.Inlet.inflow c.read_first.new.reader)
+    (g.W.Outlet.outflow c.args.writer.now) (g.W.Outlet.outflow c.put-2.new.writer)
+    c.args.turns.now c.read_opening.new.turns c.read_first.new.turns
     c.in_ok-opening.opening octets c.in_ok-fed.fed c.read_first.new.decoder o leg fed c.meet.ensures.ok
 
 pub returns-clause-turned_away : goal.returns-clause-turned_away
@@ -88,7 +89,8 @@ returns-clause-turned_away g c =
     (g.W.Outlet.outflow c.put-2.new.writer) c.args.turns.now c.read_opening.new.turns c.in_ok-opening.opening
     c.in_ok-opening.ensures.ok.0 c.in_ok-opening.ensures.ok.1 c.in_default.ensures.accepted.0 sent ready in
     let (some, (octets, fed, leg)) = c.in_ok-fed.ensures.ok in
-    judged_refused c.meet.result c.args.ours (g.R.Inlet.inflow c.args.reader.now) (g.R.Inlet.inflow c.read_opening.new.reader)
-    (g.R.Inlet.inflow c.read_first.new.reader) (g.W.Outlet.outflow c.args.writer.now)
-    (g.W.Outlet.outflow c.put-2.new.writer) c.args.turns.now c.read_opening.new.turns c.read_first.new.turns
+    judged_refused c.meet.result c.args.ours (g.R.Inlet.inflow c.args.reader.now)
+    (g.R.Inlet.inflow c.read_opening.new.reader) (g.R.Inlet.inflow c.read_first.new.reader)
+    (g.W.Outlet.outflow c.args.writer.now) (g.W.Outlet.outflow c.put-2.new.writer)
+    c.args.turns.now c.read_opening.new.turns c.read_first.new.turns
     c.in_ok-opening.opening octets c.in_ok-fed.fed c.read_first.new.decoder o leg fed c.meet.ensures.err
