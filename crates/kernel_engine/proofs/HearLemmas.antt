@@ -1,7 +1,6 @@
 -- Hearing a peer, piece by piece.
 use Rattle.std.proofs.Common.{◌≡◌, ◌⊎◌, inl, inr, ℕ, List, [], ◌∷◌, ◌++◌, true, false, Option, Some, None, Ok, Err}
-use Rattle.std.proofs.Common.{refl, sym, ◌∙◌, ap, subst, arith, append_assoc}
-use Rattle.std.specs.Prelude.{⊤}
+use Rattle.std.proofs.Common.{refl, sym, ◌∙◌, ap, subst, append_assoc}
 use Rattle.std.proofs.lemmas.List.{append-nil}
 use Rattle.zmtp_wire.specs.declared.fault.WireFault.{WireFault}
 use Rattle.zmtp_wire.specs.declared.fault.WireFault.TheVariants.{PeerError}
@@ -16,10 +15,11 @@ use Rattle.kernel_engine.specs.declared.end.SessionEnd.TheVariants.{Eof, Shutdow
 use Rattle.kernel_engine.specs.declared.fault.EngineFault.TheVariants.{Memory, Read, Write, Turns, Worn}
 use Rattle.kernel_engine.specs.Peer.{messages_in, has_error, EndsAs, EndsBehind}
 use Rattle.kernel_engine.specs.Server.{Answering, AnswersAll, IsAnswered}
-use Rattle.kernel_engine.specs.Exchange.{Reading, Exchange, ComesToByEnd, IsCut, failed_writes}
+use Rattle.kernel_engine.specs.Exchange.{Exchange, ComesToByEnd, IsCut, failed_writes}
 use Rattle.kernel_engine.specs.Steps.{Leg, IsFed, HearsOn, HearsPiece, HearsNone, AnswersWhole, AnswersSome}
 use Rattle.kernel_engine.specs.Steps.{AnswersFed, fresh}
 use Rattle.kernel_engine.proofs.Legs.{leg_none, leg_on, stop_on, puts_on}
+use Rattle.kernel_engine.proofs.Legs.{IsDecided, decided, wire_decided, memory_decided, write_decided, worn_decided}
 use Rattle.kernel_engine.proofs.TrafficLemmas.{messages_on, error_on, answers_on, reads_on}
 use Rattle.kernel_engine.proofs.Unfinished.{nothing_unfinished}
 use Rattle.kernel_engine.proofs.ShakeLemmas.{stop_outcome, stop_puts}
@@ -148,60 +148,6 @@ heard_more answers old now new decoder decoder' octets written piece more None b
           whole.answered;
     }
 
--- the end is decided by what came, and not by reading
-abbrev IsDecided : SessionEnd → Type 0
-IsDecided Eof = ⊥
-IsDecided (Shutdown restart) = ⊥
-IsDecided (Wire fault) = ⊤
-IsDecided (Failed Memory) = ⊤
-IsDecided (Failed Read) = ⊥
-IsDecided (Failed Write) = ⊤
-IsDecided (Failed Turns) = ⊥
-IsDecided (Failed Worn) = ⊤
-
-decided : (inflow inflow' : Inflow) (turns left : ℕ) (octets : List ℕ) (end : SessionEnd) → IsDecided end
-    → Leg inflow inflow' turns left octets → Reading inflow inflow' turns left octets end
-decided inflow inflow' turns left octets Eof is leg = absurd is
-decided inflow inflow' turns left octets (Shutdown restart) is leg = absurd is
-decided inflow inflow' turns left octets (Wire fault) is leg =
-    record {
-      taken = leg.taken;
-      draws = leg.draws;
-      counted = leg.counted;
-      few = omega (arith, leg.few);
-      spent = λ is. absurd cc;
-      read_out = λ is. absurd cc;
-    }
-decided inflow inflow' turns left octets (Failed Memory) is leg =
-    record {
-      taken = leg.taken;
-      draws = leg.draws;
-      counted = leg.counted;
-      few = omega (arith, leg.few);
-      spent = λ is. absurd cc;
-      read_out = λ is. absurd cc;
-    }
-decided inflow inflow' turns left octets (Failed Read) is leg = absurd is
-decided inflow inflow' turns left octets (Failed Write) is leg =
-    record {
-      taken = leg.taken;
-      draws = leg.draws;
-      counted = leg.counted;
-      few = omega (arith, leg.few);
-      spent = λ is. absurd cc;
-      read_out = λ is. absurd cc;
-    }
-decided inflow inflow' turns left octets (Failed Turns) is leg = absurd is
-decided inflow inflow' turns left octets (Failed Worn) is leg =
-    record {
-      taken = leg.taken;
-      draws = leg.draws;
-      counted = leg.counted;
-      few = omega (arith, leg.few);
-      spent = λ is. absurd cc;
-      read_out = λ is. absurd cc;
-    }
-
 -- what a piece that ends hearing comes to
 record PieceEnds {Server : Type 0} (IsWorn : Server → Type 0) (answers : Answering Server) (old new : Server)
     (octets written : List ℕ) (before after : Outflow) (end : SessionEnd) : Type 0 where
@@ -321,7 +267,7 @@ piece_ends IsWorn answers old now new decoder decoder' octets written piece more
     feeds (inl (is, whole)) = record {
       more = whole.written;
       puts = whole.puts;
-      is = tt;
+      is = wire_decided found;
       outcome = peer_ends IsWorn answers old now new decoder decoder' octets written piece more fault found before after
           heard feeds is whole;
     }
@@ -329,7 +275,7 @@ piece_ends IsWorn answers old now new decoder decoder' octets written piece more
     feeds (inr (is, whole)) = record {
       more = whole.written;
       puts = whole.puts;
-      is = tt;
+      is = wire_decided found;
       outcome = fault_ends IsWorn answers old now new decoder decoder' octets written piece more fault found before
           after heard feeds is whole;
     }
@@ -337,7 +283,7 @@ piece_ends IsWorn answers old now new decoder decoder' octets written piece more
     heard feeds (state, some) = record {
       more = some.written;
       puts = some.puts;
-      is = tt;
+      is = memory_decided;
       outcome = (
         state,
         subst (λ w. IsCut (IsAnswered answers old) (octets ++ piece) (written ++ w) state) (append-nil some.written)
@@ -349,7 +295,7 @@ piece_ends IsWorn answers old now new decoder decoder' octets written piece more
     feeds (state, worn, some) = record {
       more = some.written;
       puts = some.puts;
-      is = tt;
+      is = worn_decided;
       outcome = (
         state,
         worn,
@@ -362,7 +308,7 @@ piece_ends IsWorn answers old now new decoder decoder' octets written piece more
     feeds (lost, some) = record {
       more = some.written;
       puts = some.puts;
-      is = tt;
+      is = write_decided;
       outcome = (
         lost,
         subst (λ w. IsCut (IsAnswered answers old) (octets ++ piece) w new)
@@ -494,7 +440,7 @@ hearing_cut IsWorn answers old now decoder inflow inflow' outflow outflow' turns
     record {
       read = so_far.read;
       written = so_far.written;
-      reading = decided inflow inflow' turns left so_far.read (Failed Memory) tt so_far.leg;
+      reading = decided inflow inflow' turns left so_far.read (Failed Memory) memory_decided so_far.leg;
       puts = so_far.puts;
       outcome = (
         now,

@@ -5,11 +5,10 @@ use Rattle.std.specs.Prelude.{MatchBool}
 use Rattle.std.proofs.lemmas.List.{append-nil, take-append-le, drop-append-le}
 use Rattle.zmtp_wire.specs.declared.fault.WireFault.{WireFault}
 use Rattle.zmtp_wire.specs.declared.fault.WireFault.TheVariants as faults
-use Rattle.zmtp_wire.specs.declared.traffic.limits.Limits.{Limits}
 use Rattle.zmtp_wire.specs.declared.handshake.socket_type.SocketType.{SocketType}
 use Rattle.zmtp_wire.specs.declared.traffic.Traffic.{Traffic}
 use Rattle.zmtp_wire.specs.Limits.{usual_limits}
-use Rattle.zmtp_wire.specs.Grammar.{Spells, ReadsUpTo, HasNoTraffic, IsFaulty}
+use Rattle.zmtp_wire.specs.Grammar.{ReadsUpTo, HasNoTraffic}
 use Rattle.zmtp_wire.specs.Laws.{FrontHasOneReading, ReadingGoesOn, HasOneFault, FaultyHasNoTraffic, FaultStays}
 use Rattle.zmtp_wire.specs.Greeting.{IsGreeting, IsRefusedGreeting, HasSignature, HasVersion, HasNullMechanism}
 use Rattle.zmtp_wire.specs.Greeting.{major_version}

@@ -26,14 +26,7 @@ pub record Leg (old new : Inflow) (turns left : ℕ) (octets : List ℕ) : Type 
 
 -- reading ended with nothing decided: by the last octet, a read that failed or a want of turns
 abbrev pub IsStop : SessionEnd → Type 0
-IsStop Eof = ⊤
-IsStop (Shutdown restart) = ⊥
-IsStop (Wire fault) = ⊥
-IsStop (Failed Memory) = ⊥
-IsStop (Failed Read) = ⊤
-IsStop (Failed Write) = ⊥
-IsStop (Failed Turns) = ⊤
-IsStop (Failed Worn) = ⊥
+IsStop end = (end ≡ Eof) ⊎ ((end ≡ Failed Read) ⊎ (end ≡ Failed Turns))
 
 -- a decoder that has read nothing
 abbrev pub fresh : Decoding
@@ -96,18 +89,11 @@ AnswersFed IsWorn answers old traffic fault new before after (Err (Failed Turns)
 AnswersFed IsWorn answers old traffic fault new before after (Err (Failed Write)) =
     (lost : List ℕ) × AnswersSome answers old traffic new before after lost 1
 
--- octets were written, or a beginning of them before a write failed
+-- octets were written, or a beginning of them before a write failed, and nothing else ends it
 abbrev pub PutsAll : Outflow → Outflow → List ℕ → Result Unit SessionEnd → Type 0
 PutsAll before after octets (Ok done) = Puts before after octets 0
-PutsAll before after octets (Err Eof) = ⊥
-PutsAll before after octets (Err (Shutdown restart)) = ⊥
-PutsAll before after octets (Err (Wire fault)) = ⊥
-PutsAll before after octets (Err (Failed Memory)) = ⊥
-PutsAll before after octets (Err (Failed Worn)) = ⊥
-PutsAll before after octets (Err (Failed Read)) = ⊥
-PutsAll before after octets (Err (Failed Turns)) = ⊥
-PutsAll before after octets (Err (Failed Write)) = (front : List ℕ) × (lost : List ℕ) × (octets ≡ front ++ lost)
-    × Puts before after front 1
+PutsAll before after octets (Err end) = (end ≡ Failed Write)
+    × ((front : List ℕ) × (lost : List ℕ) × (octets ≡ front ++ lost) × Puts before after front 1)
 
 -- hands were shaken with a peer: these octets were read and written, and these stand behind the peer's READY
 pub record Meets (ours : SocketType) (inflow inflow' : Inflow) (outflow outflow' : Outflow) (turns left : ℕ)
@@ -134,14 +120,8 @@ HearsOn IsWorn answers old before octets written new end =
 
 -- octets behind a peer's greeting bring no whole traffic: reading stopped, or they are refused, or memory was
 abbrev pub BringsNothing : List ℕ → SessionEnd → Type 0
-BringsNothing octets Eof = IsUnfinished usual_limits octets
-BringsNothing octets (Shutdown restart) = ⊥
-BringsNothing octets (Wire fault) = (fault ≡ OutOfMemory) ⊎ IsFaulty usual_limits octets fault
-BringsNothing octets (Failed Memory) = ⊥
-BringsNothing octets (Failed Read) = IsUnfinished usual_limits octets
-BringsNothing octets (Failed Write) = ⊥
-BringsNothing octets (Failed Turns) = IsUnfinished usual_limits octets
-BringsNothing octets (Failed Worn) = ⊥
+BringsNothing octets end = (IsStop end × IsUnfinished usual_limits octets)
+    ⊎ ((fault : WireFault) × (end ≡ Wire fault) × ((fault ≡ OutOfMemory) ⊎ IsFaulty usual_limits octets fault))
 
 -- a piece was read, and what it brought was answered
 pub record HearsPiece {Server : Type 0} (IsWorn : Server → Type 0) (answers : Answering Server) (old new : Server)
