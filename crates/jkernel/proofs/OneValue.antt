@@ -1,7 +1,7 @@
 -- A session has one value.
 use Rattle.std.proofs.Common.{◌≡◌, inl, inr, ℕ, ◌+◌, List, [], ◌∷◌, ◌++◌, sym, ◌∙◌, ap, subst}
 use Rattle.std.specs.List.{flat_map}
-use Rattle.zmtp_wire.specs.declared.socket_type.SocketType.TheVariants.{Router}
+use Rattle.zmtp_wire.specs.declared.handshake.socket_type.SocketType.TheVariants.{Router}
 use Rattle.zmtp_wire.specs.Frame.{text}
 use Rattle.jmsg_envelope.specs.declared.envelope.Envelope.{Envelope}
 use Rattle.jmsg_envelope.specs.Laws.{OpenedOnce, RefusedIsNotOpened}

@@ -7,7 +7,7 @@ use Rattle.std.specs.Global.{Vec}
 use Rattle.std.specs.List.{flat_map}
 use Rattle.std.specs.Io.KnownBytes.{Appends, IsAtEnd}
 use Rattle.listed.specs.Bodies.{bodies}
-use Rattle.zmtp_wire.specs.declared.socket_type.SocketType.TheVariants.{Router}
+use Rattle.zmtp_wire.specs.declared.handshake.socket_type.SocketType.TheVariants.{Router}
 use Rattle.zmtp_wire.specs.Frame.{text}
 use Rattle.zmtp_wire.specs.Device.{Inflow, Outflow}
 use Rattle.jmsg_envelope.specs.declared.envelope.Envelope.{Envelope}
@@ -169,10 +169,7 @@ added_all octets written is = is
 
 -- the lines of the session with a peer whose octets were read
 read_out : (left : Option (List ℕ)) (end : SessionEnd) → end ≡ Eof → IsReadOut left end → IsAtEnd left
-read_out left Eof is out = out
-read_out left (Shutdown restart) is out = absurd (let e = is in cc)
-read_out left (Wire fault) is out = absurd (let e = is in cc)
-read_out left (Failed fault) is out = absurd (let e = is in cc)
+read_out left end is out = out is
 
 pub prints_peer : (key : List ℕ) (old new : Engine) (one two : Inflow) (out last : Outflow) (turns left : ℕ)
     (shell output : List ℕ) (end : SessionEnd)

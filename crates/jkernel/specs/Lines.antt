@@ -2,7 +2,7 @@
 use Rattle.std.specs.Prelude.{ℕ, List, [], ◌∷◌, ◌++◌, Bool, not, ◌||◌, ◌==◌, Option, codes, decimal, filter}
 use Rattle.std.specs.Result.{result_ok}
 use Rattle.hex.specs.Hex.{decode_of, encode_lower}
-use Rattle.zmtp_wire.specs.Fault.{fault_number}
+use Rattle.zmtp_wire.specs.Fault.{wire_fault_number}
 use Rattle.kernel_engine.specs.declared.end.SessionEnd.{SessionEnd}
 use Rattle.kernel_engine.specs.declared.end.SessionEnd.TheVariants.{Eof, Shutdown, Wire, Failed}
 
@@ -23,7 +23,7 @@ hex_octets text = result_ok (decode_of (without_white_space text))
 abbrev pub ending_text : SessionEnd → List ℕ
 ending_text Eof = codes "eof"
 ending_text (Shutdown restart) = codes "shutdown"
-ending_text (Wire fault) = codes "fault " ++ decimal (fault_number fault)
+ending_text (Wire fault) = codes "fault " ++ decimal (wire_fault_number fault)
 ending_text (Failed fault) = []
 
 -- The printed lines of a session: what the shell wrote and what was published, in lower-case digits, and how it ended.

@@ -3,7 +3,7 @@ use Rattle.std.specs.Prelude.{◌≡◌, ◌⊎◌, ℕ, ◌+◌, ◌<◌, ◌^�
 use Rattle.jmsg_envelope.specs.declared.envelope.Envelope.{Envelope}
 use Rattle.jmsg_envelope.specs.Envelope.{Opened}
 use Rattle.kernel_engine.specs.declared.end.SessionEnd.{SessionEnd}
-use Rattle.kernel_engine.specs.Exchange.{Outcome}
+use Rattle.kernel_engine.specs.Exchange.{ComesToByEnd}
 use Rattle.kernel_engine.specs.Peer.{Message}
 use Rattle.jkernel.specs.declared.engine.Engine.{Engine}
 use Rattle.jkernel.specs.Block.{block, reply_of, reply_text, ids_of}
@@ -38,4 +38,5 @@ pub record IsServedBy (old : Engine) (octets written : List ℕ) (new : Engine) 
 
 -- what a session comes to, by the way it ended
 abbrev pub Sessions : Engine → List ℕ → List ℕ → Engine → SessionEnd → Type 0
-Sessions old octets written new end = Outcome (λ engine. 2 ^ 62 < engine.next) (IsServedBy old) octets written new end
+Sessions old octets written new end =
+    ComesToByEnd (λ engine. 2 ^ 62 < engine.next) (IsServedBy old) octets written new end

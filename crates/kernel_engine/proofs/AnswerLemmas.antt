@@ -11,7 +11,7 @@ use Rattle.kernel_engine.specs.declared.end.SessionEnd.TheVariants.{Eof, Shutdow
 use Rattle.kernel_engine.specs.declared.fault.EngineFault.TheVariants.{Memory, Read, Write, Turns, Worn}
 use Rattle.kernel_engine.specs.Peer.{Message, messages_in, has_error}
 use Rattle.kernel_engine.specs.Server.{Answering, AnswersAll}
-use Rattle.kernel_engine.specs.Steps.{AnswersOne, AnswersWhole, AnswersFed}
+use Rattle.kernel_engine.specs.Steps.{PutsAnswer, AnswersSome, AnswersWhole, AnswersFed}
 use Rattle.kernel_engine.proofs.Legs.{puts_none, puts_on}
 use Rattle.kernel_engine.proofs.TrafficLemmas.{messages_on, error_on, answers_on}
 
@@ -108,12 +108,28 @@ answered_error answers old all item rest now before after error so_far =
       ends = ap has_error so_far.split ∙ error_on so_far.front (item ∷ rest) so_far.calm ∙ rw error refl;
     }
 
+-- what was answered before a message that wasn't
+answered_before : {Server : Type 0} (answers : Answering Server) (old : Server) (all : List Traffic) (message : Message)
+    (rest : List Traffic) (now : Server) (before middle after : Outflow)
+    → AnsweredSoFar answers old all (traffic.Message message ∷ rest) now before middle → after ≡ middle
+    → AnswersSome answers old all now before after [] 0
+answered_before answers old all message rest now before middle after so_far same = record {
+  front = so_far.front;
+  behind = traffic.Message message ∷ rest;
+  split = so_far.split;
+  calm = so_far.calm;
+  written = so_far.written;
+  answered = subst (λ w. AnswersAll answers old (messages_in so_far.front) w now) (sym (append-nil so_far.written))
+      so_far.answered;
+  puts = subst (λ o. Puts before o so_far.written 0) (sym same) so_far.puts;
+}
+
 -- a message couldn't be answered, or its answer not written
 pub answered_cut : {Server : Type 0} (IsWorn : Server → Type 0) (answers : Answering Server) (old : Server)
     (all : List Traffic) (message : Message) (rest : List Traffic) (now new : Server) (before middle after : Outflow)
     (end : SessionEnd)
     → AnsweredSoFar answers old all (traffic.Message message ∷ rest) now before middle
-    → AnswersOne IsWorn answers now message new middle after (Err end)
+    → PutsAnswer IsWorn answers now message new middle after (Err end)
     → AnswersFed IsWorn answers old all None new before after (Err end)
 answered_cut IsWorn answers old all message rest now new before middle after Eof so_far one = absurd one
 answered_cut IsWorn answers old all message rest now new before middle after (Shutdown restart) so_far one = absurd one
@@ -122,30 +138,12 @@ answered_cut IsWorn answers old all message rest now new before middle after (Fa
 answered_cut IsWorn answers old all message rest now new before middle after (Failed Turns) so_far one = absurd one
 answered_cut IsWorn answers old all message rest now new before middle after (Failed Memory) so_far same = (
   now,
-  record {
-    front = so_far.front;
-    behind = traffic.Message message ∷ rest;
-    split = so_far.split;
-    calm = so_far.calm;
-    written = so_far.written;
-    answered = subst (λ w. AnswersAll answers old (messages_in so_far.front) w now) (sym (append-nil so_far.written))
-        so_far.answered;
-    puts = subst (λ o. Puts before o so_far.written 0) (sym same) so_far.puts;
-  },
+  answered_before answers old all message rest now before middle after so_far same,
 )
 answered_cut IsWorn answers old all message rest now new before middle after (Failed Worn) so_far (worn, same) = (
   now,
   worn,
-  record {
-    front = so_far.front;
-    behind = traffic.Message message ∷ rest;
-    split = so_far.split;
-    calm = so_far.calm;
-    written = so_far.written;
-    answered = subst (λ w. AnswersAll answers old (messages_in so_far.front) w now) (sym (append-nil so_far.written))
-        so_far.answered;
-    puts = subst (λ o. Puts before o so_far.written 0) (sym same) so_far.puts;
-  },
+  answered_before answers old all message rest now before middle after so_far same,
 )
 answered_cut IsWorn answers old all message rest now new before middle after (Failed Write) so_far
     (written, lost, one, puts) = (

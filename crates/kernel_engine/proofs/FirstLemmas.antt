@@ -1,6 +1,6 @@
 -- What comes first behind a peer's greeting.
 use Rattle.std.proofs.Common.{◌≡◌, ◌⊎◌, inl, inr, ℕ, List, [], ◌++◌, false, Option, Some, None, refl, sym, ◌∙◌, ap}
-use Rattle.std.proofs.Common.{subst, arith}
+use Rattle.std.proofs.Common.{subst}
 use Rattle.zmtp_wire.specs.declared.fault.WireFault.{WireFault}
 use Rattle.zmtp_wire.specs.declared.fault.WireFault.TheVariants.{OutOfMemory}
 use Rattle.zmtp_wire.specs.declared.traffic.Traffic.{Traffic}
@@ -9,11 +9,10 @@ use Rattle.zmtp_wire.specs.Grammar.{ReadsUpTo, IsFaulty, IsUnfinished}
 use Rattle.zmtp_wire.specs.Decoding.{Decoding, Feeds, IsFaultOf}
 use Rattle.zmtp_wire.specs.Device.{Inflow}
 use Rattle.kernel_engine.specs.declared.end.SessionEnd.{SessionEnd}
-use Rattle.kernel_engine.specs.declared.end.SessionEnd.TheVariants.{Eof, Shutdown, Wire, Failed}
-use Rattle.kernel_engine.specs.declared.fault.EngineFault.TheVariants.{Memory, Read, Write, Turns, Worn}
+use Rattle.kernel_engine.specs.declared.end.SessionEnd.TheVariants.{Wire}
 use Rattle.kernel_engine.specs.Exchange.{Reading}
 use Rattle.kernel_engine.specs.Steps.{Leg, IsStop, BringsNothing, fresh}
-use Rattle.kernel_engine.proofs.Legs.{leg_none, leg_on, stop_on}
+use Rattle.kernel_engine.proofs.Legs.{leg_none, leg_on, stop_on, decided, wire_decided}
 use Rattle.kernel_engine.proofs.Unfinished.{nothing_unfinished}
 
 -- no traffic came yet, and all that was read is kept
@@ -33,24 +32,13 @@ none_first old turns decoder is = rw is (record {
 })
 
 -- reading stops
-stop_brings : (octets : List ℕ) (end : SessionEnd) → IsStop end → IsUnfinished usual_limits octets
-    → BringsNothing octets end
-stop_brings octets Eof stop unfinished = unfinished
-stop_brings octets (Shutdown restart) stop unfinished = absurd stop
-stop_brings octets (Wire fault) stop unfinished = absurd stop
-stop_brings octets (Failed Memory) stop unfinished = absurd stop
-stop_brings octets (Failed Read) stop unfinished = unfinished
-stop_brings octets (Failed Write) stop unfinished = absurd stop
-stop_brings octets (Failed Turns) stop unfinished = unfinished
-stop_brings octets (Failed Worn) stop unfinished = absurd stop
-
 pub stopped_first : (one two three : Inflow) (turns middle left : ℕ) (decoder : Decoding) (end : SessionEnd)
     → NothingFirst one two turns middle decoder → IsStop end
     → Reading two three middle left [] end → (octets : List ℕ) × BringsNothing octets end
     × Reading one three turns left octets end
 stopped_first one two three turns middle left decoder end so_far stop reading = (
   decoder.kept,
-  stop_brings decoder.kept end stop so_far.unfinished,
+  inl (stop, so_far.unfinished),
   stop_on one two three turns middle left decoder.kept end so_far.leg reading,
 )
 
@@ -100,15 +88,12 @@ refused_first one two three turns middle left old new piece fault so_far leg fee
     let ((rest, read, refused), spent) = fed_all old new piece [] (Some fault) so_far.limits feeds in
     let whole = leg_on one two three turns middle left old.kept piece so_far.leg leg in (
       old.kept ++ piece,
-      refused_brings (old.kept ++ piece) rest fault (none_read (old.kept ++ piece) rest read) refused,
-      record {
-        taken = whole.taken;
-        draws = whole.draws;
-        counted = whole.counted;
-        few = omega (arith, whole.few);
-        spent = tt;
-        read_out = tt;
-      },
+      inr (
+        fault,
+        refl,
+        refused_brings (old.kept ++ piece) rest fault (none_read (old.kept ++ piece) rest read) refused,
+      ),
+      decided one three turns left (old.kept ++ piece) (Wire fault) (wire_decided fault) whole,
     )
 
 -- nothing came in this piece either

@@ -1,12 +1,11 @@
 -- Hearing a peer, piece by piece.
 use Rattle.std.proofs.Common.{◌≡◌, ◌⊎◌, inl, inr, ℕ, List, [], ◌∷◌, ◌++◌, true, false, Option, Some, None, Ok, Err}
-use Rattle.std.proofs.Common.{refl, sym, ◌∙◌, ap, subst, arith, append_assoc}
-use Rattle.std.specs.Prelude.{⊤}
+use Rattle.std.proofs.Common.{refl, sym, ◌∙◌, ap, subst, append_assoc}
 use Rattle.std.proofs.lemmas.List.{append-nil}
 use Rattle.zmtp_wire.specs.declared.fault.WireFault.{WireFault}
 use Rattle.zmtp_wire.specs.declared.fault.WireFault.TheVariants.{PeerError}
 use Rattle.zmtp_wire.specs.declared.traffic.Traffic.{Traffic}
-use Rattle.zmtp_wire.specs.declared.decoder.Fed.{Fed}
+use Rattle.zmtp_wire.specs.declared.traffic.decoder.Fed.{Fed}
 use Rattle.zmtp_wire.specs.Limits.{usual_limits}
 use Rattle.zmtp_wire.specs.Grammar.{Reads, ReadsUpTo, IsFaulty, IsUnfinished}
 use Rattle.zmtp_wire.specs.Decoding.{Decoding, Feeds}
@@ -16,10 +15,11 @@ use Rattle.kernel_engine.specs.declared.end.SessionEnd.TheVariants.{Eof, Shutdow
 use Rattle.kernel_engine.specs.declared.fault.EngineFault.TheVariants.{Memory, Read, Write, Turns, Worn}
 use Rattle.kernel_engine.specs.Peer.{messages_in, has_error, EndsAs, EndsBehind}
 use Rattle.kernel_engine.specs.Server.{Answering, AnswersAll, IsAnswered}
-use Rattle.kernel_engine.specs.Exchange.{Reading, Exchange, Outcome, IsCut, failed_writes}
+use Rattle.kernel_engine.specs.Exchange.{Exchange, ComesToByEnd, IsCut, failed_writes}
 use Rattle.kernel_engine.specs.Steps.{Leg, IsFed, HearsOn, HearsPiece, HearsNone, AnswersWhole, AnswersSome}
 use Rattle.kernel_engine.specs.Steps.{AnswersFed, fresh}
 use Rattle.kernel_engine.proofs.Legs.{leg_none, leg_on, stop_on, puts_on}
+use Rattle.kernel_engine.proofs.Legs.{IsDecided, decided, wire_decided, memory_decided, write_decided, worn_decided}
 use Rattle.kernel_engine.proofs.TrafficLemmas.{messages_on, error_on, answers_on, reads_on}
 use Rattle.kernel_engine.proofs.Unfinished.{nothing_unfinished}
 use Rattle.kernel_engine.proofs.ShakeLemmas.{stop_outcome, stop_puts}
@@ -148,67 +148,13 @@ heard_more answers old now new decoder decoder' octets written piece more None b
           whole.answered;
     }
 
--- the end is decided by what came, and not by reading
-abbrev IsDecided : SessionEnd → Type 0
-IsDecided Eof = ⊥
-IsDecided (Shutdown restart) = ⊥
-IsDecided (Wire fault) = ⊤
-IsDecided (Failed Memory) = ⊤
-IsDecided (Failed Read) = ⊥
-IsDecided (Failed Write) = ⊤
-IsDecided (Failed Turns) = ⊥
-IsDecided (Failed Worn) = ⊤
-
-decided : (inflow inflow' : Inflow) (turns left : ℕ) (octets : List ℕ) (end : SessionEnd) → IsDecided end
-    → Leg inflow inflow' turns left octets → Reading inflow inflow' turns left octets end
-decided inflow inflow' turns left octets Eof is leg = absurd is
-decided inflow inflow' turns left octets (Shutdown restart) is leg = absurd is
-decided inflow inflow' turns left octets (Wire fault) is leg =
-    record {
-      taken = leg.taken;
-      draws = leg.draws;
-      counted = leg.counted;
-      few = omega (arith, leg.few);
-      spent = tt;
-      read_out = tt;
-    }
-decided inflow inflow' turns left octets (Failed Memory) is leg =
-    record {
-      taken = leg.taken;
-      draws = leg.draws;
-      counted = leg.counted;
-      few = omega (arith, leg.few);
-      spent = tt;
-      read_out = tt;
-    }
-decided inflow inflow' turns left octets (Failed Read) is leg = absurd is
-decided inflow inflow' turns left octets (Failed Write) is leg =
-    record {
-      taken = leg.taken;
-      draws = leg.draws;
-      counted = leg.counted;
-      few = omega (arith, leg.few);
-      spent = tt;
-      read_out = tt;
-    }
-decided inflow inflow' turns left octets (Failed Turns) is leg = absurd is
-decided inflow inflow' turns left octets (Failed Worn) is leg =
-    record {
-      taken = leg.taken;
-      draws = leg.draws;
-      counted = leg.counted;
-      few = omega (arith, leg.few);
-      spent = tt;
-      read_out = tt;
-    }
-
 -- what a piece that ends hearing comes to
 record PieceEnds {Server : Type 0} (IsWorn : Server → Type 0) (answers : Answering Server) (old new : Server)
     (octets written : List ℕ) (before after : Outflow) (end : SessionEnd) : Type 0 where
   more : List ℕ
   puts : Puts before after more (failed_writes end)
   is : IsDecided end
-  outcome : Outcome IsWorn (IsAnswered answers old) octets (written ++ more) new end
+  outcome : ComesToByEnd IsWorn (IsAnswered answers old) octets (written ++ more) new end
 
 -- all that was fed is read up to some rest
 fed_read : (decoder decoder' : Decoding) (piece : List ℕ) (more : List Traffic) (fault : Option WireFault)
@@ -241,7 +187,7 @@ refused_ends : {Server : Type 0} (IsWorn : Server → Type 0) (answers : Answeri
     (before after : Outflow)
     → HeardSoFar answers old now decoder octets written → Feeds decoder piece more (Some found) decoder'
     → (whole : AnswersWhole answers now more new before after false)
-    → Outcome IsWorn (IsAnswered answers old) (octets ++ piece) (written ++ whole.written) new (Wire found)
+    → ComesToByEnd IsWorn (IsAnswered answers old) (octets ++ piece) (written ++ whole.written) new (Wire found)
 refused_ends IsWorn answers old now new decoder decoder' octets written piece more found before after heard
     ((rest, read, inl memory), spent) whole =
     let all = read_more answers old now decoder octets written piece more rest heard read in
@@ -274,7 +220,7 @@ fault_ends : {Server : Type 0} (IsWorn : Server → Type 0) (answers : Answering
     (found : WireFault) (before after : Outflow)
     → HeardSoFar answers old now decoder octets written → Feeds decoder piece more fault decoder' → fault ≡ Some found
     → (whole : AnswersWhole answers now more new before after false)
-    → Outcome IsWorn (IsAnswered answers old) (octets ++ piece) (written ++ whole.written) new (Wire found)
+    → ComesToByEnd IsWorn (IsAnswered answers old) (octets ++ piece) (written ++ whole.written) new (Wire found)
 fault_ends IsWorn answers old now new decoder decoder' octets written piece more fault found before after heard feeds is
     whole =
     refused_ends IsWorn answers old now new decoder decoder' octets written piece more found before after heard
@@ -286,7 +232,7 @@ peer_ends : {Server : Type 0} (IsWorn : Server → Type 0) (answers : Answering 
     (found : WireFault) (before after : Outflow)
     → HeardSoFar answers old now decoder octets written → Feeds decoder piece more fault decoder' → found ≡ PeerError
     → (whole : AnswersWhole answers now more new before after true)
-    → Outcome IsWorn (IsAnswered answers old) (octets ++ piece) (written ++ whole.written) new (Wire found)
+    → ComesToByEnd IsWorn (IsAnswered answers old) (octets ++ piece) (written ++ whole.written) new (Wire found)
 peer_ends IsWorn answers old now new decoder decoder' octets written piece more fault found before after heard feeds is
     whole =
     let (rest, read) = fed_read decoder decoder' piece more fault feeds in
@@ -321,7 +267,7 @@ piece_ends IsWorn answers old now new decoder decoder' octets written piece more
     feeds (inl (is, whole)) = record {
       more = whole.written;
       puts = whole.puts;
-      is = tt;
+      is = wire_decided found;
       outcome = peer_ends IsWorn answers old now new decoder decoder' octets written piece more fault found before after
           heard feeds is whole;
     }
@@ -329,45 +275,46 @@ piece_ends IsWorn answers old now new decoder decoder' octets written piece more
     feeds (inr (is, whole)) = record {
       more = whole.written;
       puts = whole.puts;
-      is = tt;
-      outcome = fault_ends IsWorn answers old now new decoder decoder' octets written piece more fault found before after
-          heard feeds is whole;
+      is = wire_decided found;
+      outcome = fault_ends IsWorn answers old now new decoder decoder' octets written piece more fault found before
+          after heard feeds is whole;
     }
 piece_ends IsWorn answers old now new decoder decoder' octets written piece more fault before after (Failed Memory)
     heard feeds (state, some) = record {
       more = some.written;
       puts = some.puts;
-      is = tt;
+      is = memory_decided;
       outcome = (
         state,
         subst (λ w. IsCut (IsAnswered answers old) (octets ++ piece) (written ++ w) state) (append-nil some.written)
-            (some_cut answers old now state decoder decoder' octets written piece more fault before after [] 0 heard feeds
-            some),
+            (some_cut answers old now state decoder decoder' octets written piece more fault before after [] 0 heard
+            feeds some),
       );
     }
 piece_ends IsWorn answers old now new decoder decoder' octets written piece more fault before after (Failed Worn) heard
     feeds (state, worn, some) = record {
       more = some.written;
       puts = some.puts;
-      is = tt;
+      is = worn_decided;
       outcome = (
         state,
         worn,
         subst (λ w. IsCut (IsAnswered answers old) (octets ++ piece) (written ++ w) state) (append-nil some.written)
-            (some_cut answers old now state decoder decoder' octets written piece more fault before after [] 0 heard feeds
-            some),
+            (some_cut answers old now state decoder decoder' octets written piece more fault before after [] 0 heard
+            feeds some),
       );
     }
 piece_ends IsWorn answers old now new decoder decoder' octets written piece more fault before after (Failed Write) heard
     feeds (lost, some) = record {
       more = some.written;
       puts = some.puts;
-      is = tt;
+      is = write_decided;
       outcome = (
         lost,
-        subst (λ w. IsCut (IsAnswered answers old) (octets ++ piece) w new) (sym (append_assoc written some.written lost))
-            (some_cut answers old now new decoder decoder' octets written piece more fault before after lost 1 heard feeds
-            some),
+        subst (λ w. IsCut (IsAnswered answers old) (octets ++ piece) w new)
+            (sym (append_assoc written some.written lost))
+            (some_cut answers old now new decoder decoder' octets written piece more fault before after lost 1 heard
+            feeds some),
       );
     }
 
@@ -411,7 +358,7 @@ hearing_ends_first IsWorn answers old new fed decoder inflow outflow outflow' tu
       written = ends.more;
       reading = decided inflow inflow turns turns [] end ends.is (leg_none inflow turns);
       puts = ends.puts;
-      outcome = subst (λ o. Outcome IsWorn (IsAnswered answers old) o ends.more new end) (sym (append-nil before))
+      outcome = subst (λ o. ComesToByEnd IsWorn (IsAnswered answers old) o ends.more new end) (sym (append-nil before))
           ends.outcome;
     }
 
@@ -479,7 +426,7 @@ hearing_ends IsWorn answers old now new decoder decoder' one two three out middl
       reading = decided one three turns left (so_far.read ++ piece.octets) end ends.is
           (leg_on one two three turns between left so_far.read piece.octets so_far.leg piece.leg);
       puts = puts_on out middle last so_far.written ends.more (failed_writes end) so_far.puts ends.puts;
-      outcome = subst (λ o. Outcome IsWorn (IsAnswered answers old) o (so_far.written ++ ends.more) new end)
+      outcome = subst (λ o. ComesToByEnd IsWorn (IsAnswered answers old) o (so_far.written ++ ends.more) new end)
           (append_assoc before so_far.read piece.octets) ends.outcome;
     }
 
@@ -493,7 +440,7 @@ hearing_cut IsWorn answers old now decoder inflow inflow' outflow outflow' turns
     record {
       read = so_far.read;
       written = so_far.written;
-      reading = decided inflow inflow' turns left so_far.read (Failed Memory) tt so_far.leg;
+      reading = decided inflow inflow' turns left so_far.read (Failed Memory) memory_decided so_far.leg;
       puts = so_far.puts;
       outcome = (
         now,

@@ -5,36 +5,28 @@ use Rattle.std.specs.Prelude.{MatchBool}
 use Rattle.std.proofs.lemmas.List.{append-nil, take-append-le, drop-append-le}
 use Rattle.zmtp_wire.specs.declared.fault.WireFault.{WireFault}
 use Rattle.zmtp_wire.specs.declared.fault.WireFault.TheVariants as faults
-use Rattle.zmtp_wire.specs.declared.limits.Limits.{Limits}
-use Rattle.zmtp_wire.specs.declared.socket_type.SocketType.{SocketType}
+use Rattle.zmtp_wire.specs.declared.handshake.socket_type.SocketType.{SocketType}
 use Rattle.zmtp_wire.specs.declared.traffic.Traffic.{Traffic}
 use Rattle.zmtp_wire.specs.Limits.{usual_limits}
-use Rattle.zmtp_wire.specs.Grammar.{Spells, ReadsUpTo, HasNoTraffic, IsFaulty}
+use Rattle.zmtp_wire.specs.Grammar.{ReadsUpTo, HasNoTraffic}
+use Rattle.zmtp_wire.specs.Laws.{FrontHasOneReading, ReadingGoesOn, HasOneFault, FaultyHasNoTraffic, FaultStays}
 use Rattle.zmtp_wire.specs.Greeting.{IsGreeting, IsRefusedGreeting, HasSignature, HasVersion, HasNullMechanism}
 use Rattle.zmtp_wire.specs.Greeting.{major_version}
 use Rattle.zmtp_wire.specs.Ready.{IsReady, ReadyHasOneOutcome}
 use Rattle.kernel_engine.specs.declared.end.SessionEnd.{SessionEnd}
 use Rattle.kernel_engine.specs.declared.end.SessionEnd.TheVariants.{Eof, Shutdown, Wire, Failed}
 use Rattle.kernel_engine.specs.Peer.{Message, messages_in, has_error, EndsAs, EndsBehind, Says, IsGreeted, ComesFirst}
-use Rattle.kernel_engine.specs.Peer.{IsTurnedAway, IsMet}
+use Rattle.kernel_engine.specs.Peer.{IsTurnedAway}
 use Rattle.kernel_engine.specs.Laws.{HearsOnce, MetOrTurnedAway, EndStays}
 use Rattle.kernel_engine.proofs.TrafficLemmas.{messages_to_error, error_stays}
 
 -- the laws of the layer below
 pub record Laws : Type 0 where
-  pub front : (limits : Limits) (octets front others : List ℕ) (one other : Traffic) (rest after : List ℕ)
-      → octets ≡ front ++ rest → Spells limits front one → octets ≡ others ++ after → Spells limits others other
-      → (one ≡ other) × (rest ≡ after)
-  pub goes_on : (limits : Limits) (octets : List ℕ) (one other : List Traffic) (rest others : List ℕ)
-      → ReadsUpTo limits octets one rest → ReadsUpTo limits octets other others
-      → ((more : List Traffic) × (other ≡ one ++ more) × ReadsUpTo limits rest more others)
-      ⊎ ((more : List Traffic) × (one ≡ other ++ more) × ReadsUpTo limits others more rest)
-  pub fault : (limits : Limits) (octets : List ℕ) (one other : WireFault) → IsFaulty limits octets one
-      → IsFaulty limits octets other → one ≡ other
-  pub no_traffic : (limits : Limits) (octets : List ℕ) (fault : WireFault) → IsFaulty limits octets fault
-      → HasNoTraffic limits octets
-  pub stays : (limits : Limits) (octets after : List ℕ) (fault : WireFault) → IsFaulty limits octets fault
-      → IsFaulty limits (octets ++ after) fault
+  pub front : FrontHasOneReading
+  pub goes_on : ReadingGoesOn
+  pub fault : HasOneFault
+  pub no_traffic : FaultyHasNoTraffic
+  pub stays : FaultStays
   pub ready : ReadyHasOneOutcome
 
 -- how a rest ends, which begins with no whole traffic then

@@ -1,10 +1,13 @@
 -- Reads and writes in turn.
 use Rattle.std.proofs.Common.{◌≡◌, ℕ, zero, suc, ◌+◌, List, [], ◌++◌, Option, Some, None, refl, sym, ◌∙◌, ap, arith}
-use Rattle.std.proofs.Common.{append_assoc, add-zero, add-suc, length-append}
+use Rattle.std.proofs.Common.{append_assoc, add-zero, add-suc, length-append, ◌≢◌, subst}
 use Rattle.std.proofs.lemmas.List.{append-nil}
 use Rattle.std.specs.Io.KnownBytes.{Appends, Consumes}
 use Rattle.zmtp_wire.specs.Device.{Inflow, Outflow, Draws, Puts, risen, risen_by}
+use Rattle.zmtp_wire.specs.declared.fault.WireFault.{WireFault}
 use Rattle.kernel_engine.specs.declared.end.SessionEnd.{SessionEnd}
+use Rattle.kernel_engine.specs.declared.end.SessionEnd.TheVariants.{Eof, Wire, Failed}
+use Rattle.kernel_engine.specs.declared.fault.EngineFault.TheVariants.{Memory, Write, Turns, Worn}
 use Rattle.kernel_engine.specs.Exchange.{Reading, failed_reads}
 use Rattle.kernel_engine.specs.Steps.{Leg}
 
@@ -83,6 +86,36 @@ pub stop_on : (one two three : Inflow) (turns middle left : ℕ) (octets : List 
     → Reading one three turns left octets end
 stop_on one two three turns middle left octets end a b =
     rw (append-nil octets) at (reading_on one two three turns middle left octets [] end a b)
+
+-- the end is decided by what came, and not by reading
+pub record IsDecided (end : SessionEnd) : Type 0 where
+  pub reads : failed_reads end ≡ 0
+  pub turns : end ≢ Failed Turns
+  pub octets : end ≢ Eof
+
+pub wire_decided : (fault : WireFault) → IsDecided (Wire fault)
+wire_decided fault = record { reads = refl; turns = λ is. cc; octets = λ is. cc }
+
+pub memory_decided : IsDecided (Failed Memory)
+memory_decided = record { reads = refl; turns = λ is. cc; octets = λ is. cc }
+
+pub write_decided : IsDecided (Failed Write)
+write_decided = record { reads = refl; turns = λ is. cc; octets = λ is. cc }
+
+pub worn_decided : IsDecided (Failed Worn)
+worn_decided = record { reads = refl; turns = λ is. cc; octets = λ is. cc }
+
+-- what was read so far ends nothing
+pub decided : (inflow inflow' : Inflow) (turns left : ℕ) (octets : List ℕ) (end : SessionEnd) → IsDecided end
+    → Leg inflow inflow' turns left octets → Reading inflow inflow' turns left octets end
+decided inflow inflow' turns left octets end is leg = record {
+  taken = leg.taken;
+  draws = subst (Draws inflow inflow' octets leg.taken) (sym is.reads) leg.draws;
+  counted = leg.counted;
+  few = omega (arith, leg.few);
+  spent = λ stops. absurd (is.turns stops);
+  read_out = λ stops. absurd (is.octets stops);
+}
 
 -- nothing was written
 pub puts_none : (old : Outflow) → Puts old old [] 0

@@ -4,9 +4,9 @@ use Rattle.std.proofs.Common.{arith, append_assoc, length-append}
 use Rattle.std.specs.Prelude.{⊤}
 use Rattle.std.specs.List.{flat_map}
 use Rattle.std.proofs.lemmas.List.{append-nil, take-append-drop, length-take-le}
-use Rattle.zmtp_wire.specs.declared.socket_type.SocketType.{SocketType}
-use Rattle.zmtp_wire.specs.declared.socket_type.SocketType.TheVariants.{Rep}
-use Rattle.zmtp_wire.specs.declared.decoder.Fed.{Fed}
+use Rattle.zmtp_wire.specs.declared.handshake.socket_type.SocketType.{SocketType}
+use Rattle.zmtp_wire.specs.declared.handshake.socket_type.SocketType.TheVariants.{Rep}
+use Rattle.zmtp_wire.specs.declared.traffic.decoder.Fed.{Fed}
 use Rattle.zmtp_wire.specs.Frame.{text}
 use Rattle.zmtp_wire.specs.Greeting.{IsGreeting}
 use Rattle.zmtp_wire.specs.Decoding.{Decoding}
@@ -16,7 +16,7 @@ use Rattle.kernel_engine.specs.declared.end.SessionEnd.TheVariants.{Eof, Shutdow
 use Rattle.kernel_engine.specs.declared.fault.EngineFault.TheVariants.{Memory, Read, Write, Turns, Worn}
 use Rattle.kernel_engine.specs.Peer.{Message, IsTurnedAway, IsMet}
 use Rattle.kernel_engine.specs.Server.{Answering, AnswersAll, IsAnswered, IsServed, IsEchoed, Serves, Echoes}
-use Rattle.kernel_engine.specs.Exchange.{Exchange, Outcome, IsCut, failed_writes}
+use Rattle.kernel_engine.specs.Exchange.{Exchange, ComesToByEnd, IsCut, failed_writes}
 use Rattle.kernel_engine.specs.Steps.{Meets, TurnsAway, HearsOn}
 use Rattle.kernel_engine.proofs.Legs.{reading_on, puts_on}
 use Rattle.kernel_engine.proofs.ShakeLemmas.{front_64, behind_64}
@@ -44,8 +44,8 @@ carried_cut IsWorn IsWorn' Comes Comes' before opening state carries octets writ
 pub carried : {One Other : Type 0} (IsWorn : One → Type 0) (IsWorn' : Other → Type 0)
     (Comes : List ℕ → List ℕ → One → SessionEnd → Type 0) (Comes' : List ℕ → List ℕ → Other → SessionEnd → Type 0)
     (before opening : List ℕ) (state : One → Other) → Carries IsWorn IsWorn' Comes Comes' before opening state
-    → (octets written : List ℕ) (now : One) (end : SessionEnd) → Outcome IsWorn Comes octets written now end
-    → Outcome IsWorn' Comes' (before ++ octets) (opening ++ written) (state now) end
+    → (octets written : List ℕ) (now : One) (end : SessionEnd) → ComesToByEnd IsWorn Comes octets written now end
+    → ComesToByEnd IsWorn' Comes' (before ++ octets) (opening ++ written) (state now) end
 carried IsWorn IsWorn' Comes Comes' before opening state carries octets written now Eof comes =
     carries.comes octets written now Eof comes
 carried IsWorn IsWorn' Comes Comes' before opening state carries octets written now (Shutdown restart) comes = comes
@@ -133,7 +133,7 @@ serve_met {Server} IsWorn answers ours old new fed decoder peer one two three ou
       written = meets.written ++ heard.written;
       reading = reading_on one two three turns between left meets.read heard.read end meets.leg heard.reading;
       puts = puts_on out middle last meets.written heard.written (failed_writes end) meets.puts heard.puts;
-      outcome = subst (λ o. Outcome IsWorn (IsServed answers ours old) o (meets.written ++ heard.written) new end)
+      outcome = subst (λ o. ComesToByEnd IsWorn (IsServed answers ours old) o (meets.written ++ heard.written) new end)
           grouped
           (carried IsWorn IsWorn (IsAnswered answers old) (IsServed answers ours old) head meets.written (λ s. s)
           carries (meets.behind ++ heard.read) heard.written new end heard.outcome);

@@ -6,46 +6,38 @@ use Rattle.std.specs.Prelude.{⊤}
 use Rattle.std.proofs.lemmas.List.{append-nil, take_at, drop_at}
 use Rattle.zmtp_wire.specs.declared.fault.WireFault.{WireFault}
 use Rattle.zmtp_wire.specs.declared.traffic.Traffic.{Traffic}
-use Rattle.zmtp_wire.specs.declared.socket_type.SocketType.{SocketType}
+use Rattle.zmtp_wire.specs.declared.handshake.socket_type.SocketType.{SocketType}
 use Rattle.zmtp_wire.specs.Limits.{usual_limits}
 use Rattle.zmtp_wire.specs.Grammar.{Spells, IsFaulty, IsUnfinished}
 use Rattle.zmtp_wire.specs.Greeting.{greeting_octets, IsGreeting, IsRefusedGreeting}
 use Rattle.zmtp_wire.specs.Ready.{IsReady, ready_octets}
 use Rattle.zmtp_wire.specs.Decoding.{Decoding, Feeds}
 use Rattle.zmtp_wire.specs.Device.{Inflow, Outflow, Puts}
-use Rattle.zmtp_wire.specs.declared.decoder.Fed.{Fed}
+use Rattle.zmtp_wire.specs.declared.traffic.decoder.Fed.{Fed}
 use Rattle.kernel_engine.specs.declared.end.SessionEnd.{SessionEnd}
-use Rattle.kernel_engine.specs.declared.end.SessionEnd.TheVariants.{Eof, Shutdown, Wire, Failed}
-use Rattle.kernel_engine.specs.declared.fault.EngineFault.TheVariants.{Memory, Read, Write, Turns, Worn}
+use Rattle.kernel_engine.specs.declared.shaking.Shaken.{Shaken}
+use Rattle.kernel_engine.specs.declared.end.SessionEnd.TheVariants.{Eof, Wire, Failed}
+use Rattle.kernel_engine.specs.declared.fault.EngineFault.TheVariants.{Memory, Write}
 use Rattle.kernel_engine.specs.Peer.{IsGreeted, IsTurnedAway}
-use Rattle.kernel_engine.specs.Exchange.{Reading, Exchange, Outcome, failed_writes}
+use Rattle.kernel_engine.specs.Exchange.{Reading, Exchange, ComesToByEnd, failed_writes}
 use Rattle.kernel_engine.specs.Steps.{Leg, IsStop, IsFed, Meets, TurnsAway, BringsNothing, PutsAll, fresh}
-use Rattle.kernel_engine.proofs.Legs.{leg_none, leg_on, reading_on, puts_on}
+use Rattle.kernel_engine.proofs.Legs.{leg_none, leg_on, reading_on, decided, wire_decided, memory_decided}
+use Rattle.kernel_engine.proofs.Legs.{write_decided, puts_on}
 use Rattle.kernel_engine.proofs.Unfinished.{nothing_unfinished}
 
 -- reading that stopped leaves what was due
 pub stop_outcome : {State : Type 0} (IsWorn : State → Type 0) (Comes : List ℕ → List ℕ → State → SessionEnd → Type 0)
     (octets written : List ℕ) (new : State) (end : SessionEnd) → IsStop end
-    → Comes octets written new Eof → Outcome IsWorn Comes octets written new end
-stop_outcome IsWorn Comes octets written new Eof stop comes = comes
-stop_outcome IsWorn Comes octets written new (Shutdown restart) stop comes = absurd stop
-stop_outcome IsWorn Comes octets written new (Wire fault) stop comes = absurd stop
-stop_outcome IsWorn Comes octets written new (Failed Memory) stop comes = absurd stop
-stop_outcome IsWorn Comes octets written new (Failed Read) stop comes = comes
-stop_outcome IsWorn Comes octets written new (Failed Write) stop comes = absurd stop
-stop_outcome IsWorn Comes octets written new (Failed Turns) stop comes = comes
-stop_outcome IsWorn Comes octets written new (Failed Worn) stop comes = absurd stop
+    → Comes octets written new Eof → ComesToByEnd IsWorn Comes octets written new end
+stop_outcome IsWorn Comes octets written new end (inl is) comes = rw is comes
+stop_outcome IsWorn Comes octets written new end (inr (inl is)) comes = rw is comes
+stop_outcome IsWorn Comes octets written new end (inr (inr is)) comes = rw is comes
 
 pub stop_puts : (before after : Outflow) (octets : List ℕ) (end : SessionEnd) → IsStop end → Puts before after octets 0
     → Puts before after octets (failed_writes end)
-stop_puts before after octets Eof stop puts = puts
-stop_puts before after octets (Shutdown restart) stop puts = absurd stop
-stop_puts before after octets (Wire fault) stop puts = absurd stop
-stop_puts before after octets (Failed Memory) stop puts = absurd stop
-stop_puts before after octets (Failed Read) stop puts = puts
-stop_puts before after octets (Failed Write) stop puts = absurd stop
-stop_puts before after octets (Failed Turns) stop puts = puts
-stop_puts before after octets (Failed Worn) stop puts = absurd stop
+stop_puts before after octets end (inl is) puts = rw is puts
+stop_puts before after octets end (inr (inl is)) puts = rw is puts
+stop_puts before after octets end (inr (inr is)) puts = rw is puts
 
 -- a peer of whom less than a greeting was read
 silent : (ours : SocketType) (octets opening : List ℕ) → length octets < 64 → opening ≡ greeting_octets
@@ -56,37 +48,21 @@ silent ours octets opening short is = inl (record { short = short; greets = is; 
 pub greeting_unsent : (ours : SocketType) (inflow : Inflow) (before after : Outflow) (turns : ℕ) (octets : List ℕ)
     (end : SessionEnd) → octets ≡ greeting_octets → PutsAll before after octets (Err end)
     → Exchange (TurnsAway ours) inflow inflow before after turns turns tt end
-greeting_unsent ours inflow before after turns octets Eof same put = absurd put
-greeting_unsent ours inflow before after turns octets (Shutdown restart) same put = absurd put
-greeting_unsent ours inflow before after turns octets (Wire fault) same put = absurd put
-greeting_unsent ours inflow before after turns octets (Failed Memory) same put = absurd put
-greeting_unsent ours inflow before after turns octets (Failed Worn) same put = absurd put
-greeting_unsent ours inflow before after turns octets (Failed Read) same put = absurd put
-greeting_unsent ours inflow before after turns octets (Failed Turns) same put = absurd put
-greeting_unsent ours inflow before after turns octets (Failed Write) same (front, lost, is, puts) =
-    let none = leg_none inflow turns in
+greeting_unsent ours inflow before after turns octets end same (failed, (front, lost, is, puts)) = rw failed (record {
+  read = [];
+  written = front;
+  reading = decided inflow inflow turns turns [] (Failed Write) write_decided (leg_none inflow turns);
+  puts = puts;
+  outcome = (
+    lost,
     record {
-      read = [];
-      written = front;
-      reading = record {
-        taken = none.taken;
-        draws = none.draws;
-        counted = none.counted;
-        few = omega (arith, none.few);
-        spent = tt;
-        read_out = tt;
-      };
-      puts = puts;
-      outcome = (
-        lost,
-        record {
-          front = [];
-          behind = [];
-          split = refl;
-          so_far = silent ours [] (front ++ lost) (omega arith) (sym is ∙ same);
-        },
-      );
-    }
+      front = [];
+      behind = [];
+      split = refl;
+      so_far = silent ours [] (front ++ lost) (omega arith) (sym is ∙ same);
+    },
+  );
+})
 
 -- no whole greeting was read
 pub greeting_stopped : (ours : SocketType) (inflow inflow' : Inflow) (before after : Outflow) (turns left : ℕ)
@@ -101,40 +77,6 @@ greeting_stopped ours inflow inflow' before after turns left octets end puts sto
   outcome = stop_outcome (λ (state : ⊤). ⊥) (λ octets written (state : ⊤) ending.
       IsTurnedAway ours octets written ending) octets greeting_octets tt end stop
       (silent ours octets greeting_octets short refl);
-}
-
--- what was read so far ends nothing
-leg_wire : (inflow inflow' : Inflow) (turns left : ℕ) (octets : List ℕ) (fault : WireFault)
-    → Leg inflow inflow' turns left octets → Reading inflow inflow' turns left octets (Wire fault)
-leg_wire inflow inflow' turns left octets fault leg = record {
-  taken = leg.taken;
-  draws = leg.draws;
-  counted = leg.counted;
-  few = omega (arith, leg.few);
-  spent = tt;
-  read_out = tt;
-}
-
-leg_memory : (inflow inflow' : Inflow) (turns left : ℕ) (octets : List ℕ) → Leg inflow inflow' turns left octets
-    → Reading inflow inflow' turns left octets (Failed Memory)
-leg_memory inflow inflow' turns left octets leg = record {
-  taken = leg.taken;
-  draws = leg.draws;
-  counted = leg.counted;
-  few = omega (arith, leg.few);
-  spent = tt;
-  read_out = tt;
-}
-
-leg_write : (inflow inflow' : Inflow) (turns left : ℕ) (octets : List ℕ) → Leg inflow inflow' turns left octets
-    → Reading inflow inflow' turns left octets (Failed Write)
-leg_write inflow inflow' turns left octets leg = record {
-  taken = leg.taken;
-  draws = leg.draws;
-  counted = leg.counted;
-  few = omega (arith, leg.few);
-  spent = tt;
-  read_out = tt;
 }
 
 -- the greeting at the front of what was read
@@ -154,7 +96,7 @@ greeting_refused ours inflow inflow' before after turns left opening fault puts 
     record {
       read = opening;
       written = greeting_octets;
-      reading = leg_wire inflow inflow' turns left opening fault leg;
+      reading = decided inflow inflow' turns left opening (Wire fault) (wire_decided fault) leg;
       puts = puts;
       outcome = inr (inr (inl (record {
         fault = fault;
@@ -173,7 +115,7 @@ pub ready_refused : (ours : SocketType) (inflow inflow' : Inflow) (before after 
 ready_refused ours inflow inflow' before after turns left opening puts leg = record {
   read = opening;
   written = greeting_octets;
-  reading = leg_memory inflow inflow' turns left opening leg;
+  reading = decided inflow inflow' turns left opening (Failed Memory) memory_decided leg;
   puts = puts;
   outcome = (
     tt,
@@ -210,25 +152,11 @@ pub ready_unsent : (ours : SocketType) (inflow inflow' : Inflow) (before middle 
     → length opening ≡ 64 → Leg inflow inflow' turns left opening → IsGreeting opening
     → PutsAll middle after octets (Err end)
     → Exchange (TurnsAway ours) inflow inflow' before after turns left tt end
-ready_unsent ours inflow inflow' before middle after turns left opening octets Eof same puts whole leg accepted put =
-    absurd put
-ready_unsent ours inflow inflow' before middle after turns left opening octets (Shutdown restart) same puts whole leg
-    accepted put = absurd put
-ready_unsent ours inflow inflow' before middle after turns left opening octets (Wire fault) same puts whole leg accepted
-    put = absurd put
-ready_unsent ours inflow inflow' before middle after turns left opening octets (Failed Memory) same puts whole leg
-    accepted put = absurd put
-ready_unsent ours inflow inflow' before middle after turns left opening octets (Failed Worn) same puts whole leg
-    accepted put = absurd put
-ready_unsent ours inflow inflow' before middle after turns left opening octets (Failed Read) same puts whole leg
-    accepted put = absurd put
-ready_unsent ours inflow inflow' before middle after turns left opening octets (Failed Turns) same puts whole leg
-    accepted put = absurd put
-ready_unsent ours inflow inflow' before middle after turns left opening octets (Failed Write) same puts whole leg
-    accepted (front, lost, is, put) = record {
+ready_unsent ours inflow inflow' before middle after turns left opening octets end same puts whole leg accepted
+    (failed, (front, lost, is, put)) = rw failed (record {
       read = opening;
       written = greeting_octets ++ front;
-      reading = leg_write inflow inflow' turns left opening leg;
+      reading = decided inflow inflow' turns left opening (Failed Write) write_decided leg;
       puts = puts_on before middle after greeting_octets front 1 puts put;
       outcome = (
         lost,
@@ -241,7 +169,7 @@ ready_unsent ours inflow inflow' before middle after turns left opening octets (
               (nothing_unfinished usual_limits);
         },
       );
-    }
+    })
 
 -- a peer that was greeted, and what was read and written by then
 pub record Opened (ours : SocketType) (inflow inflow' : Inflow) (before after : Outflow) (turns left : ℕ)
@@ -264,22 +192,17 @@ opened ours inflow inflow' before middle after turns left opening whole leg acce
 
 brings_puts : (before after : Outflow) (written octets : List ℕ) (end : SessionEnd) → BringsNothing octets end
     → Puts before after written 0 → Puts before after written (failed_writes end)
-brings_puts before after written octets Eof brings puts = puts
-brings_puts before after written octets (Shutdown restart) brings puts = absurd brings
-brings_puts before after written octets (Wire fault) brings puts = puts
-brings_puts before after written octets (Failed Memory) brings puts = absurd brings
-brings_puts before after written octets (Failed Read) brings puts = puts
-brings_puts before after written octets (Failed Write) brings puts = absurd brings
-brings_puts before after written octets (Failed Turns) brings puts = puts
-brings_puts before after written octets (Failed Worn) brings puts = absurd brings
+brings_puts before after written octets end (inl (stop, unfinished)) puts = stop_puts before after written end stop puts
+brings_puts before after written octets end (inr (fault, is, refused)) puts = rw is puts
 
 brings_outcome : (ours : SocketType) (opening octets : List ℕ) (end : SessionEnd) → length opening ≡ 64
     → IsGreeting opening → BringsNothing octets end
     → TurnsAway ours (opening ++ octets) (greeting_octets ++ ready_octets ours) tt end
-brings_outcome ours opening octets Eof whole accepted unfinished =
-    not_ready ours opening octets (greeting_octets ++ ready_octets ours) whole accepted refl unfinished
-brings_outcome ours opening octets (Shutdown restart) whole accepted brings = absurd brings
-brings_outcome ours opening octets (Wire fault) whole accepted (inl memory) = inl (
+brings_outcome ours opening octets end whole accepted (inl (stop, unfinished)) =
+    stop_outcome (λ (state : ⊤). ⊥) (λ octets written (state : ⊤) ending. IsTurnedAway ours octets written ending)
+    (opening ++ octets) (greeting_octets ++ ready_octets ours) tt end stop
+    (not_ready ours opening octets (greeting_octets ++ ready_octets ours) whole accepted refl unfinished)
+brings_outcome ours opening octets end whole accepted (inr (fault, is, inl memory)) = rw is (inl (
   memory,
   record {
     front = opening ++ [];
@@ -288,18 +211,12 @@ brings_outcome ours opening octets (Wire fault) whole accepted (inl memory) = in
     so_far = not_ready ours opening [] (greeting_octets ++ ready_octets ours) whole accepted refl
         (nothing_unfinished usual_limits);
   },
-)
-brings_outcome ours opening octets (Wire fault) whole accepted (inr faulty) = inr (inr (inr (inl (record {
-  greeted = greeted ours opening octets (greeting_octets ++ ready_octets ours) whole accepted refl;
-  ends = subst (λ o. IsFaulty usual_limits o fault) (sym (behind_64 opening octets whole)) faulty;
-}))))
-brings_outcome ours opening octets (Failed Memory) whole accepted brings = absurd brings
-brings_outcome ours opening octets (Failed Read) whole accepted unfinished =
-    not_ready ours opening octets (greeting_octets ++ ready_octets ours) whole accepted refl unfinished
-brings_outcome ours opening octets (Failed Write) whole accepted brings = absurd brings
-brings_outcome ours opening octets (Failed Turns) whole accepted unfinished =
-    not_ready ours opening octets (greeting_octets ++ ready_octets ours) whole accepted refl unfinished
-brings_outcome ours opening octets (Failed Worn) whole accepted brings = absurd brings
+))
+brings_outcome ours opening octets end whole accepted (inr (fault, is, inr faulty)) =
+    rw is (inr (inr (inr (inl (record {
+      greeted = greeted ours opening octets (greeting_octets ++ ready_octets ours) whole accepted refl;
+      ends = subst (λ o. IsFaulty usual_limits o fault) (sym (behind_64 opening octets whole)) faulty;
+    })))))
 
 -- nothing whole came behind the peer's greeting
 pub nothing_came : (ours : SocketType) (one two three : Inflow) (before after : Outflow) (turns middle left : ℕ)
@@ -346,7 +263,7 @@ split_first octets first others (Some fault) decoder (
 }
 
 -- the peer was met
-pub peer_met : (ours : SocketType) (one two three : Inflow) (before after : Outflow) (turns middle left : ℕ)
+peer_met : (ours : SocketType) (one two three : Inflow) (before after : Outflow) (turns middle left : ℕ)
     (opening octets : List ℕ) (fed fed' : Fed) (decoder : Decoding) (first : Traffic) (peer : SocketType)
     → Opened ours one two before after turns middle opening → Leg two three middle left octets
     → IsFed fed decoder octets → fed.traffic ≡ first ∷ fed'.traffic → fed'.fault ≡ fed.fault
@@ -373,7 +290,7 @@ peer_met ours one two three before after turns middle left opening octets fed fe
     }
 
 -- the peer's first traffic was refused
-pub peer_refused : (ours : SocketType) (one two three : Inflow) (before after : Outflow) (turns middle left : ℕ)
+peer_refused : (ours : SocketType) (one two three : Inflow) (before after : Outflow) (turns middle left : ℕ)
     (opening octets : List ℕ) (fed : Fed) (decoder : Decoding) (first : Traffic) (others : List Traffic)
     (fault : WireFault)
     → Opened ours one two before after turns middle opening → Leg two three middle left octets
@@ -386,7 +303,7 @@ peer_refused ours one two three before after turns middle left opening octets fe
     record {
       read = opening ++ octets;
       written = greeting_octets ++ ready_octets ours;
-      reading = leg_wire one three turns left (opening ++ octets) fault
+      reading = decided one three turns left (opening ++ octets) (Wire fault) (wire_decided fault)
           (leg_on one two three turns middle left opening octets o.leg leg);
       puts = o.puts;
       outcome = inr (inr (inr (inr (record {
@@ -400,13 +317,32 @@ peer_refused ours one two three before after turns middle left opening octets fe
       }))));
     }
 
--- what holds of each outcome
-pub if_ok_map : {T E : Type 0} (result : Result T E) (One Other : T → Type 0) → IfOk result One
-    → ((value : T) → One value → Other value) → IfOk result Other
-if_ok_map (Ok value) One Other holds map = map value holds
-if_ok_map (Err fault) One Other holds map = tt
+-- a peer whose READY was accepted was met
+pub judged_met : (result : Result Shaken SessionEnd) (ours : SocketType) (one two three : Inflow)
+    (before after : Outflow) (turns middle left : ℕ) (opening octets : List ℕ) (fed : Fed) (decoder : Decoding)
+    → Opened ours one two before after turns middle opening → Leg two three middle left octets
+    → IsFed fed decoder octets
+    → IfOk result (λ shaken. (first : Traffic) × (fed.traffic ≡ first ∷ shaken.fed.traffic)
+    × (shaken.fed.fault ≡ fed.fault) × (shaken.decoder ≡ decoder)
+    × IsReady first ours (Ok (record { peer = shaken.peer })))
+    → IfOk result (λ shaken. Meets ours one three before after turns left shaken.peer shaken.fed shaken.decoder)
+judged_met (Err end) ours one two three before after turns middle left opening octets fed decoder o leg is judged = tt
+judged_met (Ok shaken) ours one two three before after turns middle left opening octets fed decoder o leg is
+    (first, traffic_is, fault_is, decoder_is, accepted) = rw decoder_is
+    (peer_met ours one two three before after turns middle left opening octets fed shaken.fed decoder first shaken.peer
+    o leg is traffic_is fault_is accepted)
 
-pub if_err_map : {T E : Type 0} (result : Result T E) (One Other : E → Type 0) → IfErr result One
-    → ((fault : E) → One fault → Other fault) → IfErr result Other
-if_err_map (Ok value) One Other holds map = tt
-if_err_map (Err fault) One Other holds map = map fault holds
+-- a peer whose READY was refused was turned away
+pub judged_refused : (result : Result Shaken SessionEnd) (ours : SocketType) (one two three : Inflow)
+    (before after : Outflow) (turns middle left : ℕ) (opening octets : List ℕ) (fed : Fed) (decoder : Decoding)
+    → Opened ours one two before after turns middle opening → Leg two three middle left octets
+    → IsFed fed decoder octets
+    → IfErr result (λ end. (first : Traffic) × (others : List Traffic) × (fault : WireFault)
+    × (fed.traffic ≡ first ∷ others) × IsReady first ours (Err fault) × (end ≡ Wire fault))
+    → IfErr result (λ end. Exchange (TurnsAway ours) one three before after turns left tt end)
+judged_refused (Ok shaken) ours one two three before after turns middle left opening octets fed decoder o leg is
+    judged = tt
+judged_refused (Err end) ours one two three before after turns middle left opening octets fed decoder o leg is
+    (first, others, fault, traffic_is, refused, end_is) = rw end_is
+    (peer_refused ours one two three before after turns middle left opening octets fed decoder first others fault o leg
+    is traffic_is refused)

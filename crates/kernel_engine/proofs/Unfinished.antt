@@ -1,6 +1,6 @@
 -- No octets are unfinished traffic.
 use Rattle.std.proofs.Common.{◌≡◌, ℕ, List, [], ◌∷◌, ◌++◌, false, refl, sym, ◌∙◌}
-use Rattle.zmtp_wire.specs.declared.limits.Limits.{Limits}
+use Rattle.zmtp_wire.specs.declared.traffic.limits.Limits.{Limits}
 use Rattle.zmtp_wire.specs.declared.traffic.Traffic.{Traffic}
 use Rattle.zmtp_wire.specs.declared.traffic.Traffic.TheVariants as traffic
 use Rattle.zmtp_wire.specs.declared.fault.WireFault.{WireFault}

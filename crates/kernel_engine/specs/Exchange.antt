@@ -1,6 +1,6 @@
 -- An exchange with a peer over an inlet and an outlet: what was read and written, in how many turns, and what it
 -- comes to by the way it ended.
-use Rattle.std.specs.Prelude.{◌≡◌, ◌⊎◌, ℕ, ◌+◌, ◌≤◌, List, ◌++◌, length, Option, ⊤}
+use Rattle.std.specs.Prelude.{◌≡◌, ◌⊎◌, ℕ, ◌+◌, ◌≤◌, List, ◌++◌, length, Option}
 use Rattle.std.specs.Io.KnownBytes.{IsAtEnd}
 use Rattle.zmtp_wire.specs.declared.fault.WireFault.TheVariants.{OutOfMemory}
 use Rattle.zmtp_wire.specs.Device.{Inflow, Outflow, Draws, Puts}
@@ -8,56 +8,46 @@ use Rattle.kernel_engine.specs.declared.fault.EngineFault.TheVariants.{Memory, R
 use Rattle.kernel_engine.specs.declared.end.SessionEnd.{SessionEnd}
 use Rattle.kernel_engine.specs.declared.end.SessionEnd.TheVariants.{Eof, Shutdown, Wire, Failed}
 
+-- reads and writes that came to nothing: reads that failed, reads that gave no octet, and writes that failed
+pub record Misses : Type 0 where
+  pub failed_reads : ℕ
+  pub empty_reads : ℕ
+  pub failed_writes : ℕ
+
+-- there are none
+abbrev pub no_misses : Misses
+no_misses = record { failed_reads = 0; empty_reads = 0; failed_writes = 0 }
+
+-- those of an exchange that ended so: the read or write that ended it, or none
+abbrev pub misses : SessionEnd → Misses
+misses Eof = record { failed_reads = 0; empty_reads = 1; failed_writes = 0 }
+misses (Shutdown restart) = no_misses
+misses (Wire fault) = no_misses
+misses (Failed Memory) = no_misses
+misses (Failed Read) = record { failed_reads = 1; empty_reads = 1; failed_writes = 0 }
+misses (Failed Write) = record { failed_reads = 0; empty_reads = 0; failed_writes = 1 }
+misses (Failed Turns) = no_misses
+misses (Failed Worn) = no_misses
+
 -- how many reads failed: the one that ended the exchange, or none
 abbrev pub failed_reads : SessionEnd → ℕ
-failed_reads Eof = 0
-failed_reads (Shutdown restart) = 0
-failed_reads (Wire fault) = 0
-failed_reads (Failed Memory) = 0
-failed_reads (Failed Read) = 1
-failed_reads (Failed Write) = 0
-failed_reads (Failed Turns) = 0
-failed_reads (Failed Worn) = 0
-
--- how many writes failed: the one that ended the exchange, or none
-abbrev pub failed_writes : SessionEnd → ℕ
-failed_writes Eof = 0
-failed_writes (Shutdown restart) = 0
-failed_writes (Wire fault) = 0
-failed_writes (Failed Memory) = 0
-failed_writes (Failed Read) = 0
-failed_writes (Failed Write) = 1
-failed_writes (Failed Turns) = 0
-failed_writes (Failed Worn) = 0
-
--- no turn is left where the exchange ended for want of one
-abbrev pub IsOutOfTurns : ℕ → SessionEnd → Type 0
-IsOutOfTurns left Eof = ⊤
-IsOutOfTurns left (Shutdown restart) = ⊤
-IsOutOfTurns left (Wire fault) = ⊤
-IsOutOfTurns left (Failed Memory) = ⊤
-IsOutOfTurns left (Failed Read) = ⊤
-IsOutOfTurns left (Failed Write) = ⊤
-IsOutOfTurns left (Failed Turns) = left ≡ 0
-IsOutOfTurns left (Failed Worn) = ⊤
-
--- no octet is left where the exchange ended with the peer's last one
-abbrev pub IsReadOut : Option (List ℕ) → SessionEnd → Type 0
-IsReadOut left Eof = IsAtEnd left
-IsReadOut left (Shutdown restart) = ⊤
-IsReadOut left (Wire fault) = ⊤
-IsReadOut left (Failed fault) = ⊤
+failed_reads end = (misses end).failed_reads
 
 -- how many reads gave no octet: the one that found the end or failed, or none
 abbrev pub empty_reads : SessionEnd → ℕ
-empty_reads Eof = 1
-empty_reads (Shutdown restart) = 0
-empty_reads (Wire fault) = 0
-empty_reads (Failed Memory) = 0
-empty_reads (Failed Read) = 1
-empty_reads (Failed Write) = 0
-empty_reads (Failed Turns) = 0
-empty_reads (Failed Worn) = 0
+empty_reads end = (misses end).empty_reads
+
+-- how many writes failed: the one that ended the exchange, or none
+abbrev pub failed_writes : SessionEnd → ℕ
+failed_writes end = (misses end).failed_writes
+
+-- no turn is left where the exchange ended for want of one
+abbrev pub IsOutOfTurns : ℕ → SessionEnd → Type 0
+IsOutOfTurns left end = end ≡ Failed Turns → left ≡ 0
+
+-- no octet is left where the exchange ended with the peer's last one
+abbrev pub IsReadOut : Option (List ℕ) → SessionEnd → Type 0
+IsReadOut left end = end ≡ Eof → IsAtEnd left
 
 -- What was read up to the end of an exchange: these octets, one turn a read, and no more reads than octets came,
 -- but for the one that found the end or failed.
@@ -81,17 +71,18 @@ pub record IsCut {State : Type 0} (Comes : List ℕ → List ℕ → State → S
 -- what all of them come to. A read that failed and a want of turns leave it as it was so far. Where memory was
 -- refused, or the state is worn, all was written of what a beginning of the octets comes
 -- to; where a write failed, a beginning of that.
-abbrev pub Outcome : {State : Type 0} → (State → Type 0) → (List ℕ → List ℕ → State → SessionEnd → Type 0) → List ℕ
-    → List ℕ → State → SessionEnd → Type 0
-Outcome IsWorn Comes octets written new Eof = Comes octets written new Eof
-Outcome IsWorn Comes octets written new (Shutdown restart) = ⊥
-Outcome IsWorn Comes octets written new (Wire fault) =
+abbrev pub ComesToByEnd : {State : Type 0} → (State → Type 0) → (List ℕ → List ℕ → State → SessionEnd → Type 0)
+    → List ℕ → List ℕ → State → SessionEnd → Type 0
+ComesToByEnd IsWorn Comes octets written new Eof = Comes octets written new Eof
+ComesToByEnd IsWorn Comes octets written new (Shutdown restart) = ⊥
+ComesToByEnd IsWorn Comes octets written new (Wire fault) =
     ((fault ≡ OutOfMemory) × IsCut Comes octets written new) ⊎ Comes octets written new (Wire fault)
-Outcome IsWorn Comes octets written new (Failed Read) = Comes octets written new Eof
-Outcome IsWorn Comes octets written new (Failed Turns) = Comes octets written new Eof
-Outcome IsWorn Comes octets written new (Failed Write) = (lost : List ℕ) × IsCut Comes octets (written ++ lost) new
-Outcome {State} IsWorn Comes octets written new (Failed Memory) = (state : State) × IsCut Comes octets written state
-Outcome {State} IsWorn Comes octets written new (Failed Worn) = (state : State) × IsWorn state
+ComesToByEnd IsWorn Comes octets written new (Failed Read) = Comes octets written new Eof
+ComesToByEnd IsWorn Comes octets written new (Failed Turns) = Comes octets written new Eof
+ComesToByEnd IsWorn Comes octets written new (Failed Write) = (lost : List ℕ) × IsCut Comes octets (written ++ lost) new
+ComesToByEnd {State} IsWorn Comes octets written new (Failed Memory) = (state : State)
+    × IsCut Comes octets written state
+ComesToByEnd {State} IsWorn Comes octets written new (Failed Worn) = (state : State) × IsWorn state
     × IsCut Comes octets written state
 
 -- A whole exchange: what was read, what was written, and what the one comes to as the other. Any read may fail and

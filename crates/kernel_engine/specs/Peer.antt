@@ -3,7 +3,7 @@ use Rattle.std.specs.Prelude.{◌≡◌, ◌⊎◌, ℕ, ◌<◌, ◌≤◌, Lis
 use Rattle.std.specs.Prelude.{Err, if◌then◌else◌, MatchBool}
 use Rattle.zmtp_wire.specs.declared.fault.WireFault.{WireFault}
 use Rattle.zmtp_wire.specs.declared.fault.WireFault.TheVariants.{PeerError}
-use Rattle.zmtp_wire.specs.declared.socket_type.SocketType.{SocketType}
+use Rattle.zmtp_wire.specs.declared.handshake.socket_type.SocketType.{SocketType}
 use Rattle.zmtp_wire.specs.declared.traffic.Traffic.{Traffic}
 use Rattle.zmtp_wire.specs.declared.traffic.Traffic.TheVariants as traffic
 use Rattle.zmtp_wire.specs.Limits.{usual_limits}

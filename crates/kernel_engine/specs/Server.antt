@@ -1,12 +1,12 @@
 -- What a server makes of the messages of a peer.
 use Rattle.std.specs.Prelude.{◌≡◌, ⊤, ℕ, List, [], ◌∷◌, ◌++◌}
 use Rattle.std.specs.List.{flat_map}
-use Rattle.zmtp_wire.specs.declared.socket_type.SocketType.{SocketType}
-use Rattle.zmtp_wire.specs.declared.socket_type.SocketType.TheVariants.{Rep}
+use Rattle.zmtp_wire.specs.declared.handshake.socket_type.SocketType.{SocketType}
+use Rattle.zmtp_wire.specs.declared.handshake.socket_type.SocketType.TheVariants.{Rep}
 use Rattle.zmtp_wire.specs.Frame.{text}
 use Rattle.kernel_engine.specs.declared.end.SessionEnd.{SessionEnd}
 use Rattle.kernel_engine.specs.Peer.{Message, Says, Hears}
-use Rattle.kernel_engine.specs.Exchange.{Outcome}
+use Rattle.kernel_engine.specs.Exchange.{ComesToByEnd}
 
 -- one step of a server: what it was, a message, the octets that answer it, what it is then
 abbrev pub Answering : Type 0 → Type 1
@@ -47,10 +47,10 @@ pub record IsEchoed (octets written : List ℕ) (ending : SessionEnd) : Type 0 w
 abbrev pub Serves : {Server : Type 0} → (Server → Type 0) → Answering Server → SocketType → Server → List ℕ → List ℕ
     → Server → SessionEnd → Type 0
 Serves IsWorn answers ours old octets written new end =
-    Outcome IsWorn (IsServed answers ours old) octets written new end
+    ComesToByEnd IsWorn (IsServed answers ours old) octets written new end
 
 -- what a peer that is echoed comes to, by the way it ended
 abbrev pub Echoes : List ℕ → List ℕ → ⊤ → SessionEnd → Type 0
 Echoes octets written nothing end =
-    Outcome (λ (state : ⊤). ⊥) (λ octets written (state : ⊤) ending. IsEchoed octets written ending) octets written
+    ComesToByEnd (λ (state : ⊤). ⊥) (λ octets written (state : ⊤) ending. IsEchoed octets written ending) octets written
     nothing end

@@ -3,9 +3,9 @@ use Rattle.std.specs.Prelude.{◌≡◌, ◌⊎◌, ℕ, ◌+◌, ◌≤◌, Lis
 use Rattle.std.specs.Prelude.{Option, Some, None, ⊤}
 use Rattle.zmtp_wire.specs.declared.fault.WireFault.{WireFault}
 use Rattle.zmtp_wire.specs.declared.fault.WireFault.TheVariants.{PeerError, OutOfMemory}
-use Rattle.zmtp_wire.specs.declared.socket_type.SocketType.{SocketType}
+use Rattle.zmtp_wire.specs.declared.handshake.socket_type.SocketType.{SocketType}
 use Rattle.zmtp_wire.specs.declared.traffic.Traffic.{Traffic}
-use Rattle.zmtp_wire.specs.declared.decoder.Fed.{Fed}
+use Rattle.zmtp_wire.specs.declared.traffic.decoder.Fed.{Fed}
 use Rattle.zmtp_wire.specs.Limits.{usual_limits}
 use Rattle.zmtp_wire.specs.Grammar.{IsFaulty, IsUnfinished}
 use Rattle.zmtp_wire.specs.Decoding.{Decoding, Feeds}
@@ -15,7 +15,7 @@ use Rattle.kernel_engine.specs.declared.end.SessionEnd.{SessionEnd}
 use Rattle.kernel_engine.specs.declared.end.SessionEnd.TheVariants.{Eof, Shutdown, Wire, Failed}
 use Rattle.kernel_engine.specs.Peer.{Message, messages_in, has_error, IsTurnedAway, IsMet}
 use Rattle.kernel_engine.specs.Server.{Answering, AnswersAll, IsAnswered}
-use Rattle.kernel_engine.specs.Exchange.{Reading, Outcome}
+use Rattle.kernel_engine.specs.Exchange.{Reading, ComesToByEnd}
 
 -- These octets were read, one turn a read, with no more reads than octets, and none failed.
 pub record Leg (old new : Inflow) (turns left : ℕ) (octets : List ℕ) : Type 0 where
@@ -26,14 +26,7 @@ pub record Leg (old new : Inflow) (turns left : ℕ) (octets : List ℕ) : Type 
 
 -- reading ended with nothing decided: by the last octet, a read that failed or a want of turns
 abbrev pub IsStop : SessionEnd → Type 0
-IsStop Eof = ⊤
-IsStop (Shutdown restart) = ⊥
-IsStop (Wire fault) = ⊥
-IsStop (Failed Memory) = ⊥
-IsStop (Failed Read) = ⊤
-IsStop (Failed Write) = ⊥
-IsStop (Failed Turns) = ⊤
-IsStop (Failed Worn) = ⊥
+IsStop end = (end ≡ Eof) ⊎ ((end ≡ Failed Read) ⊎ (end ≡ Failed Turns))
 
 -- a decoder that has read nothing
 abbrev pub fresh : Decoding
@@ -44,18 +37,18 @@ abbrev pub IsFed : Fed → Decoding → List ℕ → Type 0
 IsFed fed decoder octets = Feeds fresh octets fed.traffic fed.fault decoder × (decoder.limits ≡ usual_limits)
 
 -- one message was answered and written, or it was answered and a write failed, or it wasn't answered
-abbrev pub AnswersOne : {Server : Type 0} → (Server → Type 0) → Answering Server → Server → Message → Server → Outflow
-    → Outflow → Result Unit SessionEnd → Type 0
-AnswersOne IsWorn answers old message new before after (Ok done) =
+abbrev pub PutsAnswer : {Server : Type 0} → (Server → Type 0) → Answering Server → Server → Message → Server
+    → Outflow → Outflow → Result Unit SessionEnd → Type 0
+PutsAnswer IsWorn answers old message new before after (Ok done) =
     (octets : List ℕ) × answers old message octets new × Puts before after octets 0
-AnswersOne IsWorn answers old message new before after (Err Eof) = ⊥
-AnswersOne IsWorn answers old message new before after (Err (Shutdown restart)) = ⊥
-AnswersOne IsWorn answers old message new before after (Err (Wire fault)) = ⊥
-AnswersOne IsWorn answers old message new before after (Err (Failed Memory)) = after ≡ before
-AnswersOne IsWorn answers old message new before after (Err (Failed Worn)) = IsWorn old × (after ≡ before)
-AnswersOne IsWorn answers old message new before after (Err (Failed Read)) = ⊥
-AnswersOne IsWorn answers old message new before after (Err (Failed Turns)) = ⊥
-AnswersOne IsWorn answers old message new before after (Err (Failed Write)) =
+PutsAnswer IsWorn answers old message new before after (Err Eof) = ⊥
+PutsAnswer IsWorn answers old message new before after (Err (Shutdown restart)) = ⊥
+PutsAnswer IsWorn answers old message new before after (Err (Wire fault)) = ⊥
+PutsAnswer IsWorn answers old message new before after (Err (Failed Memory)) = after ≡ before
+PutsAnswer IsWorn answers old message new before after (Err (Failed Worn)) = IsWorn old × (after ≡ before)
+PutsAnswer IsWorn answers old message new before after (Err (Failed Read)) = ⊥
+PutsAnswer IsWorn answers old message new before after (Err (Failed Turns)) = ⊥
+PutsAnswer IsWorn answers old message new before after (Err (Failed Write)) =
     (written : List ℕ) × (lost : List ℕ) × answers old message (written ++ lost) new × Puts before after written 1
 
 -- a beginning of the traffic was answered, and these octets were written of the answers
@@ -96,18 +89,11 @@ AnswersFed IsWorn answers old traffic fault new before after (Err (Failed Turns)
 AnswersFed IsWorn answers old traffic fault new before after (Err (Failed Write)) =
     (lost : List ℕ) × AnswersSome answers old traffic new before after lost 1
 
--- octets were written, or a beginning of them before a write failed
+-- octets were written, or a beginning of them before a write failed, and nothing else ends it
 abbrev pub PutsAll : Outflow → Outflow → List ℕ → Result Unit SessionEnd → Type 0
 PutsAll before after octets (Ok done) = Puts before after octets 0
-PutsAll before after octets (Err Eof) = ⊥
-PutsAll before after octets (Err (Shutdown restart)) = ⊥
-PutsAll before after octets (Err (Wire fault)) = ⊥
-PutsAll before after octets (Err (Failed Memory)) = ⊥
-PutsAll before after octets (Err (Failed Worn)) = ⊥
-PutsAll before after octets (Err (Failed Read)) = ⊥
-PutsAll before after octets (Err (Failed Turns)) = ⊥
-PutsAll before after octets (Err (Failed Write)) = (front : List ℕ) × (lost : List ℕ) × (octets ≡ front ++ lost)
-    × Puts before after front 1
+PutsAll before after octets (Err end) = (end ≡ Failed Write)
+    × ((front : List ℕ) × (lost : List ℕ) × (octets ≡ front ++ lost) × Puts before after front 1)
 
 -- hands were shaken with a peer: these octets were read and written, and these stand behind the peer's READY
 pub record Meets (ours : SocketType) (inflow inflow' : Inflow) (outflow outflow' : Outflow) (turns left : ℕ)
@@ -123,25 +109,19 @@ pub record Meets (ours : SocketType) (inflow inflow' : Inflow) (outflow outflow'
 -- what a peer that wasn't met comes to
 abbrev pub TurnsAway : SocketType → List ℕ → List ℕ → ⊤ → SessionEnd → Type 0
 TurnsAway ours octets written nothing end =
-    Outcome (λ (state : ⊤). ⊥) (λ octets written (state : ⊤) ending. IsTurnedAway ours octets written ending) octets
-    written nothing end
+    ComesToByEnd (λ (state : ⊤). ⊥) (λ octets written (state : ⊤) ending. IsTurnedAway ours octets written ending)
+    octets written nothing end
 
 -- what octets behind a peer's READY come to, where these of them were read before
 abbrev pub HearsOn : {Server : Type 0} → (Server → Type 0) → Answering Server → Server → List ℕ → List ℕ → List ℕ
     → Server → SessionEnd → Type 0
 HearsOn IsWorn answers old before octets written new end =
-    Outcome IsWorn (IsAnswered answers old) (before ++ octets) written new end
+    ComesToByEnd IsWorn (IsAnswered answers old) (before ++ octets) written new end
 
 -- octets behind a peer's greeting bring no whole traffic: reading stopped, or they are refused, or memory was
 abbrev pub BringsNothing : List ℕ → SessionEnd → Type 0
-BringsNothing octets Eof = IsUnfinished usual_limits octets
-BringsNothing octets (Shutdown restart) = ⊥
-BringsNothing octets (Wire fault) = (fault ≡ OutOfMemory) ⊎ IsFaulty usual_limits octets fault
-BringsNothing octets (Failed Memory) = ⊥
-BringsNothing octets (Failed Read) = IsUnfinished usual_limits octets
-BringsNothing octets (Failed Write) = ⊥
-BringsNothing octets (Failed Turns) = IsUnfinished usual_limits octets
-BringsNothing octets (Failed Worn) = ⊥
+BringsNothing octets end = (IsStop end × IsUnfinished usual_limits octets)
+    ⊎ ((fault : WireFault) × (end ≡ Wire fault) × ((fault ≡ OutOfMemory) ⊎ IsFaulty usual_limits octets fault))
 
 -- a piece was read, and what it brought was answered
 pub record HearsPiece {Server : Type 0} (IsWorn : Server → Type 0) (answers : Answering Server) (old new : Server)

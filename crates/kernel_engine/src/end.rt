@@ -1,3 +1,5 @@
+//! How an exchange ends.
+
 use crate::fault::EngineFault;
 use zmtp_wire::WireFault;
 

@@ -1,5 +1,7 @@
+//! The faults of an engine and of its connections.
+
 ghost use Rattle.std.specs.Prelude.{◌≡◌};
-ghost use Rattle.kernel_engine.specs.Fault.{fault_number};
+ghost use Rattle.kernel_engine.specs.Fault.{engine_fault_number};
 
 use std::alloc::{AllocError, AllocFailed};
 use thiserror::Error;
@@ -27,7 +29,7 @@ pub enum EngineFault {
 impl EngineFault {
     /// The number of the fault, from 71 on in the order of the variants.
     pub fn number(self) -> u8
-        ensures { result ≡ fault_number self }
+        ensures { result ≡ engine_fault_number self }
     {
         match self {
             EngineFault::Memory => 71,

@@ -2,7 +2,7 @@
 
 ghost use Rattle.std.specs.Prelude.{◌≡◌, ◌<◌, ◌⊎◌, ℕ, List, length, IfOk, IfErr};
 ghost use Rattle.kernel_engine.specs.Exchange.{Exchange};
-ghost use Rattle.kernel_engine.specs.Steps.{IsFed, HearsOn, HearsPiece, HearsNone, AnswersOne, AnswersFed};
+ghost use Rattle.kernel_engine.specs.Steps.{IsFed, HearsOn, HearsPiece, HearsNone, PutsAnswer, AnswersFed};
 
 use crate::end::SessionEnd;
 use crate::fault::EngineFault;
@@ -18,7 +18,7 @@ const PIECE: usize = 65_536;
 
 /// Hears what a peer says that was met, and has each message answered. Commands are ignored, up to ERROR, which
 /// ends it. At most `turns` reads are made.
-pub fn hear<R: Inlet, W: Outlet, S: Server>(
+pub(crate) fn hear<R: Inlet, W: Outlet, S: Server>(
     alloc: Global,
     reader: &mut R,
     writer: &mut W,
@@ -59,7 +59,7 @@ pub fn hear<R: Inlet, W: Outlet, S: Server>(
     }
 }
 
-// Reads a piece, and has answered what it brings.
+/// Reads a piece, and has answered what it brings.
 fn hear_piece<R: Inlet, W: Outlet, S: Server>(
     alloc: Global,
     reader: &mut R,
@@ -85,7 +85,7 @@ fn hear_piece<R: Inlet, W: Outlet, S: Server>(
     answer_fed(alloc, writer, server, decoder.feed(octets))
 }
 
-// Has answered what a piece brought.
+/// Has answered what a piece brought.
 fn answer_fed<W: Outlet, S: Server>(
     alloc: Global,
     writer: &mut W,
@@ -103,7 +103,7 @@ fn answer_fed<W: Outlet, S: Server>(
     }
 }
 
-// Has traffic answered, up to a command ERROR.
+/// Has traffic answered, up to a command ERROR.
 fn answer_traffic<W: Outlet, S: Server>(
     alloc: Global,
     writer: &mut W,
@@ -126,7 +126,7 @@ fn answer_traffic<W: Outlet, S: Server>(
     Ok(())
 }
 
-// Has a message answered, and writes the answer. The room for it is used again.
+/// Has a message answered, and writes the answer. The room for it is used again.
 fn answer_message<W: Outlet, S: Server>(
     alloc: Global,
     writer: &mut W,
@@ -134,8 +134,8 @@ fn answer_message<W: Outlet, S: Server>(
     frames: Frames,
     reply: &mut Vec<u8>,
 ) -> Result<(), SessionEnd>
-    ensures { AnswersOne S.is_worn S.answers server.old frames server.new (W.outflow writer.old) (W.outflow writer.new)
-        result }
+    ensures { PutsAnswer S.is_worn S.answers server.old frames server.new (W.outflow writer.old)
+        (W.outflow writer.new) result }
 {
     reply.clear();
     match server.answer(alloc, frames, reply) {

@@ -22,7 +22,3 @@ pub use shaking::{Shaken, shake};
 
 #[cfg(test)]
 mod tests;
-#[cfg(test)]
-mod tests_echo;
-#[cfg(test)]
-mod tests_shake;

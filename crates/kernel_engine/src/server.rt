@@ -1,3 +1,5 @@
+//! What a peer is served by.
+
 ghost use Rattle.std.specs.Prelude.{◌≡◌, ◌++◌, ℕ, List, OnOk, IfErr};
 ghost use Rattle.kernel_engine.specs.Fault.{IsAnswerFault};
 ghost use Rattle.kernel_engine.specs.Server.{Answering};
@@ -8,10 +10,10 @@ use std::alloc::Global;
 
 /// What answers the messages of a peer.
 pub trait Server {
-    // One step: what the server was, a message, the octets that answer it, what the server is then.
+    /// One step: what the server was, a message, the octets that answer it, what the server is then.
     ghost answers: { Answering Self };
 
-    // The server is worn: no id is left for a message.
+    /// The server is worn: no id is left for a message.
     ghost is_worn: { Self → Type 0 };
 
     /// Answers the message of these frames: adds the octets that are to be written to the peer, none where the

@@ -57,7 +57,7 @@ pub fn shake<R: Inlet, W: Outlet>(
 }
 
 /// Shakes hands with a peer, and takes the turns from those that are left.
-pub fn shake_within<R: Inlet, W: Outlet>(
+pub(crate) fn shake_within<R: Inlet, W: Outlet>(
     alloc: Global,
     reader: &mut R,
     writer: &mut W,
@@ -83,7 +83,7 @@ pub fn shake_within<R: Inlet, W: Outlet>(
     meet(fed, decoder, ours)
 }
 
-// Reads the peer's greeting, and no octet behind it.
+/// Reads the peer's greeting, and no octet behind it.
 fn read_opening<R: Inlet>(reader: &mut R, turns: &mut u64) -> Result<[u8; 64], SessionEnd>
     ensures ok { IfOk result (λ opening. (length opening ≡ 64)
         × Leg (R.inflow reader.old) (R.inflow reader.new) turns.old turns.new opening) }
@@ -98,7 +98,7 @@ fn read_opening<R: Inlet>(reader: &mut R, turns: &mut u64) -> Result<[u8; 64], S
     Ok(opening)
 }
 
-// Reads until the first traffic behind the peer's greeting came whole.
+/// Reads until the first traffic behind the peer's greeting came whole.
 fn read_first<R: Inlet>(
     reader: &mut R,
     decoder: &mut Decoder,
@@ -123,7 +123,7 @@ fn read_first<R: Inlet>(
     }
 }
 
-// Judges the first traffic, which is to be READY, and keeps the others.
+/// Judges the first traffic, which is to be READY, and keeps the others.
 fn meet(fed: Fed, decoder: Decoder, ours: SocketType) -> Result<Shaken, SessionEnd>
     requires { fed.traffic ≢ [] }
     ensures ok { IfOk result (λ shaken. (first : Traffic) × (fed.traffic ≡ first ∷ shaken.fed.traffic)

@@ -13,7 +13,7 @@ use zmtp_wire::{Inlet, Outlet, ReadFailed, WriteFailed, write_all};
 /// # Errors
 ///
 /// `Eof` where no octet is left, `Failed` with `Read` where the read failed, and with `Turns` where no turn is left.
-pub fn read_turn<R: Inlet>(
+pub(crate) fn read_turn<R: Inlet>(
     reader: &mut R,
     into: &mut [u8],
     turns: &mut u64,
@@ -40,7 +40,7 @@ pub fn read_turn<R: Inlet>(
 /// # Errors
 ///
 /// `Failed` with `Write`, where a beginning of them was written.
-pub fn put<W: Outlet>(writer: &mut W, octets: &[u8]) -> Result<(), SessionEnd>
+pub(crate) fn put<W: Outlet>(writer: &mut W, octets: &[u8]) -> Result<(), SessionEnd>
     ensures { PutsAll (W.outflow writer.old) (W.outflow writer.new) octets.now result }
 {
     match write_all(writer, octets) {

@@ -1,20 +1,22 @@
+//! How much was fed, and what came of it.
+
 use std::fmt;
 use zmtp_wire::Traffic;
 
 /// How much was fed, and how much traffic came of it.
 #[derive(Clone, Copy, Debug, PartialEq, Eq)]
-pub struct Count {
+pub(crate) struct Count {
     /// The messages and commands.
-    pub traffic: usize,
+    pub(crate) traffic: usize,
     /// The octets of the messages' bodies.
-    pub octets: usize,
+    pub(crate) octets: usize,
     /// The octets of the text, heads too.
-    pub text: usize,
+    pub(crate) text: usize,
 }
 
 impl Count {
     /// Nothing yet.
-    pub fn new() -> Count {
+    pub(crate) fn new() -> Count {
         Count {
             traffic: 0,
             octets: 0,
@@ -23,7 +25,7 @@ impl Count {
     }
 
     /// The same again and again.
-    pub fn times(self, count: usize) -> Count {
+    pub(crate) fn times(self, count: usize) -> Count {
         Count {
             traffic: self.traffic.saturating_mul(count),
             octets: self.octets.saturating_mul(count),
@@ -32,7 +34,7 @@ impl Count {
     }
 
     /// Adds a piece, and what came of it.
-    pub fn add_piece(&mut self, piece: &[u8], came: &[Traffic]) {
+    pub(crate) fn add_piece(&mut self, piece: &[u8], came: &[Traffic]) {
         self.text = self.text.saturating_add(piece.len());
         self.traffic = self.traffic.saturating_add(came.len());
         for traffic in came {

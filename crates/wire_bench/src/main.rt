@@ -9,6 +9,7 @@
 //!   and the memory's peak before and after the reading.
 //! - `claim SIZE COME` feeds the head of a frame of this size and only so many octets of its body, and tells the
 //!   memory's peak before and after.
+
 #![tactic(auto)]
 
 mod count;
@@ -30,6 +31,7 @@ fn numbers(alloc: Global, words: Args) -> Result<Vec<usize>, AllocError> {
     Ok(numbers)
 }
 
+/// Does the run that the words name.
 fn main(rt: HostRuntime) -> io::Result<()> {
     let mut words = env::args(&rt)?;
     let _program = words.next();

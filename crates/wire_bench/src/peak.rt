@@ -1,18 +1,20 @@
+//! How much memory this process had.
+
 use std::rt::Files;
 use std::{fmt, fs, io};
 
 /// The most memory that this process had so far, in KiB, as Linux counts it.
 #[derive(Clone, Copy, Debug)]
-pub struct Peak {
+pub(crate) struct Peak {
     /// What was in memory.
-    pub memory: u64,
+    pub(crate) memory: u64,
     /// What was asked for, touched or not.
-    pub space: u64,
+    pub(crate) space: u64,
 }
 
 impl Peak {
     /// The peak up to now.
-    pub fn now<R: Files + Alloc>(rt: &R) -> io::Result<Peak> {
+    pub(crate) fn now<R: Files + Alloc>(rt: &R) -> io::Result<Peak> {
         let status = fs::read_to_string(rt, "/proc/self/status")?;
         let mut peak = Peak {
             memory: 0,

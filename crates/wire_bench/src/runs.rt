@@ -1,3 +1,5 @@
+//! The runs: what each of them measures and tells.
+
 use crate::count::Count;
 use crate::peak::Peak;
 use crate::stream::{Pieces, Stream, append_head};
@@ -11,7 +13,7 @@ use zmtp_wire::{Decoder, Limits, WireFault};
 const ROUNDS: u32 = 3;
 
 /// Tells how long the decoder, the pieces alone and a plain copy take, over a text that is in memory.
-pub fn whole<R: Clock + Print + AllocGlobal>(
+pub(crate) fn whole<R: Clock + Print + AllocGlobal>(
     rt: &R,
     messages: usize,
     piece: usize,
@@ -28,7 +30,7 @@ pub fn whole<R: Clock + Print + AllocGlobal>(
 }
 
 /// Tells how long the decoder takes, once, and what memory, over a ring that is in memory before.
-pub fn ring<R: Clock + Files + Print + AllocGlobal>(
+pub(crate) fn ring<R: Clock + Files + Print + AllocGlobal>(
     rt: &R,
     messages: usize,
     piece: usize,
@@ -45,7 +47,11 @@ pub fn ring<R: Clock + Files + Print + AllocGlobal>(
 }
 
 /// Tells what memory the head of a frame takes that claims a size, with the first octets of its body.
-pub fn claim<R: Files + Print + AllocGlobal>(rt: &R, size: usize, come: usize) -> io::Result<()> {
+pub(crate) fn claim<R: Files + Print + AllocGlobal>(
+    rt: &R,
+    size: usize,
+    come: usize,
+) -> io::Result<()> {
     let mut octets = Vec::with_capacity(rt.alloc(), come.saturating_add(9))?;
     append_head(false, size, &mut octets)?;
     let len = octets.len().saturating_add(come);

@@ -1,3 +1,5 @@
+//! The text of messages, as it is fed.
+
 ghost use Rattle.std.specs.Iterator.{at_most};
 
 use crate::count::Count;
@@ -5,7 +7,8 @@ use std::alloc::{AllocError, Global};
 
 /// The text of a message again and again. Only some of its repetitions are in memory.
 #[derive(Debug, Drop)]
-pub struct Stream {
+pub(crate) struct Stream {
+    /// The text of as many messages as are held.
     octets: Vec<u8>,
     /// What one message counts.
     message: Count,
@@ -16,7 +19,7 @@ const SHORT: usize = 255;
 
 impl Stream {
     /// Holds so many messages of these bodies, in one block of memory that is taken once.
-    pub fn new(alloc: Global, bodies: &[usize], held: usize) -> Result<Stream, AllocError> {
+    pub(crate) fn new(alloc: Global, bodies: &[usize], held: usize) -> Result<Stream, AllocError> {
         let message = message_count(bodies);
         let mut octets = Vec::with_capacity(alloc, message.times(held).text)?;
         for _ in 0..held {
@@ -26,23 +29,27 @@ impl Stream {
     }
 
     /// Holds as many messages as every piece of this length needs, wherever in a message it begins.
-    pub fn ring(alloc: Global, bodies: &[usize], piece: usize) -> Result<Stream, AllocError> {
+    pub(crate) fn ring(
+        alloc: Global,
+        bodies: &[usize],
+        piece: usize,
+    ) -> Result<Stream, AllocError> {
         let text = message_count(bodies).text.max(1);
         Stream::new(alloc, bodies, (piece / text).saturating_add(2))
     }
 
     /// The octets that are in memory.
-    pub fn octets(&self) -> &[u8] {
+    pub(crate) fn octets(&self) -> &[u8] {
         self.octets.as_slice()
     }
 
     /// What so many messages count.
-    pub fn count_of(&self, messages: usize) -> Count {
+    pub(crate) fn count_of(&self, messages: usize) -> Count {
         self.message.times(messages)
     }
 
     /// The text of so many messages in pieces of this length. None of them is copied.
-    pub fn pieces(&self, messages: usize, piece: usize) -> Pieces<'_> {
+    pub(crate) fn pieces(&self, messages: usize, piece: usize) -> Pieces<'_> {
         Pieces {
             octets: self.octets.as_slice(),
             text: self.message.text,
@@ -55,11 +62,16 @@ impl Stream {
 
 /// The pieces of a stream, in order.
 #[derive(Debug, Drop)]
-pub struct Pieces<'a> {
+pub(crate) struct Pieces<'a> {
+    /// The text that is in memory.
     octets: &'a [u8],
+    /// The length of one message's text.
     text: usize,
+    /// Where the next piece begins.
     at: usize,
+    /// How many octets are still to come.
     left: usize,
+    /// The length of a piece.
     piece: usize,
 }
 
@@ -108,7 +120,7 @@ fn append_message(bodies: &[usize], octets: &mut Vec<u8>) -> Result<(), AllocErr
 }
 
 /// Appends the flags and the size of a frame.
-pub fn append_head(more: bool, body: usize, octets: &mut Vec<u8>) -> Result<(), AllocError> {
+pub(crate) fn append_head(more: bool, body: usize, octets: &mut Vec<u8>) -> Result<(), AllocError> {
     let more = u8::from(more);
     if body > SHORT {
         octets.push(more + 2)?;

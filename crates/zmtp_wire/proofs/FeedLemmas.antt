@@ -1,16 +1,15 @@
 -- What the steps of a feed have read of the octets.
-use Rattle.std.proofs.Common.{◌≡◌, ◌⊎◌, inl, inr, ℕ, ◌+◌, ◌<◌, ◌≤◌, Bool, true, false, List, [], ◌∷◌, ◌++◌, length}
-use Rattle.std.proofs.Common.{take, drop, Option, Some, None, refl, sym, ◌∙◌, ap, subst, arith, append_assoc}
+use Rattle.std.proofs.Common.{◌≡◌, inl, inr, ℕ, List, [], ◌∷◌, ◌++◌}
+use Rattle.std.proofs.Common.{take, drop, Some, None, refl, sym, ◌∙◌, ap, subst, append_assoc}
 use Rattle.std.proofs.lemmas.List.{append-nil, take-append-drop}
-use Rattle.zmtp_wire.specs.declared.limits.Limits.{Limits}
-use Rattle.zmtp_wire.specs.declared.pending.Pending.{Pending}
+use Rattle.zmtp_wire.specs.declared.traffic.limits.Limits.{Limits}
+use Rattle.zmtp_wire.specs.declared.traffic.pending.Pending.{Pending}
 use Rattle.zmtp_wire.specs.declared.traffic.Traffic.{Traffic}
 use Rattle.zmtp_wire.specs.declared.fault.WireFault.{WireFault}
-use Rattle.zmtp_wire.specs.declared.fault.WireFault.TheVariants as faults
-use Rattle.zmtp_wire.specs.Grammar.{Spells, Reads, ReadsUpTo, IsFaulty, IsUnfinished, HasNoTraffic}
+use Rattle.zmtp_wire.specs.Grammar.{Spells, Reads, ReadsUpTo, IsFaulty, IsUnfinished}
 use Rattle.zmtp_wire.specs.Pending.{pending_octets, IsPending, Keeps, Refuses}
 use Rattle.zmtp_wire.specs.Decoding.{IsFaultOf}
-use Rattle.zmtp_wire.proofs.Reading.{Verdict, unfinished, faulty, found, ComesTo, comes_once}
+use Rattle.zmtp_wire.proofs.Reading.{unfinished, faulty, found, ComesTo, comes_once}
 use Rattle.zmtp_wire.proofs.ReadingLemmas.{spelled_comes, faulty_comes, pending_comes}
 
 -- how far a feed has come: what it was given is what was read, what is kept, and what is left of the piece

@@ -1,21 +1,21 @@
 -- No octets are read in two ways.
-use Rattle.std.proofs.Common.{◌≡◌, ◌≢◌, ◌⊎◌, inl, inr, ℕ, ◌+◌, ◌^◌, ◌<◌, ◌≤◌, nat_lt, Bool, true, false, List, [], ◌∷◌}
-use Rattle.std.proofs.Common.{◌++◌, length, map, refl, sym, ◌∙◌, ap, subst, arith, append_assoc}
+use Rattle.std.proofs.Common.{◌≡◌, ◌≢◌, ◌⊎◌, inl, inr, ℕ, ◌^◌, ◌<◌, ◌≤◌, nat_lt, Bool, true, false, List, [], ◌∷◌}
+use Rattle.std.proofs.Common.{◌++◌, length, refl, sym, ◌∙◌, ap, subst, arith, append_assoc}
 use Rattle.std.proofs.lemmas.List.{append-nil}
-use Rattle.std.proofs.lemmas.Bool.{ltb-true, ltb-false}
+use Rattle.std.proofs.lemmas.Bool.{ltb-false}
 use Rattle.std.specs.List.{AllByRecursion, flat_map}
-use Rattle.zmtp_wire.specs.declared.frame.Frame.{Frame}
-use Rattle.zmtp_wire.specs.declared.limits.Limits.{Limits}
+use Rattle.zmtp_wire.specs.declared.traffic.frame.Frame.{Frame}
+use Rattle.zmtp_wire.specs.declared.traffic.limits.Limits.{Limits}
 use Rattle.zmtp_wire.specs.declared.traffic.Traffic.{Traffic}
 use Rattle.zmtp_wire.specs.declared.traffic.Traffic.TheVariants as traffic
 use Rattle.zmtp_wire.specs.declared.fault.WireFault.{WireFault}
 use Rattle.zmtp_wire.specs.declared.fault.WireFault.TheVariants as faults
 use Rattle.zmtp_wire.specs.Frame.{text, head_octets, shortest, frame_octets, HasSize, size_bound, front_octets}
 use Rattle.zmtp_wire.specs.Frame.{bodies_of}
-use Rattle.zmtp_wire.specs.Grammar.{IsWithin, SpellsMessage, Spells, Reads, ReadsUpTo, HasNoTraffic, IsRefused}
+use Rattle.zmtp_wire.specs.Grammar.{IsWithin, SpellsMessage, Spells, ReadsUpTo, HasNoTraffic, IsRefused}
 use Rattle.zmtp_wire.specs.Grammar.{IsFaulty}
 use Rattle.zmtp_wire.specs.Decoding.{FeedsInTurn, pieces_of, traffic_of}
-use Rattle.zmtp_wire.proofs.Reading.{Verdict, unfinished, faulty, found, ComesTo, comes_once}
+use Rattle.zmtp_wire.proofs.Reading.{faulty, found, ComesTo, comes_once}
 use Rattle.zmtp_wire.proofs.ReadingLemmas.{spelled_comes, faulty_comes}
 use Rattle.zmtp_wire.proofs.FeedLemmas.{reads_append}
 
@@ -216,7 +216,7 @@ refused_stays limits before octets after faults.FrameTooLong (more, long, comman
       allowed,
       over,
     )
-refused_stays limits before octets after faults.MessageTooLong (more, long, size, rest, is, said, allowed, fits, over) = (
+refused_stays limits before octets after faults.MessageTooLong (more, long, size, rest, is, said, flags, fits, over) = (
   more,
   long,
   size,
@@ -224,7 +224,7 @@ refused_stays limits before octets after faults.MessageTooLong (more, long, size
   ap (λ o. o ++ after) is
       ∙ append_assoc (head_octets more long false size) rest after,
   said,
-  allowed,
+  flags,
   fits,
   over,
 )

@@ -1,6 +1,7 @@
 pub mod DeviceLemmas
 pub mod MessageLemmas
 pub mod FeedLemmas
+pub mod FlagsLemmas
 pub mod PendingLemmas
 pub mod Reading
 pub mod ReadingLemmas

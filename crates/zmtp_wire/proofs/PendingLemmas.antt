@@ -7,11 +7,11 @@ use Rattle.std.proofs.lemmas.List.{append-nil, map-append, take-append-drop}
 use Rattle.std.proofs.lemmas.List.Sums.{sum_by-append}
 use Rattle.std.proofs.lemmas.Grind.{flat_map-append}
 use Rattle.std.specs.List.{AllByRecursion}
-use Rattle.zmtp_wire.specs.declared.frame.Frame.{Frame}
-use Rattle.zmtp_wire.specs.declared.limits.Limits.{Limits}
-use Rattle.zmtp_wire.specs.declared.pending.Pending.{Pending}
-use Rattle.zmtp_wire.specs.declared.pending.Step.{Step}
-use Rattle.zmtp_wire.specs.declared.pending.Stage.TheVariants as stages
+use Rattle.zmtp_wire.specs.declared.traffic.frame.Frame.{Frame}
+use Rattle.zmtp_wire.specs.declared.traffic.limits.Limits.{Limits}
+use Rattle.zmtp_wire.specs.declared.traffic.pending.Pending.{Pending}
+use Rattle.zmtp_wire.specs.declared.traffic.pending.Step.{Step}
+use Rattle.zmtp_wire.specs.declared.traffic.pending.Stage.TheVariants as stages
 use Rattle.zmtp_wire.specs.declared.traffic.Traffic.{Traffic}
 use Rattle.zmtp_wire.specs.declared.traffic.Traffic.TheVariants as traffic
 use Rattle.zmtp_wire.specs.declared.fault.WireFault.{WireFault}

@@ -14,7 +14,7 @@ use Rattle.std.proofs.lemmas.Bool.{cases_lt, false_from_ne_true}
 use Rattle.std.proofs.lemmas.Nat.{be_bytes_4, from_be_bytes-to_be_bytes_4}
 use Rattle.zmtp_wire.specs.Lengths.{short_text, long_text}
 use Rattle.zmtp_wire.specs.Ready.{Property, IsProperty, Properties, property_octets, is_socket_type, announced}
-use Rattle.zmtp_wire.specs.Ready.{BeginsWith, HasNoProperties}
+use Rattle.zmtp_wire.specs.Ready.{BeginsWithProperty, HasNoProperties}
 
 -- ---- one text behind its length
 
@@ -86,7 +86,7 @@ same_property p q x y is_p is_q same =
 -- with a name at the front and no value behind it, no property begins there
 pub no_value : (octets name behind : List ℕ) → octets ≡ short_text name ++ behind
     → ((text rest : List ℕ) → length text < 2 ^ 32 → behind ≢ long_text text ++ rest) → (p : Property) (rest : List ℕ)
-    → ¬ (BeginsWith octets p rest)
+    → ¬ (BeginsWithProperty octets p rest)
 no_value octets name behind split none p rest begins =
     let names = same_short_text name p.name behind (long_text p.value ++ rest)
     (sym split ∙ begins.1 ∙ property_split p rest) in
@@ -157,7 +157,7 @@ announced_push (q ∷ ps) p =
 
 -- one property more was read
 read_more : (rest left behind : List ℕ) (found : Option (List ℕ)) (p : Property) → HasRead rest left found
-    → BeginsWith left p behind → HasRead rest behind (option_or found (announced (p ∷ [])))
+    → BeginsWithProperty left p behind → HasRead rest behind (option_or found (announced (p ∷ [])))
 read_more rest left behind found p has begins = record {
   read = has.read ++ p ∷ [];
   text = has.text ∙ ap (λ (t : List ℕ). flat_map property_octets has.read ++ t) begins.1
@@ -179,7 +179,7 @@ names_another name not = false_from_ne_true _ (λ is. not
 
 -- the name is Socket-Type
 pub read_type : (rest left behind name value : List ℕ) (found : Option (List ℕ)) → HasRead rest left found
-    → BeginsWith left (record { name = name; value = value }) behind → IsSocketTypeName name
+    → BeginsWithProperty left (record { name = name; value = value }) behind → IsSocketTypeName name
     → HasRead rest behind (option_or found (Some value))
 read_type rest left behind name value found has begins is =
     let test : str_eq_ignore_ascii_case name (codes "Socket-Type") ≡ true = names_socket_type name is in
@@ -189,7 +189,7 @@ read_type rest left behind name value found has begins is =
 
 -- the name isn't Socket-Type
 pub read_other : (rest left behind name value : List ℕ) (found : Option (List ℕ)) → HasRead rest left found
-    → BeginsWith left (record { name = name; value = value }) behind → ¬ (IsSocketTypeName name)
+    → BeginsWithProperty left (record { name = name; value = value }) behind → ¬ (IsSocketTypeName name)
     → HasRead rest behind found
 read_other rest left behind name value found has begins not =
     let test : str_eq_ignore_ascii_case name (codes "Socket-Type") ≡ false = names_another name not in
@@ -203,7 +203,8 @@ read_other rest left behind name value found has begins not =
 
 -- what is left begins with no property: rest is no list of properties
 pub read_broken : (rest left : List ℕ) (found : Option (List ℕ)) → left ≢ []
-    → ((p : Property) (behind : List ℕ) → ¬ (BeginsWith left p behind)) → HasRead rest left found → HasNoProperties rest
+    → ((p : Property) (behind : List ℕ) → ¬ (BeginsWithProperty left p behind)) → HasRead rest left found
+    → HasNoProperties rest
 read_broken rest left found some none has ps are =
     let more = after has.read ps left has.are are.1 (sym has.text ∙ are.0) in
     broken more.0 more.2

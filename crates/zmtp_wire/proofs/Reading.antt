@@ -1,24 +1,13 @@
 -- The grammar read from the front, as one function: so that no octets can be read in two ways.
-use Rattle.std.proofs.Common.{◌≡◌, ◌≢◌, ◌⊎◌, inl, inr, ℕ, zero, suc, ◌+◌, ◌-◌, ◌/◌, ◌%◌, ◌^◌, ◌<◌, ◌≤◌, ◌||◌, ◌&&◌}
+use Rattle.std.proofs.Common.{◌≡◌, ℕ, zero, suc, ◌+◌, ◌/◌, ◌%◌, ◌||◌, ◌&&◌}
 use Rattle.std.proofs.Common.{nat_lt, nat_le, nat_eq, Bool, true, false, not, cond, List, [], ◌∷◌, ◌++◌, length, take}
-use Rattle.std.proofs.Common.{drop, sum_by, get_or, Option, Some, None, refl, sym, ◌∙◌, ap, subst, arith, rules}
-use Rattle.std.proofs.Common.{append_assoc, length-append}
-use Rattle.std.specs.Int.{w64, to_be_bytes, from_be_bytes}
-use Rattle.std.proofs.lemmas.Nat.{from_be_bytes-to_be_bytes_8}
-use Rattle.std.proofs.lemmas.List.{append-nil, map-append, length-map, take-append-drop}
-use Rattle.std.proofs.Math.Seq.{take-append_seam, drop-append_seam}
-use Rattle.std.specs.List.{AllByRecursion, flat_map}
-use Rattle.zmtp_wire.specs.declared.frame.Frame.{Frame}
-use Rattle.zmtp_wire.specs.declared.limits.Limits.{Limits}
+use Rattle.std.proofs.Common.{drop, sum_by, sym, ◌∙◌, ap, arith}
+use Rattle.std.specs.Int.{w64, from_be_bytes}
+use Rattle.zmtp_wire.specs.declared.traffic.limits.Limits.{Limits}
 use Rattle.zmtp_wire.specs.declared.traffic.Traffic.{Traffic}
 use Rattle.zmtp_wire.specs.declared.traffic.Traffic.TheVariants as traffic
 use Rattle.zmtp_wire.specs.declared.fault.WireFault.{WireFault}
 use Rattle.zmtp_wire.specs.declared.fault.WireFault.TheVariants as faults
-use Rattle.zmtp_wire.specs.Frame.{flags_octet, head_octets, size_octets, size_bound, HasSize, front_octets, bodies_of}
-use Rattle.zmtp_wire.specs.Frame.{frame_octets}
-use Rattle.zmtp_wire.specs.Grammar.{IsWithin, SpellsMessage, SpellsCommand, Spells, Reads, ReadsUpTo, AcceptsFlags}
-use Rattle.zmtp_wire.specs.Grammar.{IsBadFlags, reserved, command_with_more, command_inside, IsRefused, IsFaulty}
-use Rattle.zmtp_wire.specs.Grammar.{IsBadCommand, IsUnfinished, command_body}
 
 -- what stands at the front, behind the frames of a message that goes on
 pub data Look : Type 0 where

@@ -1,33 +1,32 @@
 -- The grammar's cases are what reading from the front comes to.
-use Rattle.std.proofs.Common.{◌≡◌, ◌≢◌, ◌⊎◌, inl, inr, ℕ, zero, suc, ◌+◌, ◌<◌, ◌≤◌, ◌||◌, nat_lt, nat_le, nat_eq, Bool}
+use Rattle.std.proofs.Common.{◌≡◌, ◌≢◌, inl, inr, ℕ, suc, ◌+◌, ◌<◌, ◌≤◌, ◌||◌, nat_eq, Bool}
 use Rattle.std.proofs.Common.{true, false, cond, List, [], ◌∷◌, ◌++◌, length, take, drop, sum_by, refl, sym, ◌∙◌, ap}
 use Rattle.std.proofs.Common.{subst, arith, append_assoc, length-append, add-zero, add-suc}
 use Rattle.std.specs.Int.{w64, to_be_bytes, from_be_bytes}
 use Rattle.std.proofs.lemmas.Nat.{from_be_bytes-to_be_bytes_8}
 use Rattle.std.proofs.lemmas.Bool.{lt-ltb, le-ltb, le-leb, lt-leb, eq-eqb, ne_eqb}
-use Rattle.std.proofs.lemmas.List.{append-nil, map-append, length-map}
+use Rattle.std.proofs.lemmas.List.{append-nil, map-append}
 use Rattle.std.proofs.lemmas.List.Sums.{sum_by-append}
 use Rattle.std.proofs.Math.Seq.{take-append_seam, drop-append_seam}
 use Rattle.std.specs.List.{AllByRecursion}
-use Rattle.zmtp_wire.specs.declared.frame.Frame.{Frame}
-use Rattle.zmtp_wire.specs.declared.flags.Flags.{Flags}
-use Rattle.zmtp_wire.specs.declared.limits.Limits.{Limits}
-use Rattle.zmtp_wire.specs.declared.pending.Pending.{Pending}
-use Rattle.zmtp_wire.specs.declared.pending.Stage.{Stage}
-use Rattle.zmtp_wire.specs.declared.pending.Stage.TheVariants as stages
+use Rattle.zmtp_wire.specs.declared.traffic.frame.Frame.{Frame}
+use Rattle.zmtp_wire.specs.declared.traffic.limits.Limits.{Limits}
+use Rattle.zmtp_wire.specs.declared.traffic.pending.Pending.{Pending}
+use Rattle.zmtp_wire.specs.declared.traffic.pending.Stage.{Stage}
+use Rattle.zmtp_wire.specs.declared.traffic.pending.Stage.TheVariants as stages
 use Rattle.zmtp_wire.specs.declared.traffic.Traffic.{Traffic}
 use Rattle.zmtp_wire.specs.declared.traffic.Traffic.TheVariants as traffic
 use Rattle.zmtp_wire.specs.declared.fault.WireFault.{WireFault}
 use Rattle.zmtp_wire.specs.declared.fault.WireFault.TheVariants as faults
 use Rattle.zmtp_wire.specs.Frame.{flags_octet, head_octets, size_octets, size_bound, HasSize, front_octets, bodies_of}
 use Rattle.zmtp_wire.specs.Frame.{frame_octets}
-use Rattle.zmtp_wire.specs.Grammar.{IsWithin, SpellsMessage, SpellsCommand, Spells, AcceptsFlags, IsBadFlags, reserved}
+use Rattle.zmtp_wire.specs.Grammar.{IsWithin, Spells, AcceptsFlags, IsBadFlags, reserved}
 use Rattle.zmtp_wire.specs.Grammar.{command_with_more, command_inside, IsRefused, IsFaulty, IsBadCommand, command_body}
-use Rattle.zmtp_wire.specs.Pending.{size_len, stage_octets, pending_octets, bodies_before, AcceptsSize, IsStage}
+use Rattle.zmtp_wire.specs.Pending.{size_len, stage_octets, pending_octets, bodies_before, IsStage}
 use Rattle.zmtp_wire.specs.Pending.{IsPending}
-use Rattle.zmtp_wire.proofs.Reading.{Look, waits, refused, more_frame, last_frame, command, command_in, whole_in}
+use Rattle.zmtp_wire.proofs.Reading.{waits, refused, command, command_in, whole_in}
 use Rattle.zmtp_wire.proofs.Reading.{body_in, size_in, flags_in, look, Verdict, unfinished, faulty, found, walk}
-use Rattle.zmtp_wire.proofs.Reading.{walk_on, ComesTo, comes_once}
+use Rattle.zmtp_wire.proofs.Reading.{walk_on, ComesTo}
 
 -- one more test of what follows
 body_too_long : (limits : Limits) (before : List (List ℕ)) (more is_command : Bool) (size : ℕ) (octets : List ℕ)
@@ -240,9 +239,9 @@ stage_waits : (limits : Limits) (before : List (List ℕ)) (stage : Stage) → I
 unfolding look
 stage_waits limits before stages.Flags h = refl
 stage_waits limits before (stages.Size flags octets) h =
-    look_flags limits before flags.more flags.long flags.command octets.items
-    ∙ flags_accepted limits before flags.more flags.long flags.command octets.items h.0
-    ∙ cut_size limits before flags.more flags.long flags.command octets.items h.1
+    look_flags limits before flags.more flags.long flags.command octets
+    ∙ flags_accepted limits before flags.more flags.long flags.command octets h.0
+    ∙ cut_size limits before flags.more flags.long flags.command octets h.1
 stage_waits limits before (stages.Body flags size body) h =
     look_head limits before flags.more flags.long flags.command size body.items h.0.allowed h.0.said
     ∙ body_waits limits before flags.more flags.command size body.items h.0.frame h.0.message h.1

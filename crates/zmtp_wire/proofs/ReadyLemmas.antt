@@ -7,9 +7,10 @@ use Rattle.std.specs.Str.{str_to_ascii_lowercase}
 use Rattle.std.proofs.lemmas.List.{append-nil}
 use Rattle.zmtp_wire.specs.declared.fault.WireFault.{WireFault}
 use Rattle.zmtp_wire.specs.declared.fault.WireFault.TheVariants as fault
-use Rattle.zmtp_wire.specs.declared.ready.Ready.{Ready}
-use Rattle.zmtp_wire.specs.declared.socket_type.SocketType.{SocketType}
-use Rattle.zmtp_wire.specs.declared.socket_type.SocketType.TheVariants.{Req, Rep, Dealer, Router, Pub, Sub, Xsub}
+use Rattle.zmtp_wire.specs.declared.handshake.ready.Ready.{Ready}
+use Rattle.zmtp_wire.specs.declared.handshake.socket_type.SocketType.{SocketType}
+use Rattle.zmtp_wire.specs.declared.handshake.socket_type.SocketType.TheVariants.{Req, Rep, Dealer, Router, Pub, Sub}
+use Rattle.zmtp_wire.specs.declared.handshake.socket_type.SocketType.TheVariants.{Xsub}
 use Rattle.zmtp_wire.specs.declared.traffic.Traffic.{Traffic}
 use Rattle.zmtp_wire.specs.declared.traffic.Traffic.TheVariants.{Message, Command}
 use Rattle.zmtp_wire.specs.SocketType.{type_name, NamesType, Pairs}
@@ -89,15 +90,15 @@ no_ready_no_error (Command name rest) (inl other) error = other.1 (error_named n
 no_ready_no_error (Command name rest) (inr (is, _)) error = ready_no_error name is (error_named name error)
 
 -- the outcomes that there are
-data Outcome (first : Traffic) (ours : SocketType) : Result Ready WireFault → Type 0 where
+data ReadyOutcome (first : Traffic) (ours : SocketType) : Result Ready WireFault → Type 0 where
   accepts : (peer : SocketType) (v : List ℕ) → Announces first v → Accepts ours v peer
-      → Outcome first ours (Ok (record { peer = peer }))
-  pairs_not : (v : List ℕ) → Announces first v → AcceptsNone ours v → Outcome first ours (Err fault.Pairing)
-  no_ready : IsNoReady first → Outcome first ours (Err fault.Command)
-  error : IsError first → Outcome first ours (Err fault.PeerError)
+      → ReadyOutcome first ours (Ok (record { peer = peer }))
+  pairs_not : (v : List ℕ) → Announces first v → AcceptsNone ours v → ReadyOutcome first ours (Err fault.Pairing)
+  no_ready : IsNoReady first → ReadyOutcome first ours (Err fault.Command)
+  error : IsError first → ReadyOutcome first ours (Err fault.PeerError)
 
 outcome : (first : Traffic) (ours : SocketType) (r : Result Ready WireFault) → IsReady first ours r
-    → Outcome first ours r
+    → ReadyOutcome first ours r
 outcome first ours (Ok ready) is = accepts ready.peer is.0 is.1 is.2
 outcome first ours (Err fault.Pairing) is = pairs_not is.0 is.1 is.2
 outcome first ours (Err fault.Command) is = no_ready is
@@ -109,8 +110,8 @@ accepts_some : (first : Traffic) (ours peer : SocketType) (v w : List ℕ) → A
 accepts_some first ours peer v w one some other none = none peer
     (subst (λ (u : List ℕ). Accepts ours u peer) (same_value first v w one other) some)
 
-one_outcome : (first : Traffic) (ours : SocketType) (r s : Result Ready WireFault) → Outcome first ours r
-    → Outcome first ours s → r ≡ s
+one_outcome : (first : Traffic) (ours : SocketType) (r s : Result Ready WireFault) → ReadyOutcome first ours r
+    → ReadyOutcome first ours s → r ≡ s
 one_outcome first ours _ _ (accepts t v one some) (accepts u w other more) =
     ap (λ (p : SocketType). Ok (record { peer = p })) (one_type w t u
     (subst (λ (x : List ℕ). NamesType x t) (same_value first v w one other) some.0) more.0)

@@ -1,5 +1,5 @@
 -- Devices, which octets are read from and written to: what they tell, and counts that contracts alone see.
-use Rattle.std.specs.Prelude.{◌≡◌, ◌⊎◌, ℕ, zero, suc, ◌+◌, ◌<◌, min, List, [], ◌++◌, length, take, Option, Result, Ok}
+use Rattle.std.specs.Prelude.{◌≡◌, ℕ, zero, suc, ◌+◌, ◌<◌, min, List, ◌++◌, length, take, Option, Result, Ok}
 use Rattle.std.specs.Prelude.{Err}
 use Rattle.std.specs.Io.KnownBytes.{Appends, Consumes, IsAtEnd, Keeps}
 use Rattle.zmtp_wire.specs.declared.device.ReadFailed.{ReadFailed}

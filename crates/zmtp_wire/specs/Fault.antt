@@ -6,16 +6,16 @@ use Rattle.zmtp_wire.specs.declared.fault.WireFault.TheVariants.{TooManyFrames, 
 use Rattle.zmtp_wire.specs.declared.fault.WireFault.TheVariants.{PeerError, Spent, OutOfMemory}
 
 -- the number of a fault, from 1 on in the order in which the faults are listed
-abbrev pub fault_number : WireFault → ℕ
-fault_number Signature = 1
-fault_number Version = 2
-fault_number Mechanism = 3
-fault_number Flags = 4
-fault_number FrameTooLong = 5
-fault_number TooManyFrames = 6
-fault_number MessageTooLong = 7
-fault_number Command = 8
-fault_number Pairing = 9
-fault_number PeerError = 10
-fault_number Spent = 11
-fault_number OutOfMemory = 12
+abbrev pub wire_fault_number : WireFault → ℕ
+wire_fault_number Signature = 1
+wire_fault_number Version = 2
+wire_fault_number Mechanism = 3
+wire_fault_number Flags = 4
+wire_fault_number FrameTooLong = 5
+wire_fault_number TooManyFrames = 6
+wire_fault_number MessageTooLong = 7
+wire_fault_number Command = 8
+wire_fault_number Pairing = 9
+wire_fault_number PeerError = 10
+wire_fault_number Spent = 11
+wire_fault_number OutOfMemory = 12

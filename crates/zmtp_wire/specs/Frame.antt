@@ -1,9 +1,9 @@
 -- A frame of ZMTP 3.0: a flags octet, a size, a body (RFC 23, "Framing").
-use Rattle.std.specs.Prelude.{◌≡◌, ℕ, ◌+◌, ◌/◌, ◌%◌, ◌^◌, ◌<◌, ◌≤◌, ◌==◌, ◌||◌, ◌&&◌, nat_lt, nat_le, Bool, true}
-use Rattle.std.specs.Prelude.{false, not, if◌then◌else◌, List, [], ◌∷◌, ◌++◌, length, map, sum_by}
+use Rattle.std.specs.Prelude.{ℕ, ◌+◌, ◌^◌, ◌<◌, nat_lt, Bool, true}
+use Rattle.std.specs.Prelude.{false, if◌then◌else◌, List, [], ◌∷◌, ◌++◌, length, map}
 use Rattle.std.specs.Int.{w64, to_be_bytes}
 use Rattle.std.specs.List.{flat_map}
-use Rattle.zmtp_wire.specs.declared.frame.Frame.{Frame}
+use Rattle.zmtp_wire.specs.declared.traffic.frame.Frame.{Frame}
 
 -- the flags octet: bit 0 is MORE, bit 1 LONG, bit 2 COMMAND, the others are zero
 abbrev pub flags_octet : Bool → Bool → Bool → ℕ

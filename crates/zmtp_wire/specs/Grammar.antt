@@ -2,8 +2,8 @@
 use Rattle.std.specs.Prelude.{◌≡◌, ◌≢◌, ℕ, ◌+◌, ◌^◌, ◌<◌, ◌≤◌, Bool, true, false, List, [], ◌∷◌, ◌++◌, length, sum_by}
 use Rattle.std.specs.Prelude.{⊤, ◌⊎◌}
 use Rattle.std.specs.List.{AllByRecursion}
-use Rattle.zmtp_wire.specs.declared.frame.Frame.{Frame}
-use Rattle.zmtp_wire.specs.declared.limits.Limits.{Limits}
+use Rattle.zmtp_wire.specs.declared.traffic.frame.Frame.{Frame}
+use Rattle.zmtp_wire.specs.declared.traffic.limits.Limits.{Limits}
 use Rattle.zmtp_wire.specs.declared.traffic.Traffic.{Traffic}
 use Rattle.zmtp_wire.specs.declared.traffic.Traffic.TheVariants.{Message, Command}
 use Rattle.zmtp_wire.specs.declared.fault.WireFault.{WireFault}

@@ -2,7 +2,7 @@
 use Rattle.std.specs.Prelude.{◌≡◌, ℕ, ◌<◌, ◌≤◌, List, [], ◌∷◌, ◌++◌, codes, replicate, slice_index, slice_range}
 use Rattle.zmtp_wire.specs.declared.fault.WireFault.{WireFault}
 use Rattle.zmtp_wire.specs.declared.fault.WireFault.TheVariants as faults
-use Rattle.zmtp_wire.specs.declared.greet.Peer.{Peer}
+use Rattle.zmtp_wire.specs.declared.handshake.greeting.Peer.{Peer}
 
 -- mechanism = "NULL", padded with zeros to 20 octets
 abbrev pub null_mechanism : List ℕ

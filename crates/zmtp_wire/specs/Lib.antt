@@ -4,6 +4,7 @@ pub mod Fault
 pub mod Frame
 pub mod Grammar
 pub mod Greeting
+pub mod Laws
 pub mod Lengths
 pub mod Limits
 pub mod Pending

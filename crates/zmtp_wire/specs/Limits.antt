@@ -1,5 +1,5 @@
 -- How much a peer may send.
-use Rattle.zmtp_wire.specs.declared.limits.Limits.{Limits}
+use Rattle.zmtp_wire.specs.declared.traffic.limits.Limits.{Limits}
 
 -- the limits of the kernel: 16 MiB a frame, 64 frames a message, 32 MiB a message
 abbrev pub usual_limits : Limits

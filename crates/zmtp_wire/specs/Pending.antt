@@ -1,17 +1,16 @@
 -- What a decoder holds of traffic that isn't whole, and the octets that it stands for.
-use Rattle.std.specs.Prelude.{◌≡◌, ◌≢◌, ℕ, ◌+◌, ◌^◌, ◌<◌, ◌≤◌, Bool, true, false, List, [], ◌∷◌, ◌++◌, length, sum_by}
-use Rattle.std.specs.Prelude.{⊤, ◌⊎◌, Option, MatchOption, Result, MatchResult, take, IfErr}
+use Rattle.std.specs.Prelude.{◌≡◌, ℕ, ◌+◌, ◌^◌, ◌<◌, ◌≤◌, Bool, true, false, List, [], ◌∷◌, ◌++◌, length, sum_by}
+use Rattle.std.specs.Prelude.{⊤, ◌⊎◌, Option, MatchOption}
 use Rattle.std.specs.List.{AllByRecursion}
-use Rattle.zmtp_wire.specs.declared.frame.Frame.{Frame}
-use Rattle.zmtp_wire.specs.declared.limits.Limits.{Limits}
+use Rattle.zmtp_wire.specs.declared.traffic.limits.Limits.{Limits}
 use Rattle.zmtp_wire.specs.declared.traffic.Traffic.{Traffic}
 use Rattle.zmtp_wire.specs.declared.traffic.Traffic.TheVariants as traffic
 use Rattle.zmtp_wire.specs.declared.fault.WireFault.{WireFault}
 use Rattle.zmtp_wire.specs.declared.fault.WireFault.TheVariants.{OutOfMemory}
-use Rattle.zmtp_wire.specs.declared.flags.Flags.{Flags}
-use Rattle.zmtp_wire.specs.declared.pending.Stage.{Stage}
-use Rattle.zmtp_wire.specs.declared.pending.Stage.TheVariants as stages
-use Rattle.zmtp_wire.specs.declared.pending.Pending.{Pending}
+use Rattle.zmtp_wire.specs.declared.traffic.flags.Flags.{Flags}
+use Rattle.zmtp_wire.specs.declared.traffic.pending.Stage.{Stage}
+use Rattle.zmtp_wire.specs.declared.traffic.pending.Stage.TheVariants as stages
+use Rattle.zmtp_wire.specs.declared.traffic.pending.Pending.{Pending}
 use Rattle.zmtp_wire.specs.Frame.{flags_octet, head_octets, size_bound, HasSize, front_octets, bodies_of}
 use Rattle.zmtp_wire.specs.Grammar.{command_body, IsWithin, Spells, AcceptsFlags, IsFaulty}
 
@@ -27,7 +26,7 @@ head_of flags size = head_octets flags.more flags.long flags.command size
 -- the octets of a frame that have come
 abbrev pub stage_octets : Stage → List ℕ
 stage_octets stages.Flags = []
-stage_octets (stages.Size flags octets) = flags_octet flags.more flags.long flags.command ∷ octets.items
+stage_octets (stages.Size flags octets) = flags_octet flags.more flags.long flags.command ∷ octets
 stage_octets (stages.Body flags size body) = head_of flags size ++ body.items
 
 -- the octets of a message, or of a command, that have come
@@ -49,7 +48,7 @@ pub record AcceptsSize (limits : Limits) (before : List (List ℕ)) (flags : Fla
 abbrev pub IsStage : Limits → List (List ℕ) → Stage → Type 0
 IsStage limits before stages.Flags = ⊤
 IsStage limits before (stages.Size flags octets) = AcceptsFlags limits before flags.more flags.command
-    × (length octets.items < size_len flags.long)
+    × (length octets < size_len flags.long)
 IsStage limits before (stages.Body flags size body) = AcceptsSize limits before flags size × (length body.items < size)
 
 -- the whole frames are those of a message that goes on, within the limits

@@ -7,8 +7,8 @@ use Rattle.std.specs.Option.{option_map}
 use Rattle.std.specs.Str.{str_eq_ignore_ascii_case}
 use Rattle.zmtp_wire.specs.declared.fault.WireFault.{WireFault}
 use Rattle.zmtp_wire.specs.declared.fault.WireFault.TheVariants as fault
-use Rattle.zmtp_wire.specs.declared.ready.Ready.{Ready}
-use Rattle.zmtp_wire.specs.declared.socket_type.SocketType.{SocketType}
+use Rattle.zmtp_wire.specs.declared.handshake.ready.Ready.{Ready}
+use Rattle.zmtp_wire.specs.declared.handshake.socket_type.SocketType.{SocketType}
 use Rattle.zmtp_wire.specs.declared.traffic.Traffic.{Traffic}
 use Rattle.zmtp_wire.specs.declared.traffic.Traffic.TheVariants.{Message, Command}
 use Rattle.zmtp_wire.specs.SocketType.{type_name, NamesType, Pairs}
@@ -37,8 +37,8 @@ abbrev pub Properties : List ℕ → List Property → Type 0
 Properties octets ps = (octets ≡ flat_map property_octets ps) × AllByRecursion IsProperty ps
 
 -- the octets begin with this property, and rest stands behind it
-abbrev pub BeginsWith : List ℕ → Property → List ℕ → Type 0
-BeginsWith octets p rest = IsProperty p × (octets ≡ property_octets p ++ rest)
+abbrev pub BeginsWithProperty : List ℕ → Property → List ℕ → Type 0
+BeginsWithProperty octets p rest = IsProperty p × (octets ≡ property_octets p ++ rest)
 
 -- the property is named Socket-Type, without regard to ASCII case
 abbrev pub is_socket_type : Property → Bool

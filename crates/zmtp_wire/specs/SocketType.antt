@@ -1,8 +1,9 @@
 -- The types of a socket (ZeroMQ RFC 23, property `Socket-Type`), and which of them talk to each other.
 use Rattle.std.specs.Prelude.{◌≡◌, ℕ, List, [], ◌∷◌, codes, Contains}
 use Rattle.std.specs.Str.{str_to_ascii_lowercase}
-use Rattle.zmtp_wire.specs.declared.socket_type.SocketType.{SocketType}
-use Rattle.zmtp_wire.specs.declared.socket_type.SocketType.TheVariants.{Req, Rep, Dealer, Router, Pub, Sub, Xsub}
+use Rattle.zmtp_wire.specs.declared.handshake.socket_type.SocketType.{SocketType}
+use Rattle.zmtp_wire.specs.declared.handshake.socket_type.SocketType.TheVariants.{Req, Rep, Dealer, Router, Pub, Sub}
+use Rattle.zmtp_wire.specs.declared.handshake.socket_type.SocketType.TheVariants.{Xsub}
 
 -- the name of a type, as it is sent
 abbrev pub type_name : SocketType → List ℕ

@@ -25,7 +25,7 @@ pub struct WriteFailed;
 
 /// What octets are read from.
 pub trait Inlet {
-    // The octets left, where it tells them, and its counts.
+    /// The octets left, where it tells them, and its counts.
     ghost inflow: { Self → Inflow };
 
     /// Reads the next octets into the front of `into`, and answers how many: 0 only where none is left, or where
@@ -41,7 +41,7 @@ pub trait Inlet {
 
 /// What octets are written to.
 pub trait Outlet {
-    // The octets written, where it tells them, and its count.
+    /// The octets written, where it tells them, and its count.
     ghost outflow: { Self → Outflow };
 
     /// Writes the first octets of a piece, and answers how many: 0 counts as a failure where the piece isn't empty.
@@ -78,9 +78,13 @@ pub fn write_all<W: Outlet>(writer: &mut W, octets: &[u8]) -> Result<(), WriteFa
 /// writes, each up to the greatest `u64`. A call that the system interrupted is made again.
 #[derive(Debug, Drop)]
 pub struct Counted<D> {
+    /// What is read or written.
     device: D,
+    /// How often it was read.
     reads: u64,
+    /// How many of the reads failed.
     failed_reads: u64,
+    /// How many writes failed, or took nothing of a piece that isn't empty.
     failed_writes: u64,
 }
 
@@ -164,7 +168,7 @@ impl<D: Write> Outlet for Counted<D> {
     }
 }
 
-// One read that the system doesn't interrupt.
+/// One read that the system doesn't interrupt.
 fn read_once<R: Read>(reader: &mut R, into: &mut [u8]) -> Result<usize, ReadFailed>
     ensures bound { ReadsAtMost result into.new }
     ensures bytes { ReadConsumes (R.remaining reader.old) (R.remaining reader.new) result into.new }
@@ -182,7 +186,7 @@ fn read_once<R: Read>(reader: &mut R, into: &mut [u8]) -> Result<usize, ReadFail
     Err(ReadFailed)
 }
 
-// One write that the system doesn't interrupt.
+/// One write that the system doesn't interrupt.
 fn write_once<W: Write>(writer: &mut W, piece: &[u8]) -> Result<usize, WriteFailed>
     ensures bound { WritesAtMost result piece.now }
     ensures bytes { WriteAppends (W.contents writer.old) (W.contents writer.new) result piece.now }

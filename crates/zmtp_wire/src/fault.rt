@@ -1,5 +1,7 @@
+//! The faults of the wire.
+
 ghost use Rattle.std.specs.Prelude.{◌≡◌};
-ghost use Rattle.zmtp_wire.specs.Fault.{fault_number};
+ghost use Rattle.zmtp_wire.specs.Fault.{wire_fault_number};
 ghost use Rattle.zmtp_wire.specs.declared.fault.WireFault.TheVariants.{OutOfMemory};
 
 use std::alloc::{AllocError, AllocFailed};
@@ -49,7 +51,7 @@ pub enum WireFault {
 impl WireFault {
     /// The number of the fault, from 1 on in the order of the variants.
     pub fn number(self) -> u8
-        ensures { result ≡ fault_number self }
+        ensures { result ≡ wire_fault_number self }
     {
         match self {
             WireFault::Signature => 1,

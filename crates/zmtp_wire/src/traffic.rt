@@ -1,3 +1,14 @@
+//! What a peer sends behind its greeting: frames, and the messages and commands that they spell (RFC 23, "Traffic").
+
+mod command;
+pub(crate) mod decoder;
+mod flags;
+pub(crate) mod frame;
+pub(crate) mod limits;
+pub(crate) mod message;
+mod pending;
+mod size;
+
 use listed::{Frames, Octets};
 
 /// What a peer sends after its greeting (ZMTP 3.0, "Traffic").

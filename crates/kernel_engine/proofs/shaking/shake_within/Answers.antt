@@ -3,8 +3,9 @@ use Rattle.std.proofs.lemmas.Result.{err_from_is_err_and}
 use Rattle.zmtp_wire.specs.Greeting.{greeting_octets}
 use Rattle.zmtp_wire.specs.Ready.{ready_octets}
 use Rattle.zmtp_wire.specs.Device.{Puts}
-use Rattle.kernel_engine.proofs.ShakeLemmas.{greeting_unsent, greeting_refused, ready_refused, ready_unsent, opened}
-use Rattle.kernel_engine.proofs.ShakeLemmas.{nothing_came, peer_met, peer_refused, if_ok_map, if_err_map}
+use Rattle.kernel_engine.proofs.ShakeLemmas.{Opened, greeting_unsent, greeting_refused, ready_refused, ready_unsent}
+use Rattle.kernel_engine.proofs.ShakeLemmas.{opened, nothing_came, judged_met, judged_refused}
+use Rattle.kernel_engine.proofs.shaking.shake_within.Given.{Over}
 use Rattle.kernel_engine.proofs.shaking.shake_within.Goals as goal
 
 pub returns-in_err-put-clause-turned_away : goal.returns-in_err-put-clause-turned_away
@@ -61,40 +62,36 @@ returns-in_err-fed-clause-turned_away g c =
     c.read_opening.new.turns c.read_first.new.turns c.in_ok-opening.opening octets c.in_err-fed.field-0.0 o brings
     reading)
 
-pub returns-clause-met : goal.returns-clause-met
-returns-clause-met g c =
+-- the peer was greeted, and our READY was written
+greeted : (g : Over) (c : goal.After-drop-ready-2 g) → Opened c.args.ours (g.R.Inlet.inflow c.args.reader.now)
+    (g.R.Inlet.inflow c.read_opening.new.reader) (g.W.Outlet.outflow c.args.writer.now)
+    (g.W.Outlet.outflow c.put-2.new.writer) c.args.turns.now c.read_opening.new.turns c.in_ok-opening.opening
+greeted g c =
     let sent : Puts (g.W.Outlet.outflow c.args.writer.now) (g.W.Outlet.outflow c.put.new.writer) greeting_octets 0 =
     rw c.greeting.ensures at c.in_ok-put.ensures in
     let ready : Puts (g.W.Outlet.outflow c.put.new.writer) (g.W.Outlet.outflow c.put-2.new.writer)
     (ready_octets c.args.ours) 0 = rw (c.deref.ensures.value, c.in-Ok.ensures.text) at c.in_ok-put-2.ensures in
-    let o = opened c.args.ours (g.R.Inlet.inflow c.args.reader.now) (g.R.Inlet.inflow c.read_opening.new.reader)
+    opened c.args.ours (g.R.Inlet.inflow c.args.reader.now) (g.R.Inlet.inflow c.read_opening.new.reader)
     (g.W.Outlet.outflow c.args.writer.now) (g.W.Outlet.outflow c.put.new.writer)
     (g.W.Outlet.outflow c.put-2.new.writer) c.args.turns.now c.read_opening.new.turns c.in_ok-opening.opening
-    c.in_ok-opening.ensures.ok.0 c.in_ok-opening.ensures.ok.1 c.in_default.ensures.accepted.0 sent ready in
+    c.in_ok-opening.ensures.ok.0 c.in_ok-opening.ensures.ok.1 c.in_default.ensures.accepted.0 sent ready
+
+pub returns-clause-met : goal.returns-clause-met
+returns-clause-met g c =
+    let o = greeted g c in
     let (some, (octets, fed, leg)) = c.in_ok-fed.ensures.ok in
-    if_ok_map c.meet.result _ _ c.meet.ensures.ok
-    (λ shaken (first, traffic_is, fault_is, decoder_is, accepted). rw decoder_is
-    (peer_met c.args.ours (g.R.Inlet.inflow c.args.reader.now) (g.R.Inlet.inflow c.read_opening.new.reader)
-    (g.R.Inlet.inflow c.read_first.new.reader) (g.W.Outlet.outflow c.args.writer.now)
-    (g.W.Outlet.outflow c.put-2.new.writer) c.args.turns.now c.read_opening.new.turns c.read_first.new.turns
-    c.in_ok-opening.opening octets c.in_ok-fed.fed shaken.fed c.read_first.new.decoder first shaken.peer o leg fed
-    traffic_is fault_is accepted))
+    judged_met c.meet.result c.args.ours (g.R.Inlet.inflow c.args.reader.now)
+    (g.R.Inlet.inflow c.read_opening.new.reader) (g.R.Inlet.inflow c.read_first.new.reader)
+    (g.W.Outlet.outflow c.args.writer.now) (g.W.Outlet.outflow c.put-2.new.writer)
+    c.args.turns.now c.read_opening.new.turns c.read_first.new.turns
+    c.in_ok-opening.opening octets c.in_ok-fed.fed c.read_first.new.decoder o leg fed c.meet.ensures.ok
 
 pub returns-clause-turned_away : goal.returns-clause-turned_away
 returns-clause-turned_away g c =
-    let sent : Puts (g.W.Outlet.outflow c.args.writer.now) (g.W.Outlet.outflow c.put.new.writer) greeting_octets 0 =
-    rw c.greeting.ensures at c.in_ok-put.ensures in
-    let ready : Puts (g.W.Outlet.outflow c.put.new.writer) (g.W.Outlet.outflow c.put-2.new.writer)
-    (ready_octets c.args.ours) 0 = rw (c.deref.ensures.value, c.in-Ok.ensures.text) at c.in_ok-put-2.ensures in
-    let o = opened c.args.ours (g.R.Inlet.inflow c.args.reader.now) (g.R.Inlet.inflow c.read_opening.new.reader)
-    (g.W.Outlet.outflow c.args.writer.now) (g.W.Outlet.outflow c.put.new.writer)
-    (g.W.Outlet.outflow c.put-2.new.writer) c.args.turns.now c.read_opening.new.turns c.in_ok-opening.opening
-    c.in_ok-opening.ensures.ok.0 c.in_ok-opening.ensures.ok.1 c.in_default.ensures.accepted.0 sent ready in
+    let o = greeted g c in
     let (some, (octets, fed, leg)) = c.in_ok-fed.ensures.ok in
-    if_err_map c.meet.result _ _ c.meet.ensures.err
-    (λ end (first, others, fault, traffic_is, refused, end_is). rw end_is
-    (peer_refused c.args.ours (g.R.Inlet.inflow c.args.reader.now) (g.R.Inlet.inflow c.read_opening.new.reader)
-    (g.R.Inlet.inflow c.read_first.new.reader) (g.W.Outlet.outflow c.args.writer.now)
-    (g.W.Outlet.outflow c.put-2.new.writer) c.args.turns.now c.read_opening.new.turns c.read_first.new.turns
-    c.in_ok-opening.opening octets c.in_ok-fed.fed c.read_first.new.decoder first others fault o leg fed traffic_is
-    refused))
+    judged_refused c.meet.result c.args.ours (g.R.Inlet.inflow c.args.reader.now)
+    (g.R.Inlet.inflow c.read_opening.new.reader) (g.R.Inlet.inflow c.read_first.new.reader)
+    (g.W.Outlet.outflow c.args.writer.now) (g.W.Outlet.outflow c.put-2.new.writer)
+    c.args.turns.now c.read_opening.new.turns c.read_first.new.turns
+    c.in_ok-opening.opening octets c.in_ok-fed.fed c.read_first.new.decoder o leg fed c.meet.ensures.err

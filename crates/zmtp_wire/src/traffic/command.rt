@@ -1,0 +1,30 @@
+//! Reading the body of a command.
+
+ghost use Rattle.std.specs.Prelude.{◌≡◌, ◌⊎◌, IfOk, IfErr};
+ghost use Rattle.zmtp_wire.specs.Grammar.{IsBadCommand};
+ghost use Rattle.zmtp_wire.specs.Pending.{IsCommandOf};
+ghost use Rattle.zmtp_wire.specs.declared.fault.WireFault.TheVariants.{OutOfMemory, Command};
+
+use crate::fault::WireFault;
+use crate::traffic::Traffic;
+use listed::Octets;
+use std::alloc::Global;
+
+/// The command that a frame's body is.
+pub(crate) fn command_of(alloc: Global, body: &[u8]) -> Result<Traffic, WireFault>
+    ensures ok { IfOk result (IsCommandOf body.now) }
+    ensures err { IfErr result (λ fault. (fault ≡ OutOfMemory)
+        ⊎ ((fault ≡ WireFault.Command) × IsBadCommand body.now)) }
+{
+    let [size, named @ ..] = body else {
+        return Err(WireFault::Command);
+    };
+    let size = usize::from(*size);
+    if size == 0 || named.len() < size {
+        return Err(WireFault::Command);
+    }
+    let (name, rest) = named.split_at(size);
+    let name = Octets::new(Vec::from_slice(alloc, name)?);
+    let rest = Octets::new(Vec::from_slice(alloc, rest)?);
+    Ok(Traffic::Command(name, rest))
+}
