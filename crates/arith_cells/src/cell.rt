@@ -22,8 +22,6 @@ pub fn run_cell<I: Interpreter, W: Write>(
     code: &str,
     writer: &mut W,
 ) -> io::Result<()>
-where
-    I::Cell: Drop,
     ensures { OnOk result (Prints (CellPrints I.meaning interpreter.old code.now)
         (W.contents writer.old) (W.contents writer.new) interpreter.new) }
 {

@@ -21,8 +21,6 @@ pub fn run_lines<I: Interpreter, R: BufRead, W: Write>(
     reader: &mut R,
     writer: &mut W,
 ) -> io::Result<()>
-where
-    I::Cell: Drop,
     ensures { OnOk result (IfSome (R.remaining reader.old)
         (λ input. Prints (InputPrints I.meaning interpreter.old input)
         (W.contents writer.old) (W.contents writer.new) interpreter.new)) }
@@ -44,8 +42,6 @@ fn run_line<I: Interpreter, R: BufRead, W: Write>(
     writer: &mut W,
     line: &mut Vec<u8>,
 ) -> io::Result<bool>
-where
-    I::Cell: Drop,
     ensures { IfOk result (λ more. IfSome (R.remaining reader.old) (λ input. LinePrints I.meaning more input
         interpreter.old (W.contents writer.old) (W.contents writer.new) interpreter.new (R.remaining reader.new))) }
 {

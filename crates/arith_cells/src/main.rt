@@ -7,7 +7,7 @@
 mod cell;
 mod lines;
 
-use interp_core::ShellArith;
+use arith_shell::ShellArith;
 use std::io::{self, BufReader, BufWriter};
 use std::process::ExitCode;
 

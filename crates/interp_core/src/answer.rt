@@ -1,3 +1,5 @@
+//! What the calls of an interpreter answer.
+
 use crate::fault::InterpFault;
 use listed::{Row, Text};
 

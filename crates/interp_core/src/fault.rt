@@ -1,9 +1,9 @@
+//! Why an interpreter has no answer, and how that is reported.
+
 ghost use Rattle.std.specs.Prelude.{◌≡◌, MatchResult};
 ghost use Rattle.interp_core.specs.declared.fault.InterpFault.TheVariants.{OutOfMemory};
 ghost use Rattle.interp_core.specs.Fault.{fault_number, fault_name, fault_value};
 
-use arith_syntax::ReadFault;
-use arith_value::ValueFault;
 use listed::Text;
 use std::alloc::{AllocError, AllocFailed, Global};
 use thiserror::Error;
@@ -100,34 +100,5 @@ impl<T: Drop> From<AllocFailed<T>> for InterpFault {
 
     fn from(_e: AllocFailed<T>) -> InterpFault {
         InterpFault::OutOfMemory
-    }
-}
-
-impl From<ReadFault> for InterpFault {
-    ghost use Rattle.interp_core.specs.ShellArithmetic.{from_read};
-
-    ghost from_gives = { λ fault e. e ≡ from_read fault };
-
-    fn from(fault: ReadFault) -> InterpFault {
-        match fault {
-            ReadFault::Syntax(place) => InterpFault::Syntax(place),
-            ReadFault::TooDeep => InterpFault::TooDeep,
-            ReadFault::OutOfMemory => InterpFault::OutOfMemory,
-        }
-    }
-}
-
-impl From<ValueFault> for InterpFault {
-    ghost use Rattle.interp_core.specs.ShellArithmetic.{from_value};
-
-    ghost from_gives = { λ fault e. e ≡ from_value fault };
-
-    fn from(fault: ValueFault) -> InterpFault {
-        match fault {
-            ValueFault::Overflow => InterpFault::Overflow,
-            ValueFault::ZeroDivision => InterpFault::ZeroDivision,
-            ValueFault::Shift => InterpFault::Shift,
-            ValueFault::OutOfMemory => InterpFault::OutOfMemory,
-        }
     }
 }

@@ -1,3 +1,5 @@
+//! The interface of an interpreter.
+
 ghost use Rattle.std.specs.Prelude.{◌≡◌, ℕ, ◌+◌, ◌<◌, []};
 ghost use Rattle.interp_core.specs.Interpreter.{Answers, ByMemory, IsEnd, Laws, Meaning, OnMemory};
 
@@ -11,7 +13,7 @@ use std::alloc::Global;
 /// What its calls answer are the values of the language's definitions, its `meaning`, or want of memory.
 pub trait Interpreter {
     /// A text that was read, with the steps that it has left.
-    type Cell;
+    type Cell: Drop;
 
     // What each call answers.
     ghost meaning: { Meaning Self Self.Cell };
