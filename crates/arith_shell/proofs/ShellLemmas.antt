@@ -10,7 +10,7 @@ use Rattle.arith_value.specs.Variables.{Bindings}
 use Rattle.interp_core.specs.declared.fault.InterpFault.{InterpFault}
 use Rattle.interp_core.specs.declared.fault.InterpFault.TheVariants as fault
 use Rattle.interp_core.specs.Interpreter.{Answers, IfMemory, OnMemory}
-use Rattle.arith_shell.specs.ShellArithmetic.{from_read, GivesUp, IsEvaluated, IsPrinted, IsRead}
+use Rattle.arith_shell.specs.ShellArithmetic.{from_read, GivesUp, IsEvaluated, IsPrintedValue, IsRead}
 
 -- a fact of whatever fault holds where it is want of memory
 pub on_memory : (f : InterpFault) (P : Type 0) → P → IfMemory f P ⊤
@@ -41,7 +41,7 @@ statement_fails old text read_fault.OutOfMemory h = tt
 
 -- a statement that was evaluated
 pub answered : (old new : Bindings) (text : List ℕ) (tree : Tree) → StatementMeans (chars text) (Ok tree)
-    → (answer : Result (List ℕ) InterpFault) → IsPrinted tree old answer new
+    → (answer : Result (List ℕ) InterpFault) → IsPrintedValue tree old answer new
     → Answers (λ a. IsEvaluated old text a new) answer
 answered old new text tree means (Ok printed) h = record { statement = Ok tree; means = means; evaluates = h }
 answered old new text tree means (Err (fault.Syntax place)) h =
@@ -57,7 +57,8 @@ answered old new text tree means (Err fault.OutOfMemory) h = tt
 
 -- a statement whose evaluation found no memory
 pub gave_up : (old new : Bindings) (text : List ℕ) (tree : Tree) → StatementMeans (chars text) (Ok tree)
-    → (answer : Result (List ℕ) InterpFault) → IsPrinted tree old answer new → OnMemory answer (GivesUp old text new)
+    → (answer : Result (List ℕ) InterpFault) → IsPrintedValue tree old answer new
+        → OnMemory answer (GivesUp old text new)
 gave_up old new text tree means (Ok printed) h = tt
 gave_up old new text tree means (Err (fault.Syntax place)) h = tt
 gave_up old new text tree means (Err fault.Overflow) h = tt

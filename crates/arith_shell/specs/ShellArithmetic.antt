@@ -58,9 +58,10 @@ printed (Err fault) = Err (from_value fault)
 
 -- an expression's value as it is printed, or its fault, with the variables after it; where no memory was found, the
 -- variables after a beginning of its assignments
-abbrev pub IsPrinted : Tree → Bindings → Result (List ℕ) InterpFault → Bindings → Type 0
-IsPrinted tree old (Ok text) new = (Ok text ≡ printed (value tree old).result) × (new ≡ after old (value tree old).made)
-IsPrinted tree old (Err fault) new =
+abbrev pub IsPrintedValue : Tree → Bindings → Result (List ℕ) InterpFault → Bindings → Type 0
+IsPrintedValue tree old (Ok text) new = (Ok text ≡ printed (value tree old).result)
+    × (new ≡ after old (value tree old).made)
+IsPrintedValue tree old (Err fault) new =
     IfMemory fault (Stops (value tree) old new)
     ((Err fault ≡ printed (value tree old).result) × (new ≡ after old (value tree old).made))
 

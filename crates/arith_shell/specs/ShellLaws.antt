@@ -85,7 +85,7 @@ own_cell text (Err read_fault.OutOfMemory) (inl wrong) = absurd wrong
 own_cell text (Err read_fault.OutOfMemory) (inr (tokens, is, first)) = absurd first.fails
 
 -- nor is a value's
-own_printed : (result : Result ℤ ValueFault) → values.IsOwn result → HasOwn (printed result)
+own_printed : (result : Result ℤ ValueFault) → values.IsOwnResult result → HasOwn (printed result)
 own_printed (Ok n) h = tt
 own_printed (Err value_fault.Overflow) h = tt
 own_printed (Err value_fault.ZeroDivision) h = tt

@@ -7,7 +7,7 @@ ghost use Rattle.interp_core.specs.declared.answer.Next.TheVariants.{Failed};
 ghost use Rattle.interp_core.specs.declared.answer.Output.TheVariants.{Stdout};
 ghost use Rattle.interp_core.specs.declared.fault.InterpFault.TheVariants.{OutOfMemory};
 ghost use Rattle.interp_core.specs.Interpreter.{ByMemory};
-ghost use Rattle.arith_shell.specs.ShellArithmetic.{BreaksOff, IsLast, IsPrinted, Runs};
+ghost use Rattle.arith_shell.specs.ShellArithmetic.{BreaksOff, IsLast, IsPrintedValue, Runs};
 
 use crate::fault::from_value;
 use arith_syntax::Expression;
@@ -60,7 +60,8 @@ fn run(alloc: Global, variables: &mut Variables, statement: &Expression, last: b
 
 /// A line on standard output.
 fn line(alloc: Global, text: Text) -> Result<Row<Output>, InterpFault>
-    ensures { MatchResult result (λ outputs. outputs ≡ Stdout (text ++ codes "\n") ∷ []) (λ fault. fault ≡ OutOfMemory) }
+    ensures { MatchResult result (λ outputs. outputs ≡ Stdout (text ++ codes "\n") ∷ []) (λ fault. fault ≡ OutOfMemory)
+        }
 {
     let mut line = text.into_string();
     line.push_str("\n")?;
@@ -85,7 +86,7 @@ pub(crate) fn value_text(
     variables: &mut Variables,
     expression: &Expression,
 ) -> Result<Text, InterpFault>
-    ensures { IsPrinted (tree_of expression.now) variables.old result variables.new }
+    ensures { IsPrintedValue (tree_of expression.now) variables.old result variables.new }
 {
     let value = evaluate(alloc, expression, variables).map_err(from_value)?;
     let text = format!(in alloc; "{value}")?;

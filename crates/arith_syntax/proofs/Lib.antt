@@ -9,7 +9,7 @@ mod OctetLemmas
 mod OnceLemmas
 mod ParsingLemmas
 mod ReadingLemmas
-mod ReadsLemmas
+mod TokensReadLemmas
 mod SignLemmas
 mod SoundLemmas
 mod StackLemmas

@@ -12,8 +12,8 @@ use Rattle.arith_syntax.specs.declared.token.Token.TheVariants.{Constant, Name, 
 use Rattle.arith_syntax.specs.declared.token.Token.TheVariants.{Question, Colon, Open, Close}
 use Rattle.arith_syntax.specs.Grammar.{Tree, Variable, operator_level, level, IsStatement, BeginsStatement, spelled}
 use Rattle.arith_syntax.specs.Machine.{Begun, Opened, Signed, Operated, Questioned, Divided, Named, room_of, settle}
-use Rattle.arith_syntax.specs.Machine.{State, begin, begin_sign, sign_of, take_due, take_behind, take_at, divide}
-use Rattle.arith_syntax.specs.Machine.{enclose, assign, advance_on, outermost, run, close_at, close, StopsAt}
+use Rattle.arith_syntax.specs.Machine.{State, begin, begin_sign, sign_of, take_due, take_behind, take_at, take_colon}
+use Rattle.arith_syntax.specs.Machine.{take_close, take_assign, advance_on, outermost, run, close_at, close, StopsAt}
 use Rattle.arith_syntax.proofs.MachineLemmas.{operator_level_least, operator_level_most}
 use Rattle.arith_syntax.proofs.SoundLemmas.{front, fronts, grade, IsGood, AreGood, Holds, settles_well, held_begins}
 use Rattle.arith_syntax.proofs.SoundLemmas.{due_begins}
@@ -115,7 +115,7 @@ more_spelled tokens bs u token spells =
 
 -- `:`
 divide_sound : (tokens : List Token) (bs : List Begun) (u : Tree) → Holds tokens bs u
-    → IsSound (tokens ++ (Colon ∷ [])) (divide bs u)
+    → IsSound (tokens ++ (Colon ∷ [])) (take_colon bs u)
 divide_sound tokens [] u held = tt
 divide_sound tokens (Questioned c ∷ bs) u held =
     begun_sound (tokens ++ (Colon ∷ [])) (Divided c u) bs held.good.2 (held.good.0.0, held.good.0.1, held.grammatical)
@@ -127,7 +127,7 @@ divide_sound tokens (_ ∷ bs) u held = tt
 
 -- `)`
 enclose_sound : (tokens : List Token) (bs : List Begun) (u : Tree) → Holds tokens bs u
-    → IsSound (tokens ++ (Close ∷ [])) (enclose bs u)
+    → IsSound (tokens ++ (Close ∷ [])) (take_close bs u)
 enclose_sound tokens [] u held = tt
 enclose_sound tokens (Opened ∷ bs) u held = (
   record {
@@ -144,7 +144,7 @@ enclose_sound tokens (_ ∷ bs) u held = tt
 
 -- an assignment's sign
 assign_sound : (tokens : List Token) (op : AssignmentOperator) (bs : List Begun) (u : Tree) → Holds tokens bs u
-    → IsSound (tokens ++ (Assign op ∷ [])) (assign op bs u)
+    → IsSound (tokens ++ (Assign op ∷ [])) (take_assign op bs u)
 assign_sound tokens op bs (Variable x) held =
     let Goal : Bool → Type 0 = λ fitting. nat_le 13 (room_of bs) ≡ fitting
     → IsSound (tokens ++ (Assign op ∷ [])) (cond fitting (begin (Named x op) bs) None) in

@@ -1,5 +1,5 @@
 ghost use Rattle.std.specs.Prelude.{[], ◌∷◌, ◌≡◌, ◌≢◌};
-ghost use Rattle.arith_syntax.specs.Lexed.{Spells, BeginsWithSign};
+ghost use Rattle.arith_syntax.specs.Lexed.{SpellsSign, BeginsWithSign};
 
 use crate::octet::octet_at;
 use crate::operator::{AssignmentOperator, BinaryOperator};
@@ -27,7 +27,7 @@ pub fn sign(text: &[u8]) -> Option<Spelled>
 
 /// The sign of three characters.
 fn three(first: u8, second: u8, third: u8) -> Option<Token>
-    ensures { Spells (first ∷ second ∷ third ∷ []) result }
+    ensures { SpellsSign (first ∷ second ∷ third ∷ []) result }
 {
     if first != second || third != b'=' {
         return None;
@@ -41,7 +41,7 @@ fn three(first: u8, second: u8, third: u8) -> Option<Token>
 
 /// The sign of two characters.
 fn two(first: u8, second: u8) -> Option<Token>
-    ensures { Spells (first ∷ second ∷ []) result }
+    ensures { SpellsSign (first ∷ second ∷ []) result }
 {
     if second == b'=' {
         before_equals(first)
@@ -54,7 +54,7 @@ fn two(first: u8, second: u8) -> Option<Token>
 
 /// The sign of a character and `=`.
 fn before_equals(first: u8) -> Option<Token>
-    ensures { Spells (first ∷ 61 ∷ []) result }
+    ensures { SpellsSign (first ∷ 61 ∷ []) result }
 {
     match first {
         b'<' => Some(Token::Operator(BinaryOperator::LessOrEqual)),
@@ -76,7 +76,7 @@ fn before_equals(first: u8) -> Option<Token>
 /// The sign of a character that stands twice.
 fn doubled(first: u8) -> Option<Token>
     requires { first ≢ 61 }
-    ensures { Spells (first ∷ first ∷ []) result }
+    ensures { SpellsSign (first ∷ first ∷ []) result }
 {
     match first {
         b'<' => Some(Token::Operator(BinaryOperator::ShiftLeft)),
@@ -91,7 +91,7 @@ fn doubled(first: u8) -> Option<Token>
 
 /// The sign of one character.
 fn one(first: u8) -> Option<Token>
-    ensures { Spells (first ∷ []) result }
+    ensures { SpellsSign (first ∷ []) result }
 {
     match first {
         b'*' => Some(Token::Operator(BinaryOperator::Multiply)),

@@ -52,7 +52,7 @@ fn divide(left: i64, right: i64) -> Result<i64, ValueFault>
 }
 
 /// A remainder, with the dividend's sign or 0.
-fn remain(left: i64, right: i64) -> Result<i64, ValueFault>
+fn remainder(left: i64, right: i64) -> Result<i64, ValueFault>
     ensures { result ≡ remainder left right }
 {
     if right == 0 {
@@ -113,7 +113,7 @@ pub fn apply(op: BinaryOperator, left: i64, right: i64) -> Result<i64, ValueFaul
     match op {
         BinaryOperator::Multiply => multiply(left, right),
         BinaryOperator::Divide => divide(left, right),
-        BinaryOperator::Remainder => remain(left, right),
+        BinaryOperator::Remainder => remainder(left, right),
         BinaryOperator::Add => add(left, right),
         BinaryOperator::Subtract => subtract(left, right),
         BinaryOperator::ShiftLeft => shift_left(left, right),

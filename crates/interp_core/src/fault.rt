@@ -2,7 +2,7 @@
 
 ghost use Rattle.std.specs.Prelude.{◌≡◌, MatchResult};
 ghost use Rattle.interp_core.specs.declared.fault.InterpFault.TheVariants.{OutOfMemory};
-ghost use Rattle.interp_core.specs.Fault.{fault_number, fault_name, fault_value};
+ghost use Rattle.interp_core.specs.Fault.{interp_fault_number, fault_name, fault_value};
 
 use listed::Text;
 use std::alloc::{AllocError, AllocFailed, Global};
@@ -37,7 +37,7 @@ pub enum InterpFault {
 impl InterpFault {
     /// The number of the fault, from 50 on in the order of the variants.
     pub fn number(self) -> u8
-        ensures { result ≡ fault_number self }
+        ensures { result ≡ interp_fault_number self }
     {
         match self {
             InterpFault::Syntax(_) => 50,

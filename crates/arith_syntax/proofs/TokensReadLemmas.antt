@@ -9,7 +9,7 @@ use Rattle.std.proofs.lemmas.Str.{IsCharBoundary-from_drop}
 use Rattle.arith_syntax.specs.declared.spelled.Spelled.{Spelled}
 use Rattle.arith_syntax.specs.declared.token.Token.{Token}
 use Rattle.arith_syntax.specs.declared.token.Placed.{Placed}
-use Rattle.arith_syntax.specs.Tokens.{BeginsWith, IsWhite, IsToken, Reads, IsTokens, IsWrongAt}
+use Rattle.arith_syntax.specs.Tokens.{FirstCharacterIs, IsWhite, IsToken, ReadsTokens, IsTokens, IsWrongAt}
 use Rattle.arith_syntax.specs.Lexed.{IsRun, BeginsWithToken}
 use Rattle.arith_syntax.proofs.AsciiLemmas.{IsAsciiCharacter, utf8_behind}
 use Rattle.arith_syntax.proofs.TokenLemmas.{token_ascii}
@@ -19,10 +19,10 @@ pub record IsReached (text : List ℕ) (found : List Placed) (place : ℕ) : Typ
   pub fits : place ≤ length text
   pub end : ℕ
   pub white : List ℕ
-  pub reads : Reads 0 text found end (white ++ drop place text)
+  pub reads : ReadsTokens 0 text found end (white ++ drop place text)
   pub blank : All IsWhite white
   pub there : place ≡ end + length white
-  pub visible : BeginsWith IsWhite (drop place text) → ⊥
+  pub visible : FirstCharacterIs IsWhite (drop place text) → ⊥
   pub utf8 : IsUtf8 (drop place text)
 
 -- white space is ASCII
@@ -54,9 +54,11 @@ reached_first text size utf8 run = record {
 -- one more token behind those that were read
 pub reads_push : (place : ℕ) (text : List ℕ) (found : List Placed) (end : ℕ) (white spelled more : List ℕ)
     (token : Token) (at : ℕ)
-    → Reads place text found end (white ++ (spelled ++ more)) → All IsWhite white → IsToken token spelled more → at
+    → ReadsTokens place text found end (white ++ (spelled ++ more)) → All IsWhite white → IsToken token spelled more
+        → at
     ≡ end + length white
-    → Reads place text (found ++ record { token = token; place = at } ∷ []) (end + length white + length spelled) more
+    → ReadsTokens place text (found ++ record { token = token; place = at } ∷ []) (end + length white + length spelled)
+        more
 reads_push place text [] end white spelled more token at reads blank is there =
     (white, spelled, more, sym reads.1, blank, is, omega (arith, reads.0), (omega (arith, reads.0), refl))
 reads_push place text (t ∷ found) end white spelled more token at reads blank is there = (
@@ -95,11 +97,11 @@ reached_more text found place s size reached begins run =
     (utf8_behind (take s.size (drop place text)) (drop s.size (drop place text))
     (token_ascii s.token (take s.size (drop place text)) (drop s.size (drop place text)) begins.2)
     (subst (λ (t : List ℕ). IsUtf8 t) (sym (take-append-drop s.size (drop place text))) reached.utf8)) in
-    let reads : Reads 0 text found reached.end (reached.white
+    let reads : ReadsTokens 0 text found reached.end (reached.white
     ++ (take s.size (drop place text) ++ drop s.size (drop place text))) =
-    subst (λ (t : List ℕ). Reads 0 text found reached.end (reached.white ++ t))
+    subst (λ (t : List ℕ). ReadsTokens 0 text found reached.end (reached.white ++ t))
     (sym (take-append-drop s.size (drop place text))) reached.reads in
-    let pushed : Reads 0 text (found ++ record { token = s.token; place = place } ∷ [])
+    let pushed : ReadsTokens 0 text (found ++ record { token = s.token; place = place } ∷ [])
     (reached.end + length reached.white + length (take s.size (drop place text))) (drop s.size (drop place text)) =
     reads_push 0 text found reached.end reached.white (take s.size (drop place text)) (drop s.size (drop place text))
     s.token place reads reached.blank begins.2 at in
@@ -111,11 +113,11 @@ reached_more text found place s size reached begins run =
       fits = omega arith;
       end = reached.end + length reached.white + length (take s.size (drop place text));
       white = take size (drop (place + s.size) text);
-      reads = subst (λ (t : List ℕ). Reads 0 text (found ++ record { token = s.token; place = place } ∷ [])
+      reads = subst (λ (t : List ℕ). ReadsTokens 0 text (found ++ record { token = s.token; place = place } ∷ [])
           (reached.end + length reached.white + length (take s.size (drop place text))) t) rest_is pushed;
       blank = run.inside;
       there = omega arith;
-      visible = subst (λ (t : List ℕ). BeginsWith IsWhite t → ⊥) after run.longest;
+      visible = subst (λ (t : List ℕ). FirstCharacterIs IsWhite t → ⊥) after run.longest;
       utf8 = subst (λ (t : List ℕ). IsUtf8 t) after (utf8_behind_white (drop (place + s.size) text) size utf8
           run.inside);
     }
@@ -133,7 +135,7 @@ reached_end text found place reached all =
     record {
       end = reached.end;
       rest = reached.white;
-      reads = subst (λ (t : List ℕ). Reads 0 text found reached.end t)
+      reads = subst (λ (t : List ℕ). ReadsTokens 0 text found reached.end t)
           (ap (λ (t : List ℕ). reached.white ++ t) none ∙ append-nil reached.white) reached.reads;
       white = reached.blank;
     }
