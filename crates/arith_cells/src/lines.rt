@@ -12,8 +12,8 @@ use std::alloc::Global;
 use std::io::{self, BufRead, ErrorKind, Write};
 use std::str;
 
-/// Runs each line of an input as a cell, and tells how the program ends: done where all that the lines print was printed
-/// and flushed, and else failed.
+/// Runs each line of an input as a cell, and tells how the program ends: done where all that the lines print was
+/// printed and flushed, and else failed.
 pub(crate) fn run_input<I: Interpreter, R: BufRead, W: Write>(
     alloc: Global,
     interpreter: &mut I,

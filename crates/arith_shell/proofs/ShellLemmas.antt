@@ -58,7 +58,7 @@ answered old new text tree means (Err fault.OutOfMemory) h = tt
 -- a statement whose evaluation found no memory
 pub gave_up : (old new : Bindings) (text : List ℕ) (tree : Tree) → StatementMeans (chars text) (Ok tree)
     → (answer : Result (List ℕ) InterpFault) → IsPrintedValue tree old answer new
-        → OnMemory answer (GivesUp old text new)
+    → OnMemory answer (GivesUp old text new)
 gave_up old new text tree means (Ok printed) h = tt
 gave_up old new text tree means (Err (fault.Syntax place)) h = tt
 gave_up old new text tree means (Err fault.Overflow) h = tt

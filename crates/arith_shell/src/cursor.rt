@@ -13,8 +13,11 @@ use std::alloc::Global;
 /// A word of a text, with the places of its beginning and its end.
 #[derive(Drop)]
 pub(crate) struct Word {
+    /// The word.
     pub(crate) text: Text,
+    /// How many code points stand before it.
     pub(crate) start: u64,
+    /// How many code points stand before its end.
     pub(crate) end: u64,
 }
 

@@ -21,6 +21,7 @@ use std::marker::Model;
 /// The statements of a cell that haven't run yet: a contract sees the list of their trees.
 #[derive(Drop)]
 pub struct Statements {
+    /// The trees, in their order.
     waiting: VecDeque<Expression>,
 }
 
@@ -41,6 +42,7 @@ impl Model for Statements {
 /// the variables. A cell is statements that `;` parts, and each statement is one step.
 #[derive(Drop)]
 pub struct ShellArith {
+    /// The variables, which stay from cell to cell.
     variables: Variables,
 }
 

@@ -60,8 +60,8 @@ fn run(alloc: Global, variables: &mut Variables, statement: &Expression, last: b
 
 /// A line on standard output.
 fn line(alloc: Global, text: Text) -> Result<Row<Output>, InterpFault>
-    ensures { MatchResult result (λ outputs. outputs ≡ Stdout (text ++ codes "\n") ∷ []) (λ fault. fault ≡ OutOfMemory)
-        }
+    ensures { MatchResult result (λ outputs. outputs ≡ Stdout (text ++ codes "\n") ∷ [])
+        (λ fault. fault ≡ OutOfMemory) }
 {
     let mut line = text.into_string();
     line.push_str("\n")?;

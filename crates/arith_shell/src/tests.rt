@@ -10,7 +10,11 @@ use std::test::Fail;
 
 /// What a cell writes: each text on standard output as it is, then `= VALUE`, or `fault N` and the place of a fault of
 /// syntax.
-pub(crate) fn run<I: Interpreter>(alloc: Global, interpreter: &mut I, code: &str) -> Result<String, Fail> {
+pub(crate) fn run<I: Interpreter>(
+    alloc: Global,
+    interpreter: &mut I,
+    code: &str,
+) -> Result<String, Fail> {
     let mut written = String::new(alloc);
     let mut cell = match interpreter.begin(alloc, code) {
         Ok(cell) => cell,
@@ -53,7 +57,12 @@ pub(crate) fn fresh(alloc: Global, code: &str) -> Result<String, Fail> {
 }
 
 /// A text so many times, and another one behind it.
-pub(crate) fn repeated(alloc: Global, text: &str, times: usize, behind: &str) -> Result<String, Fail> {
+pub(crate) fn repeated(
+    alloc: Global,
+    text: &str,
+    times: usize,
+    behind: &str,
+) -> Result<String, Fail> {
     let mut all = String::new(alloc);
     for _ in 0..times {
         all.push_str(text)?;

@@ -107,7 +107,7 @@ no_constant_read text size some run digit none token spelled rest all is =
           (sym (word_once _ _ _ _ cut is_word constant.word).0) constant.constant)
       | inr (inl name) ↦ no_letter (take size text) digit
           (subst (λ (w : List ℕ). FirstCharacterIs IsLetter w) (sym (word_once _ _ _ _ cut is_word name.word).0)
-              name.letter)
+          name.letter)
       | inr (inr longest) ↦ no_sign_at_word text token spelled rest
           (run_whole IsWordCharacter text size (run_begins IsWordCharacter text size some run)) all longest.is_sign
     ]

@@ -104,7 +104,7 @@ no_octal_mark word octal digits mark spelled all other marked =
 no_decimal_zero : (word digits : List ℕ) → FirstCharacterIs (λ d. (49 ≤ d) × (d ≤ 57)) word → word ≡ 48 ∷ digits → ⊥
 no_decimal_zero word digits first spelled =
     let begins : (49 ≤ 48) × (48 ≤ 57) = subst (λ (w : List ℕ). FirstCharacterIs (λ d. (49 ≤ d) × (d ≤ 57)) w) spelled
-        first
+    first
     in
     omega arith
 

@@ -55,10 +55,10 @@ reached_first text size utf8 run = record {
 pub reads_push : (place : ℕ) (text : List ℕ) (found : List Placed) (end : ℕ) (white spelled more : List ℕ)
     (token : Token) (at : ℕ)
     → ReadsTokens place text found end (white ++ (spelled ++ more)) → All IsWhite white → IsToken token spelled more
-        → at
+    → at
     ≡ end + length white
     → ReadsTokens place text (found ++ record { token = token; place = at } ∷ []) (end + length white + length spelled)
-        more
+    more
 reads_push place text [] end white spelled more token at reads blank is there =
     (white, spelled, more, sym reads.1, blank, is, omega (arith, reads.0), (omega (arith, reads.0), refl))
 reads_push place text (t ∷ found) end white spelled more token at reads blank is there = (

@@ -1,3 +1,5 @@
+//! From a text to its tokens.
+
 ghost use Rattle.std.specs.Prelude.{◌≡◌, ◌↔◌, IsTrue, IfOk, IfErr};
 ghost use Rattle.std.specs.Str.{chars};
 ghost use Rattle.arith_syntax.specs.declared.fault.ReadFault.TheVariants.{OutOfMemory};

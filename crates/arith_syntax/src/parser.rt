@@ -1,4 +1,5 @@
 //! Parsing by precedence: constructs that have begun wait on a stack for the operands that end them.
+
 ghost use Rattle.std.specs.Bool.{nat_le};
 ghost use Rattle.std.specs.Prelude.{◌≡◌, ◌≤◌};
 ghost use Rattle.arith_syntax.specs.Grammar.{operator_level, tree_of};

@@ -1,3 +1,5 @@
+//! The sign that a text begins with.
+
 ghost use Rattle.std.specs.Prelude.{[], ◌∷◌, ◌≡◌, ◌≢◌};
 ghost use Rattle.arith_syntax.specs.Lexed.{SpellsSign, BeginsWithSign};
 
@@ -7,7 +9,7 @@ use crate::spelled::Spelled;
 use crate::token::Token;
 
 /// The longest sign that a text begins with.
-pub fn sign(text: &[u8]) -> Option<Spelled>
+pub(crate) fn sign(text: &[u8]) -> Option<Spelled>
     ensures { BeginsWithSign text.now result }
 {
     let first = octet_at(text, 0);

@@ -121,3 +121,6 @@ goes_on op a right old new answer undecided evaluated =
     let P : Option ℤ → Type 0 = λ d. Evaluates (unless d (first_then right (λ b. give (apply op a b)))) old answer new
     in
     subst P (sym undecided) evaluated
+
+-- what the parts of an evaluation come to
+pub ruleset evaluations = (chained, broken, given)

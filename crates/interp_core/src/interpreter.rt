@@ -15,7 +15,7 @@ pub trait Interpreter {
     /// A text that was read, with the steps that it has left.
     type Cell: Drop;
 
-    // What each call answers.
+    /// What each call answers.
     ghost meaning: { Meaning Self Self.Cell };
 
     /// What the language says of itself.
@@ -80,6 +80,6 @@ pub trait Interpreter {
         ensures answered { Answers (λ answer. meaning.evaluates self.old text.now answer self.new) result }
         ensures refused { OnMemory result (meaning.gives_up self.old text.now self.new) };
 
-    // Each definition has at most one value, and a cell ends within the steps that it has left.
+    /// Each definition has at most one value, and a cell ends within the steps that it has left.
     ghost laws: { Laws meaning };
 }

@@ -1,5 +1,7 @@
-use super::*;
+//! Trees of statements.
+
 use crate::parser::parse;
+use crate::{AssignmentOperator, BinaryOperator, Placed, Token};
 use listed::Text;
 use std::alloc::Global;
 use std::test::Fail;

@@ -1,4 +1,6 @@
-use super::*;
+//! Tokens and their places.
+
+use crate::{ReadFault, Token, tokens};
 use std::alloc::Global;
 use std::test::Fail;
 
@@ -70,11 +72,13 @@ fn signs_are_read_longest_first(rt: HostRuntime) -> Result<(), Fail> {
     );
     assert_eq!(rt;
         shown(alloc, "&&&=&|||=| ===!=!")?.as_str(),
-        "0 Operator(And), 2 Assign(BitAnd), 4 Operator(BitAnd), 5 Operator(Or), 7 Assign(BitOr), 9 Operator(BitOr), 11 Operator(Equal), 13 Assign(Assign), 14 Operator(NotEqual), 16 Not, "
+        "0 Operator(And), 2 Assign(BitAnd), 4 Operator(BitAnd), 5 Operator(Or), 7 Assign(BitOr), 9 Operator(BitOr), \
+         11 Operator(Equal), 13 Assign(Assign), 14 Operator(NotEqual), 16 Not, "
     );
     assert_eq!(rt;
         shown(alloc, "*=*/=/%=%^=^")?.as_str(),
-        "0 Assign(Multiply), 2 Operator(Multiply), 3 Assign(Divide), 5 Operator(Divide), 6 Assign(Remainder), 8 Operator(Remainder), 9 Assign(BitXor), 11 Operator(BitXor), "
+        "0 Assign(Multiply), 2 Operator(Multiply), 3 Assign(Divide), 5 Operator(Divide), 6 Assign(Remainder), \
+         8 Operator(Remainder), 9 Assign(BitXor), 11 Operator(BitXor), "
     );
     Ok(())
 }
