@@ -12,16 +12,6 @@ use Rattle.interp_core.specs.declared.fault.InterpFault.TheVariants as fault
 use Rattle.interp_core.specs.Interpreter.{Answers, IfMemory, OnMemory}
 use Rattle.arith_shell.specs.ShellArithmetic.{from_read, GivesUp, IsEvaluated, IsPrintedValue, IsRead}
 
--- a fact of whatever fault holds where it is want of memory
-pub on_memory : (f : InterpFault) (P : Type 0) → P → IfMemory f P ⊤
-on_memory (fault.Syntax place) P h = tt
-on_memory fault.Overflow P h = tt
-on_memory fault.ZeroDivision P h = tt
-on_memory fault.Shift P h = tt
-on_memory fault.TooDeep P h = tt
-on_memory fault.Interrupted P h = tt
-on_memory fault.OutOfMemory P h = h
-
 -- a fault of a cell's text
 pub read_fails : (text : List ℕ) (f : ReadFault) → OrMemory (λ g. CellMeans (chars text) (Err g)) f
     → IfMemory (from_read f) ⊤ (IsRead text (Err (from_read f)))

@@ -1,4 +1,4 @@
-use Rattle.arith_shell.proofs.ShellLemmas.{answered, gave_up, on_memory, statement_fails}
+use Rattle.arith_shell.proofs.ShellLemmas.{answered, gave_up, statement_fails}
 use Rattle.arith_shell.proofs.shell_arithmetic.evaluate_text.Goals as goal
 
 pub returns-in-Ok-clause-answered : goal.returns-in-Ok-clause-answered
