@@ -1,14 +1,16 @@
 -- Evaluations one after the other: how a program's answers join to that of the whole.
 use Rattle.std.proofs.Common.{◌≡◌, ℤ, [], ◌∷◌, ◌++◌, Result, Ok, Err, Option, None, refl, ap, sym, subst, ◌∙◌}
-use Rattle.std.proofs.Common.{append_assoc}
+use Rattle.std.proofs.Common.{append_assoc, Bool, FitsSigned, w64, to_z, of_z}
+use Rattle.std.specs.Prelude.{if◌then◌else◌}
+use Rattle.std.proofs.lemmas.Int.{to_z-of_z}
+use Rattle.arith_syntax.specs.Grammar.{Tree, Binary, Conditional}
 use Rattle.arith_syntax.specs.declared.operator.BinaryOperator.{BinaryOperator}
-use Rattle.arith_value.specs.Operators.{apply}
+use Rattle.arith_value.specs.Operators.{apply, is_true}
 use Rattle.arith_value.specs.declared.fault.ValueFault.{ValueFault}
 use Rattle.arith_value.specs.declared.fault.ValueFault.TheVariants.{Overflow, ZeroDivision, Shift, OutOfMemory}
 use Rattle.arith_value.specs.Variables.{Bindings, assign, after}
 use Rattle.arith_value.specs.Value.{Evaluation, Computation, give, followed, first_then, decided, unless, operate}
-use Rattle.arith_value.specs.Value.{Comes}
-use Rattle.arith_value.specs.Value.{Stops, Evaluates}
+use Rattle.arith_value.specs.Value.{Comes, Evaluates, Stops, value}
 
 -- assignments and then more are all of them in their order
 pub after-append : (variables xs ys : Bindings) → after (after variables xs) ys ≡ after variables (xs ++ ys)
@@ -114,13 +116,38 @@ broken first next old new Shift before = faults first next old new Shift before
 broken first next old new OutOfMemory before = stops_first first next old new before
 
 -- an operator that the left operand does not decide goes on with the right one
-pub goes_on : (op : BinaryOperator) (a : ℤ) (right : Computation) (old new : Bindings) (answer : Result ℤ ValueFault)
+goes_on : (op : BinaryOperator) (a : ℤ) (right : Computation) (old new : Bindings) (answer : Result ℤ ValueFault)
     → decided op a ≡ None → Evaluates (first_then right (λ b. give (apply op a b))) old answer new
     → Evaluates (operate op a right) old answer new
 goes_on op a right old new answer undecided evaluated =
     let P : Option ℤ → Type 0 = λ d. Evaluates (unless d (first_then right (λ b. give (apply op a b)))) old answer new
     in
     subst P (sym undecided) evaluated
+
+-- what the code found of a number's truth is so
+found_true : (a : ℤ) (said b : Bool) → FitsSigned w64 a → said ≡ is_true (to_z w64 (of_z w64 a)) → said ≡ b
+    → is_true a ≡ b
+found_true a said b fits found is = ap is_true (sym (to_z-of_z w64 a fits)) ∙ sym found ∙ is
+
+-- a conditional: its condition, and then the branch that this names
+pub branched : (condition if_so if_not : Tree) (old mid new : Bindings) (a : ℤ) (said b : Bool)
+    (answer : Result ℤ ValueFault) → FitsSigned w64 a → said ≡ is_true (to_z w64 (of_z w64 a)) → said ≡ b
+    → Evaluates (value condition) old (Ok a) mid → Evaluates (if b then value if_so else value if_not) mid answer new
+    → Evaluates (value (Conditional condition if_so if_not)) old answer new
+branched condition if_so if_not old mid new a said b answer fits found is before behind =
+    chained (value condition) (λ n. if is_true n then value if_so else value if_not) old mid new a answer before
+    (rw (found_true a said b fits found is) behind)
+
+-- an operator that the left operand does not decide: the left operand, and then the right one
+pub operated : (op : BinaryOperator) (left right : Tree) (old mid new : Bindings) (a : ℤ) (said : Option ℤ)
+    (answer : Result ℤ ValueFault) → FitsSigned w64 a → said ≡ decided op (to_z w64 (of_z w64 a)) → said ≡ None
+    → Evaluates (value left) old (Ok a) mid
+    → Evaluates (first_then (value right) (λ b. give (apply op a b))) mid answer new
+    → Evaluates (value (Binary left op right)) old answer new
+operated op left right old mid new a said answer fits found none before behind =
+    let undecided : decided op a ≡ None = ap (decided op) (sym (to_z-of_z w64 a fits)) ∙ sym found ∙ none in
+    chained (value left) (λ n. operate op n (value right)) old mid new a answer before
+    (goes_on op a (value right) mid new answer undecided behind)
 
 -- what the parts of an evaluation come to
 pub ruleset evaluations = (chained, broken, given)
