@@ -1,3 +1,3 @@
-pub mod LinesLemmas
-pub mod PrintedLemmas
-pub mod StepsLemmas
+mod LinesLemmas
+mod PrintedLemmas
+mod StepsLemmas

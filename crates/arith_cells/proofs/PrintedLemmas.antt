@@ -8,7 +8,7 @@ use Rattle.interp_core.specs.declared.fault.InterpFault.TheVariants as fault
 use Rattle.interp_core.specs.declared.answer.Next.{Next}
 use Rattle.interp_core.specs.declared.answer.Next.TheVariants.{More, Done, Failed}
 use Rattle.interp_core.specs.Interpreter.{ByMemory, IfMemory, IsEnd}
-use Rattle.arith_cells.specs.Printed.{IsAnswered, IsReported, goes_on}
+use Rattle.arith_cells.specs.Printed.{FoundMemory, IsReported, goes_on}
 
 -- nothing was printed yet
 pub appends_nothing : (known : Option (List ℕ)) → Appends known known []
@@ -25,7 +25,7 @@ appends_then (Some xs) (Some ys) (Some zs) text more before after = after ∙ ap
     ∙ append_assoc xs text more
 
 -- what is known of a step that didn't fail for want of memory
-pub of_answered : (next : Next) (memory other : Type 0) → IsAnswered next → ByMemory next memory other → other
+pub of_answered : (next : Next) (memory other : Type 0) → FoundMemory next → ByMemory next memory other → other
 of_answered More memory other is known = known
 of_answered (Done value) memory other is known = known
 of_answered (Failed (fault.Syntax place)) memory other is known = known

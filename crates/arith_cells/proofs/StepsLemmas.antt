@@ -4,7 +4,7 @@ use Rattle.std.proofs.lemmas.List.{append-nil}
 use Rattle.std.specs.Io.KnownBytes.{Appends}
 use Rattle.interp_core.specs.declared.answer.Stepped.{Stepped}
 use Rattle.interp_core.specs.Interpreter.{ByMemory, Meaning}
-use Rattle.arith_cells.specs.Printed.{IsAnswered, Prints, StepsPrint, goes_on, step_text}
+use Rattle.arith_cells.specs.Printed.{FoundMemory, Prints, StepsPrint, goes_on, step_text}
 use Rattle.arith_cells.specs.Printed.StepsPrint.{none, more, last}
 use Rattle.arith_cells.proofs.PrintedLemmas.{appends_nothing, appends_then, of_answered, is_more, is_end}
 
@@ -28,7 +28,7 @@ not_begun m start whole known = record {
 -- one more step, behind which the cell goes on
 pub one_more : {State Cell : Type 0} (m : Meaning State Cell) (start : State) (whole : Cell)
     (old middle new : Option (List ℕ)) (state after : State) (cell left : Cell) (stepped : Stepped)
-    → IsBegun m start whole old middle state cell → IsAnswered stepped.next → goes_on stepped.next ≡ true
+    → IsBegun m start whole old middle state cell → FoundMemory stepped.next → goes_on stepped.next ≡ true
     → (memory : Type 0) → ByMemory stepped.next memory (m.runs state cell stepped after left)
     → Appends middle new (step_text stepped)
     → IsBegun m start whole old new after left
@@ -45,7 +45,7 @@ one_more m start whole old middle new state after cell left stepped begun answer
 -- one more step, which ends the cell
 pub one_last : {State Cell : Type 0} (m : Meaning State Cell) (start : State) (whole : Cell)
     (old middle new : Option (List ℕ)) (state after : State) (cell left : Cell) (stepped : Stepped)
-    → IsBegun m start whole old middle state cell → IsAnswered stepped.next → goes_on stepped.next ≡ false
+    → IsBegun m start whole old middle state cell → FoundMemory stepped.next → goes_on stepped.next ≡ false
     → (memory : Type 0) → ByMemory stepped.next memory (m.runs state cell stepped after left)
     → Appends middle new (step_text stepped)
     → Prints (StepsPrint m start whole) old new after

@@ -25,8 +25,8 @@ abbrev pub IsReported : InterpFault → Type 0
 IsReported fault = IfMemory fault ⊥ ⊤
 
 -- a step didn't fail for want of memory
-abbrev pub IsAnswered : Next → Type 0
-IsAnswered next = ByMemory next ⊥ ⊤
+abbrev pub FoundMemory : Next → Type 0
+FoundMemory next = ByMemory next ⊥ ⊤
 
 -- whether a cell goes on behind a step
 abbrev pub goes_on : Next → Bool

@@ -3,7 +3,7 @@
 ghost use Rattle.std.specs.Prelude.{◌≡◌, OnOk, IfOk};
 ghost use Rattle.std.specs.List.{flat_map};
 ghost use Rattle.std.specs.Io.KnownBytes.{Appends};
-ghost use Rattle.arith_cells.specs.Printed.{CellPrints, IsAnswered, IsReported, Prints, StepsPrint, fault_line};
+ghost use Rattle.arith_cells.specs.Printed.{CellPrints, FoundMemory, IsReported, Prints, StepsPrint, fault_line};
 ghost use Rattle.arith_cells.specs.Printed.{goes_on, line, next_text, output_text, step_text};
 
 use interp_core::{InterpFault, Interpreter, Next, Output, Stepped, fault_words};
@@ -16,14 +16,12 @@ use std::io::{self, Write};
 /// # Errors
 ///
 /// Of the writer, or where memory was refused, to the interpreter too. A part may be printed then.
-pub fn run_cell<I: Interpreter, W: Write>(
+pub(crate) fn run_cell<I: Interpreter, W: Write>(
     alloc: Global,
     interpreter: &mut I,
     code: &str,
     writer: &mut W,
 ) -> io::Result<()>
-where
-    I::Cell: Drop,
     ensures { OnOk result (Prints (CellPrints I.meaning interpreter.old code.now)
         (W.contents writer.old) (W.contents writer.new) interpreter.new) }
 {
@@ -56,7 +54,7 @@ fn run_steps<I: Interpreter, W: Write>(
 #[tactic(auto, using(crate::proofs::PrintedLemmas::appends_then))]
 fn print_step<W: Write>(alloc: Global, stepped: Stepped, writer: &mut W) -> io::Result<bool>
     ensures text { OnOk result (Appends (W.contents writer.old) (W.contents writer.new) (step_text stepped)) }
-    ensures answered { OnOk result (IsAnswered stepped.next) }
+    ensures answered { OnOk result (FoundMemory stepped.next) }
     ensures goes_on { IfOk result (λ more. more ≡ goes_on stepped.next) }
 {
     let Stepped { outputs, next } = stepped;
@@ -67,7 +65,7 @@ fn print_step<W: Write>(alloc: Global, stepped: Stepped, writer: &mut W) -> io::
 /// Prints the value or the fault by which a step ends its cell. Tells whether the cell goes on.
 fn print_next<W: Write>(alloc: Global, next: Next, writer: &mut W) -> io::Result<bool>
     ensures text { OnOk result (Appends (W.contents writer.old) (W.contents writer.new) (next_text next)) }
-    ensures answered { OnOk result (IsAnswered next) }
+    ensures answered { OnOk result (FoundMemory next) }
     ensures goes_on { IfOk result (λ more. more ≡ goes_on next) }
 {
     match next {

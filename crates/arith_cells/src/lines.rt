@@ -1,28 +1,47 @@
 //! Cells from lines.
 
-ghost use Rattle.std.specs.Prelude.{◌≡◌, OnOk, IfOk, IfSome};
+ghost use Rattle.std.specs.Prelude.{◌≡◌, ◌≢◌, OnOk, IfOk, IfSome};
 ghost use Rattle.std.specs.Io.BufRead.{strip_last};
+ghost use Rattle.arith_cells.specs.declared.status.Status.TheVariants.{Done, WordsRefused};
 ghost use Rattle.arith_cells.specs.Printed.{InputPrints, LinePrints, Prints};
 
 use crate::cell::run_cell;
+use crate::status::Status;
 use interp_core::Interpreter;
 use std::alloc::Global;
 use std::io::{self, BufRead, ErrorKind, Write};
 use std::str;
+
+/// Runs each line of an input as a cell, and tells how the program ends: done where all that the lines print was
+/// printed and flushed, and else failed.
+pub(crate) fn run_input<I: Interpreter, R: BufRead, W: Write>(
+    alloc: Global,
+    interpreter: &mut I,
+    reader: &mut R,
+    writer: &mut W,
+) -> Status
+    ensures done { result ≡ Done → IfSome (R.remaining reader.old)
+        (λ input. Prints (InputPrints I.meaning interpreter.old input)
+        (W.contents writer.old) (W.contents writer.new) interpreter.new) }
+    ensures words { result ≢ WordsRefused }
+{
+    match run_lines(alloc, interpreter, reader, writer) {
+        Ok(()) => Status::Done,
+        Err(_) => Status::Failed,
+    }
+}
 
 /// Runs each line as a cell, its line feed aside, up to the end of what is read, and flushes what was printed.
 ///
 /// # Errors
 ///
 /// Of the reader, also where a line is no UTF-8, of the writer, or of memory. What was printed before may be lost.
-pub fn run_lines<I: Interpreter, R: BufRead, W: Write>(
+fn run_lines<I: Interpreter, R: BufRead, W: Write>(
     alloc: Global,
     interpreter: &mut I,
     reader: &mut R,
     writer: &mut W,
 ) -> io::Result<()>
-where
-    I::Cell: Drop,
     ensures { OnOk result (IfSome (R.remaining reader.old)
         (λ input. Prints (InputPrints I.meaning interpreter.old input)
         (W.contents writer.old) (W.contents writer.new) interpreter.new)) }
@@ -44,8 +63,6 @@ fn run_line<I: Interpreter, R: BufRead, W: Write>(
     writer: &mut W,
     line: &mut Vec<u8>,
 ) -> io::Result<bool>
-where
-    I::Cell: Drop,
     ensures { IfOk result (λ more. IfSome (R.remaining reader.old) (λ input. LinePrints I.meaning more input
         interpreter.old (W.contents writer.old) (W.contents writer.new) interpreter.new (R.remaining reader.new))) }
 {

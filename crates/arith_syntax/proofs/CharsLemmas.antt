@@ -7,29 +7,30 @@ use Rattle.std.proofs.lemmas.List.Elements.{All-nil, All-cons, All-weaker}
 use Rattle.std.proofs.lemmas.Str.{chars-nil}
 use Rattle.arith_syntax.specs.declared.token.Token.{Token}
 use Rattle.arith_syntax.specs.declared.token.Placed.{Placed}
-use Rattle.arith_syntax.specs.Tokens.{BeginsWith, IsWhite, IsWordCharacter, IsWord, IsLongestSign, IsToken, Reads}
+use Rattle.arith_syntax.specs.Tokens.{FirstCharacterIs, IsWhite, IsWordCharacter, IsWord, IsLongestSign, IsToken}
+use Rattle.arith_syntax.specs.Tokens.{ReadsTokens}
 use Rattle.arith_syntax.specs.Tokens.{IsTokens, IsWrongAt}
 use Rattle.arith_syntax.proofs.AsciiLemmas.{IsAsciiCharacter, utf8_behind, chars_behind, chars_some, IsAsciiFront}
 use Rattle.arith_syntax.proofs.AsciiLemmas.{octets_of}
 use Rattle.arith_syntax.proofs.TokenLemmas.{sign_ascii, token_ascii, token_behind, word_character_ascii}
-use Rattle.arith_syntax.proofs.ReadsLemmas.{white_ascii}
+use Rattle.arith_syntax.proofs.TokensReadLemmas.{white_ascii}
 
 -- the first code point is the first octet where it is ASCII
 begins_octets : (P : ℕ → Type 0) → ((c : ℕ) → P c → IsAsciiCharacter c) → (octets cs : List ℕ) → IsUtf8 octets
-    → chars octets ≡ cs → BeginsWith P cs
-    → BeginsWith P octets
+    → chars octets ≡ cs → FirstCharacterIs P cs
+    → FirstCharacterIs P octets
 begins_octets P ascii octets [] utf8 same begins = absurd begins
 begins_octets P ascii octets (c ∷ cs) utf8 same begins =
     let front : IsAsciiFront octets (c ∷ []) cs = octets_of (c ∷ []) octets cs
     (All-cons IsAsciiCharacter c [] (ascii c begins) (All-nil IsAsciiCharacter)) utf8 same in
-    subst (λ (t : List ℕ). BeginsWith P t) (sym front.all) begins
+    subst (λ (t : List ℕ). FirstCharacterIs P t) (sym front.all) begins
 
 -- the first octet is the first code point where it is ASCII
 begins_chars : (P : ℕ → Type 0) → ((c : ℕ) → P c → IsAsciiCharacter c) → (octets : List ℕ) → IsUtf8 octets
-    → BeginsWith P octets → BeginsWith P (chars octets)
+    → FirstCharacterIs P octets → FirstCharacterIs P (chars octets)
 begins_chars P ascii [] utf8 begins = absurd begins
 begins_chars P ascii (b ∷ bs) utf8 begins =
-    subst (λ (t : List ℕ). BeginsWith P t)
+    subst (λ (t : List ℕ). FirstCharacterIs P t)
     (sym (chars_behind (b ∷ []) bs (All-cons IsAsciiCharacter b [] (ascii b begins) (All-nil IsAsciiCharacter)) utf8))
     begins
 
@@ -89,12 +90,12 @@ token_octets token spelled more utf8 is =
 
 -- the tokens that were read of octets, and UTF-8 behind them
 pub record IsReadOfChars (place : ℕ) (text : List ℕ) (found : List Placed) (end : ℕ) (rest : List ℕ) : Type 0 where
-  pub reads : Reads place (chars text) found end (chars rest)
+  pub reads : ReadsTokens place (chars text) found end (chars rest)
   pub utf8 : IsUtf8 rest
 
 -- what is read of octets is read of their code points
 pub reads_chars : (place : ℕ) (text : List ℕ) (found : List Placed) (end : ℕ) (rest : List ℕ) → IsUtf8 text
-    → Reads place text found end rest
+    → ReadsTokens place text found end rest
     → IsReadOfChars place text found end rest
 reads_chars place text [] end rest utf8 reads =
     record { reads = (reads.0, ap chars reads.1); utf8 = subst (λ (t : List ℕ). IsUtf8 t) (sym reads.1) utf8 }
@@ -158,7 +159,7 @@ wrong_chars text place utf8 wrong =
       end = wrong.end;
       white = wrong.white;
       wrong = chars wrong.wrong;
-      reads = subst (λ (t : List ℕ). Reads 0 (chars text) wrong.tokens wrong.end t)
+      reads = subst (λ (t : List ℕ). ReadsTokens 0 (chars text) wrong.tokens wrong.end t)
           (chars_behind wrong.white wrong.wrong blank on.utf8) on.reads;
       blank = wrong.blank;
       there = wrong.there;

@@ -8,7 +8,8 @@ use Rattle.arith_syntax.specs.declared.token.Token.TheVariants.{Operator, Questi
 use Rattle.arith_syntax.specs.Grammar.{Tree, Number, Variable, Group, Unary, Binary, Conditional, Assignment}
 use Rattle.arith_syntax.specs.Grammar.{operator_level, level, IsGrammatical, IsStatement, spelled, unary_sign}
 use Rattle.arith_syntax.specs.Machine.{Begun, Opened, Signed, Operated, Questioned, Divided, Named, room_of, Settled}
-use Rattle.arith_syntax.specs.Machine.{settle, State, begin, take_due, divide, enclose, outermost, start, run, close}
+use Rattle.arith_syntax.specs.Machine.{settle, State, begin, take_due, take_colon, take_close, outermost, start, run}
+use Rattle.arith_syntax.specs.Machine.{close}
 use Rattle.arith_syntax.proofs.MachineLemmas.{operator_level_least, operator_level_most, level_most, settle_ends}
 use Rattle.arith_syntax.proofs.MachineLemmas.{settle_stops, room_stops, run_append}
 
@@ -53,7 +54,7 @@ tree_taken (Group e) bs good fits =
       goes =
           run_append (due (Opened ∷ bs)) (spelled e) (Close ∷ [])
           ∙ ap (λ s. run s (Close ∷ [])) inner.goes
-          ∙ ap (λ (s : Settled). enclose s.begun s.operand) whole;
+          ∙ ap (λ (s : Settled). take_close s.begun s.operand) whole;
       settles = λ weak h. refl;
     }
 tree_taken (Unary sign e) bs good fits =
@@ -98,7 +99,7 @@ tree_taken (Conditional c a b) bs good fits =
           ∙ ap (λ (s : Settled). run (begin (Questioned s.operand) s.begun) (spelled a ++ (Colon ∷ spelled b))) asked
           ∙ run_append (due (Questioned c ∷ bs)) (spelled a) (Colon ∷ spelled b)
           ∙ ap (λ s. run s (Colon ∷ spelled b)) middle.goes
-          ∙ ap (λ (s : Settled). run (divide s.begun s.operand) (spelled b)) divided
+          ∙ ap (λ (s : Settled). run (take_colon s.begun s.operand) (spelled b)) divided
           ∙ last.goes;
       settles = λ weak h. last.settles weak (omega (arith, good.1)) ∙ settle_ends weak (Divided c a) bs b h;
     }

@@ -1,19 +1,20 @@
-pub mod AsciiLemmas
-pub mod CharsLemmas
-pub mod CompleteLemmas
-pub mod ConstantLemmas
-pub mod LexerLemmas
-pub mod MachineLemmas
-pub mod NumberLemmas
-pub mod OctetLemmas
-pub mod OnceLemmas
-pub mod ParsingLemmas
-pub mod ReadingLemmas
-pub mod ReadsLemmas
-pub mod SignLemmas
-pub mod SoundLemmas
-pub mod StackLemmas
-pub mod TakenLemmas
-pub mod TextLemmas
-pub mod TokenLawLemmas
-pub mod TokenLemmas
+mod AsciiLemmas
+mod CharsLemmas
+mod CompleteLemmas
+mod ConstantLemmas
+mod LexerLemmas
+mod MachineLemmas
+mod NumberLemmas
+mod OctetLemmas
+mod OnceLemmas
+mod ParsingLemmas
+mod ReadingLemmas
+mod TokensReadLemmas
+mod SignLemmas
+mod SoundLemmas
+mod StackLemmas
+mod TakenLemmas
+mod TextLemmas
+mod TokenLawLemmas
+mod TokenLemmas
+pub mod Theorems

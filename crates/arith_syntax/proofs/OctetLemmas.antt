@@ -16,7 +16,7 @@ use Rattle.arith_syntax.specs.declared.token.Token.TheVariants.{Constant, Name, 
 use Rattle.arith_syntax.specs.declared.token.Token.TheVariants.{Increment, Decrement, Question, Colon, Open, Close}
 use Rattle.arith_syntax.specs.declared.token.Token.TheVariants.{Semicolon}
 use Rattle.arith_syntax.specs.declared.token.Placed.{Placed}
-use Rattle.arith_syntax.specs.Tokens.{IsWhite, IsWordCharacter, IsSign, IsToken, IsTokens, Reads, operator_sign}
+use Rattle.arith_syntax.specs.Tokens.{IsWhite, IsWordCharacter, IsSign, IsToken, IsTokens, ReadsTokens, operator_sign}
 use Rattle.arith_syntax.specs.Tokens.{assignment_sign}
 
 -- one more ASCII character
@@ -117,7 +117,7 @@ token Semicolon spelled rest h = sign Semicolon spelled h.is_sign
 
 -- what is read is ASCII where the rest is
 pub read : (tokens : List Placed) (place : ℕ) (text : List ℕ) (end : ℕ) (rest : List ℕ)
-    → Reads place text tokens end rest → IsAscii rest → IsAscii text
+    → ReadsTokens place text tokens end rest → IsAscii rest → IsAscii text
 read [] place text end rest r h = subst IsAscii r.1 h
 read (t ∷ ts) place text end rest (blank, spelled, more, all, is_blank, is_token, there, behind) h =
     subst IsAscii (sym all) (IsAscii-append blank (spelled ++ more) (of_kind IsWhite white blank is_blank)

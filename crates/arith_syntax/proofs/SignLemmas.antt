@@ -12,7 +12,7 @@ use Rattle.arith_syntax.specs.declared.token.Token.TheVariants.{Constant, Name, 
 use Rattle.arith_syntax.specs.declared.token.Token.TheVariants.{Increment, Decrement, Question, Colon, Open, Close}
 use Rattle.arith_syntax.specs.declared.token.Token.TheVariants.{Semicolon}
 use Rattle.arith_syntax.specs.Tokens.{IsWordCharacter, operator_sign, assignment_sign, IsSign, IsLongestSign}
-use Rattle.arith_syntax.specs.Lexed.{Spells}
+use Rattle.arith_syntax.specs.Lexed.{SpellsSign}
 
 -- a character that may stand in a sign
 abbrev pub is_sign_character : ℕ → Bool
@@ -138,7 +138,8 @@ three_is_longest text a b c front token is =
     )
 
 -- a sign of two characters is the longest where the first three are none
-pub two_is_longest : (text : List ℕ) (a b c : ℕ) → IsFront text a b c → Spells (a ∷ b ∷ c ∷ []) None → (token : Token)
+pub two_is_longest : (text : List ℕ) (a b c : ℕ) → IsFront text a b c → SpellsSign (a ∷ b ∷ c ∷ []) None
+    → (token : Token)
     → IsSign token (a ∷ b ∷ [])
     → (2 ≤ length text) × IsLongestSign token (take 2 text) (drop 2 text)
 two_is_longest text a b c front no_three token is =
@@ -160,8 +161,8 @@ two_is_longest text a b c front no_three token is =
     )
 
 -- a sign of one character is the longest where the first two and the first three are none
-pub one_is_longest : (text : List ℕ) (a b c : ℕ) → IsFront text a b c → Spells (a ∷ b ∷ c ∷ []) None
-    → Spells (a ∷ b ∷ []) None
+pub one_is_longest : (text : List ℕ) (a b c : ℕ) → IsFront text a b c → SpellsSign (a ∷ b ∷ c ∷ []) None
+    → SpellsSign (a ∷ b ∷ []) None
     → (token : Token) → IsSign token (a ∷ []) → (1 ≤ length text) × IsLongestSign token (take 1 text) (drop 1 text)
 one_is_longest text a b c front no_three no_two token is =
     let there : (32 < a) × (a < 128) = sign_character_bounds a (sign_may_be token (a ∷ []) is) in

@@ -12,8 +12,8 @@ use Rattle.arith_syntax.specs.declared.token.Token.TheVariants.{Constant, Name, 
 use Rattle.arith_syntax.specs.declared.token.Token.TheVariants.{Question, Colon, Open, Close}
 use Rattle.arith_syntax.specs.Grammar.{Tree, Variable, operator_level, level, IsStatement, BeginsStatement, spelled}
 use Rattle.arith_syntax.specs.Machine.{Begun, Opened, Signed, Operated, Questioned, Divided, Named, room_of, settle}
-use Rattle.arith_syntax.specs.Machine.{State, begin, begin_sign, sign_of, take_due, take_behind, take_at, divide}
-use Rattle.arith_syntax.specs.Machine.{enclose, assign, advance_on, outermost, run, close_at, close, StopsAt}
+use Rattle.arith_syntax.specs.Machine.{State, begin, begin_sign, sign_of, take_due, take_behind, take_at, take_colon}
+use Rattle.arith_syntax.specs.Machine.{take_close, take_assign, advance_on, outermost, run, close_at, close, StopsAt}
 use Rattle.arith_syntax.proofs.MachineLemmas.{operator_level_least, operator_level_most}
 use Rattle.arith_syntax.proofs.SoundLemmas.{front, fronts, grade, IsGood, AreGood, Holds, settles_well, held_begins}
 use Rattle.arith_syntax.proofs.SoundLemmas.{due_begins}
@@ -114,22 +114,22 @@ more_spelled tokens bs u token spells =
     ap (λ (xs : List Token). xs ++ (token ∷ [])) spells ∙ append_assoc (fronts bs) (spelled u) (token ∷ [])
 
 -- `:`
-divide_sound : (tokens : List Token) (bs : List Begun) (u : Tree) → Holds tokens bs u
-    → IsSound (tokens ++ (Colon ∷ [])) (divide bs u)
-divide_sound tokens [] u held = tt
-divide_sound tokens (Questioned c ∷ bs) u held =
+take_colon_sound : (tokens : List Token) (bs : List Begun) (u : Tree) → Holds tokens bs u
+    → IsSound (tokens ++ (Colon ∷ [])) (take_colon bs u)
+take_colon_sound tokens [] u held = tt
+take_colon_sound tokens (Questioned c ∷ bs) u held =
     begun_sound (tokens ++ (Colon ∷ [])) (Divided c u) bs held.good.2 (held.good.0.0, held.good.0.1, held.grammatical)
     held.good.1
     (more_spelled tokens (Questioned c ∷ bs) u Colon held.spells
     ∙ append_assoc (fronts bs) (spelled c ++ (Question ∷ [])) (spelled u ++ (Colon ∷ []))
     ∙ ap (λ (xs : List Token). fronts bs ++ xs) (append_assoc (spelled c) (Question ∷ []) (spelled u ++ (Colon ∷ []))))
-divide_sound tokens (_ ∷ bs) u held = tt
+take_colon_sound tokens (_ ∷ bs) u held = tt
 
 -- `)`
-enclose_sound : (tokens : List Token) (bs : List Begun) (u : Tree) → Holds tokens bs u
-    → IsSound (tokens ++ (Close ∷ [])) (enclose bs u)
-enclose_sound tokens [] u held = tt
-enclose_sound tokens (Opened ∷ bs) u held = (
+take_close_sound : (tokens : List Token) (bs : List Begun) (u : Tree) → Holds tokens bs u
+    → IsSound (tokens ++ (Close ∷ [])) (take_close bs u)
+take_close_sound tokens [] u held = tt
+take_close_sound tokens (Opened ∷ bs) u held = (
   record {
     good = held.good.2;
     spells =
@@ -140,12 +140,12 @@ enclose_sound tokens (Opened ∷ bs) u held = (
   },
   refl,
 )
-enclose_sound tokens (_ ∷ bs) u held = tt
+take_close_sound tokens (_ ∷ bs) u held = tt
 
 -- an assignment's sign
-assign_sound : (tokens : List Token) (op : AssignmentOperator) (bs : List Begun) (u : Tree) → Holds tokens bs u
-    → IsSound (tokens ++ (Assign op ∷ [])) (assign op bs u)
-assign_sound tokens op bs (Variable x) held =
+take_assign_sound : (tokens : List Token) (op : AssignmentOperator) (bs : List Begun) (u : Tree) → Holds tokens bs u
+    → IsSound (tokens ++ (Assign op ∷ [])) (take_assign op bs u)
+take_assign_sound tokens op bs (Variable x) held =
     let Goal : Bool → Type 0 = λ fitting. nat_le 13 (room_of bs) ≡ fitting
     → IsSound (tokens ++ (Assign op ∷ [])) (cond fitting (begin (Named x op) bs) None) in
     elim (nat_le 13 (room_of bs)) as Goal [
@@ -153,7 +153,7 @@ assign_sound tokens op bs (Variable x) held =
           (more_spelled tokens bs (Variable x) (Assign op) held.spells)
       | false ↦ λ is. tt
     ] refl
-assign_sound tokens op bs _ held = tt
+take_assign_sound tokens op bs _ held = tt
 
 -- a token behind an operand
 behind_sound : (tokens : List Token) (bs : List Begun) (u : Tree) (token : Token) → Holds tokens bs u → level u ≡ 0
@@ -165,7 +165,7 @@ behind_sound tokens bs u (Operator op) held none =
     (s.strong, s.held.grammatical)
     (stops_room (operator_level op) settled.begun (operator_level_least op) (operator_level_most op) s.stops)
     (more_spelled tokens settled.begun settled.operand (Operator op) s.held.spells)
-behind_sound tokens bs u (Assign op) held none = assign_sound tokens op bs u held
+behind_sound tokens bs u (Assign op) held none = take_assign_sound tokens op bs u held
 behind_sound tokens bs u Question held none =
     let s = settles_well 11 tokens bs u (omega arith) (omega arith) held in
     let settled = settle 11 bs u in
@@ -176,11 +176,11 @@ behind_sound tokens bs u Question held none =
 behind_sound tokens bs u Colon held none =
     let s = settles_well 13 tokens bs u (omega arith) (omega arith) held in
     let settled = settle 13 bs u in
-    divide_sound tokens settled.begun settled.operand s.held
+    take_colon_sound tokens settled.begun settled.operand s.held
 behind_sound tokens bs u Close held none =
     let s = settles_well 13 tokens bs u (omega arith) (omega arith) held in
     let settled = settle 13 bs u in
-    enclose_sound tokens settled.begun settled.operand s.held
+    take_close_sound tokens settled.begun settled.operand s.held
 behind_sound tokens bs u _ held none = tt
 
 -- a token behind an operand, or where one is due

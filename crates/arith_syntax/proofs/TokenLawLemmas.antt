@@ -13,8 +13,10 @@ use Rattle.arith_syntax.specs.declared.token.Token.TheVariants.{Constant, Name, 
 use Rattle.arith_syntax.specs.declared.token.Token.TheVariants.{Increment, Decrement, Question, Colon, Open, Close}
 use Rattle.arith_syntax.specs.declared.token.Token.TheVariants.{Semicolon}
 use Rattle.arith_syntax.specs.declared.token.Placed.{Placed}
-use Rattle.arith_syntax.specs.Tokens.{BeginsWith, IsWhite, IsDigit, IsOctalDigit, IsWordCharacter, in_base, IsConstant}
-use Rattle.arith_syntax.specs.Tokens.{operator_sign, assignment_sign, IsSign, IsLongestSign, IsToken, Reads, IsWrongAt}
+use Rattle.arith_syntax.specs.Tokens.{FirstCharacterIs, IsWhite, IsDigit, IsOctalDigit, IsWordCharacter, in_base}
+use Rattle.arith_syntax.specs.Tokens.{IsConstant}
+use Rattle.arith_syntax.specs.Tokens.{operator_sign, assignment_sign, IsSign, IsLongestSign, IsToken, ReadsTokens}
+use Rattle.arith_syntax.specs.Tokens.{IsWrongAt}
 use Rattle.arith_syntax.specs.TokenLaws.{TextsHaveOneLexing, TokensAreNowhereWrong, TextsHaveOneWrongPlace}
 use Rattle.arith_syntax.proofs.SignLemmas.{is_sign_character, sign_character_no_word, sign_character_bounds}
 use Rattle.arith_syntax.proofs.TokenLemmas.{run_once, word_once, constant_begins, sign_begins, IsConstantToken}
@@ -99,9 +101,10 @@ no_octal_mark word octal digits mark spelled all other marked =
     elim marked [ inl lower ↦ omega arith | inr upper ↦ omega arith ]
 
 -- no decimal constant begins with `0`
-no_decimal_zero : (word digits : List ℕ) → BeginsWith (λ d. (49 ≤ d) × (d ≤ 57)) word → word ≡ 48 ∷ digits → ⊥
+no_decimal_zero : (word digits : List ℕ) → FirstCharacterIs (λ d. (49 ≤ d) × (d ≤ 57)) word → word ≡ 48 ∷ digits → ⊥
 no_decimal_zero word digits first spelled =
-    let begins : (49 ≤ 48) × (48 ≤ 57) = subst (λ (w : List ℕ). BeginsWith (λ d. (49 ≤ d) × (d ≤ 57)) w) spelled first
+    let begins : (49 ≤ 48) × (48 ≤ 57) = subst (λ (w : List ℕ). FirstCharacterIs (λ d. (49 ≤ d) × (d ≤ 57)) w) spelled
+    first
     in
     omega arith
 
@@ -132,7 +135,8 @@ pub record IsOneToken (s t : Token) (a x b y : List ℕ) : Type 0 where
   pub rest : x ≡ y
 
 -- no text begins with a word and with a sign
-no_word_and_sign : (a x b y : List ℕ) (t : Token) → a ++ x ≡ b ++ y → BeginsWith IsWordCharacter a → IsSign t b → ⊥
+no_word_and_sign : (a x b y : List ℕ) (t : Token) → a ++ x ≡ b ++ y → FirstCharacterIs IsWordCharacter a → IsSign t b
+    → ⊥
 no_word_and_sign [] x b y t same begins is = begins
 no_word_and_sign (c ∷ a) x [] y t same begins is = sign_begins t [] is
 no_word_and_sign (c ∷ a) x (d ∷ b) y t same begins is =
@@ -177,7 +181,7 @@ no_constant_and_name : (s t : Token) (a x b y : List ℕ) → a ++ x ≡ b ++ y 
     → ⊥
 no_constant_and_name s t a x b y same one other =
     let word : (a ≡ b) × (x ≡ y) = word_once a x b y same one.word other.word in
-    no_letter b (subst (λ (w : List ℕ). BeginsWith IsDigit w) word.0 (constant_begins a one.value one.constant))
+    no_letter b (subst (λ (w : List ℕ). FirstCharacterIs IsDigit w) word.0 (constant_begins a one.value one.constant))
     other.letter
 
 -- a text begins with one token at most
@@ -218,13 +222,14 @@ no_white_sign c (inl space) is = let bounds : (32 < c) × (c < 128) = sign_chara
 no_white_sign c (inr control) is = let bounds : (32 < c) × (c < 128) = sign_character_bounds c is in omega arith
 
 -- a text doesn't begin with two kinds of characters that have none in common
-not_both : (P Q : ℕ → Type 0) → ((c : ℕ) → P c → Q c → ⊥) → (front rest : List ℕ) → BeginsWith Q front
-    → BeginsWith P (front ++ rest) → ⊥
+not_both : (P Q : ℕ → Type 0) → ((c : ℕ) → P c → Q c → ⊥) → (front rest : List ℕ) → FirstCharacterIs Q front
+    → FirstCharacterIs P (front ++ rest) → ⊥
 not_both P Q never [] rest begins other = begins
 not_both P Q never (c ∷ front) rest begins other = never c other begins
 
 -- no token begins with white space
-token_visible : (t : Token) (spelled rest : List ℕ) → IsToken t spelled rest → BeginsWith IsWhite (spelled ++ rest) → ⊥
+token_visible : (t : Token) (spelled rest : List ℕ) → IsToken t spelled rest
+    → FirstCharacterIs IsWhite (spelled ++ rest) → ⊥
 token_visible t spelled rest is = elim (token_cases t spelled rest is) [
   | inl constant ↦ not_both IsWhite IsWordCharacter no_white_word spelled rest
       (constant_begins_word t spelled rest constant)
@@ -239,7 +244,7 @@ pub record IsStuck (rest : List ℕ) : Type 0 where
   pub wrong : List ℕ
   pub all : rest ≡ white ++ wrong
   pub blank : All IsWhite white
-  pub visible : BeginsWith IsWhite wrong → ⊥
+  pub visible : FirstCharacterIs IsWhite wrong → ⊥
   pub no_token : (token : Token) (spelled more : List ℕ) → wrong ≡ spelled ++ more → IsToken token spelled more → ⊥
 
 -- a text that is stuck begins with no token
@@ -270,7 +275,7 @@ pub record IsOneReading (one other : List Placed) (end last : ℕ) (rest behind 
 
 -- two readings of one text that both go on to where it is stuck are one
 pub reads_once : (place : ℕ) (text : List ℕ) (one other : List Placed) (end last : ℕ) (rest behind : List ℕ)
-    → Reads place text one end rest → IsStuck rest → Reads place text other last behind → IsStuck behind
+    → ReadsTokens place text one end rest → IsStuck rest → ReadsTokens place text other last behind → IsStuck behind
     → IsOneReading one other end last rest behind
 reads_once place text [] [] end last rest behind a stuck b held =
     record { tokens = refl; place = a.0 ∙ sym b.0; left = a.1 ∙ sym b.1 }
@@ -289,10 +294,10 @@ reads_once place text (t ∷ one) (u ∷ other) end last rest behind a stuck b h
     let at : t.place ≡ u.place = (let p : t.place ≡ place + length a.0 = a.6 in let q : u.place
     ≡ place + length b.0 = b.6 in omega arith) in
     let next : place + length b.0 + length b.1 ≡ place + length a.0 + length a.1 = omega arith in
-    let moved : Reads (place + length a.0 + length a.1) b.2 other last behind =
-    subst (λ (n : ℕ). Reads n b.2 other last behind) next b.7 in
-    let read : Reads (place + length a.0 + length a.1) a.2 other last behind =
-    subst (λ (w : List ℕ). Reads (place + length a.0 + length a.1) w other last behind) (sym token.rest) moved in
+    let moved : ReadsTokens (place + length a.0 + length a.1) b.2 other last behind =
+    subst (λ (n : ℕ). ReadsTokens n b.2 other last behind) next b.7 in
+    let read : ReadsTokens (place + length a.0 + length a.1) a.2 other last behind =
+    subst (λ (w : List ℕ). ReadsTokens (place + length a.0 + length a.1) w other last behind) (sym token.rest) moved in
     let on : IsOneReading one other end last rest behind =
     reads_once (place + length a.0 + length a.1) a.2 one other end last rest behind a.7 stuck read held in
     let placed : t ≡ u = same_placed t u token.token at in
@@ -337,7 +342,7 @@ one_lexing text one other a b =
     (stuck_white b.rest b.white)).tokens
 
 -- what stands behind white space in white space begins with it
-white_behind : (white wrong : List ℕ) → All IsWhite (white ++ wrong) → 0 < length wrong → BeginsWith IsWhite wrong
+white_behind : (white wrong : List ℕ) → All IsWhite (white ++ wrong) → 0 < length wrong → FirstCharacterIs IsWhite wrong
 white_behind [] [] blank some = absurd (omega arith)
 white_behind [] (c ∷ wrong) blank some = All-head IsWhite c wrong blank
 white_behind (d ∷ white) wrong blank some = white_behind white wrong (All-tail IsWhite d (white ++ wrong) blank) some

@@ -7,20 +7,20 @@ use Rattle.arith_syntax.specs.declared.token.Token.{Token}
 use Rattle.arith_syntax.specs.declared.token.Token.TheVariants.{Constant, Name, Operator, Assign, Complement, Not}
 use Rattle.arith_syntax.specs.declared.token.Token.TheVariants.{Increment, Decrement, Question, Colon, Open, Close}
 use Rattle.arith_syntax.specs.declared.token.Token.TheVariants.{Semicolon}
-use Rattle.arith_syntax.specs.Tokens.{BeginsWith, IsDigit, IsLetter, IsWordCharacter, IsConstant, IsWord, IsSign}
+use Rattle.arith_syntax.specs.Tokens.{FirstCharacterIs, IsDigit, IsLetter, IsWordCharacter, IsConstant, IsWord, IsSign}
 use Rattle.arith_syntax.specs.Tokens.{IsLongestSign, IsToken}
 use Rattle.arith_syntax.proofs.SignLemmas.{is_sign_character, may_be_sign, sign_may_be, sign_character_bounds}
 use Rattle.arith_syntax.proofs.SignLemmas.{both_true}
 use Rattle.arith_syntax.proofs.AsciiLemmas.{IsAsciiCharacter}
 
 -- two runs of one kind that stand in front of one text are one run
-pub run_once : (P : ℕ → Type 0) (a x b y : List ℕ) → a ++ x ≡ b ++ y → All P a → (BeginsWith P x → ⊥) → All P b
-    → (BeginsWith P y → ⊥) → (a ≡ b) × (x ≡ y)
+pub run_once : (P : ℕ → Type 0) (a x b y : List ℕ) → a ++ x ≡ b ++ y → All P a → (FirstCharacterIs P x → ⊥) → All P b
+    → (FirstCharacterIs P y → ⊥) → (a ≡ b) × (x ≡ y)
 run_once P [] x [] y same one ends other stops = (refl, same)
 run_once P [] x (d ∷ b) y same one ends other stops =
-    absurd (ends (subst (λ (t : List ℕ). BeginsWith P t) (sym same) (All-head P d b other)))
+    absurd (ends (subst (λ (t : List ℕ). FirstCharacterIs P t) (sym same) (All-head P d b other)))
 run_once P (c ∷ a) x [] y same one ends other stops =
-    absurd (stops (subst (λ (t : List ℕ). BeginsWith P t) same (All-head P c a one)))
+    absurd (stops (subst (λ (t : List ℕ). FirstCharacterIs P t) same (All-head P c a one)))
 run_once P (c ∷ a) x (d ∷ b) y same one ends other stops =
     let heads : c ≡ d = ap (λ (t : List ℕ). get_or t 0 0) same in
     let rest : (a ≡ b) × (x ≡ y) = run_once P a x b y (ap (λ (t : List ℕ). drop 1 t) same) (All-tail P c a one) ends
@@ -34,28 +34,29 @@ word_once a x b y same one other = run_once IsWordCharacter a x b y same one.cha
     other.longest
 
 -- what a text that begins so begins with
-begins_at : (P Q : ℕ → Type 0) → ((c : ℕ) → P c → Q c) → (text : List ℕ) → BeginsWith P text → BeginsWith Q text
+begins_at : (P Q : ℕ → Type 0) → ((c : ℕ) → P c → Q c) → (text : List ℕ) → FirstCharacterIs P text
+    → FirstCharacterIs Q text
 begins_at P Q so [] begins = absurd begins
 begins_at P Q so (c ∷ cs) begins = so c begins
 
 -- a constant begins with a digit
-pub constant_begins : (word : List ℕ) (n : ℕ) → IsConstant word n → BeginsWith IsDigit word
+pub constant_begins : (word : List ℕ) (n : ℕ) → IsConstant word n → FirstCharacterIs IsDigit word
 constant_begins word n constant = elim constant.1 [
   | inl decimal ↦ begins_at (λ d. (49 ≤ d) × (d ≤ 57)) IsDigit (λ d digit. (omega arith, digit.1)) word decimal.first
-  | inr (inl octal) ↦ subst (λ (t : List ℕ). BeginsWith IsDigit t) (sym octal.spelled) (omega arith, omega arith)
-  | inr (inr hexadecimal) ↦ subst (λ (t : List ℕ). BeginsWith IsDigit t) (sym hexadecimal.spelled)
+  | inr (inl octal) ↦ subst (λ (t : List ℕ). FirstCharacterIs IsDigit t) (sym octal.spelled) (omega arith, omega arith)
+  | inr (inr hexadecimal) ↦ subst (λ (t : List ℕ). FirstCharacterIs IsDigit t) (sym hexadecimal.spelled)
       (omega arith, omega arith)
 ]
 
 -- a digit is no letter
-pub no_letter : (word : List ℕ) → BeginsWith IsDigit word → BeginsWith IsLetter word → ⊥
+pub no_letter : (word : List ℕ) → FirstCharacterIs IsDigit word → FirstCharacterIs IsLetter word → ⊥
 no_letter [] digit letter = digit
 no_letter (c ∷ cs) digit (inl upper) = omega arith
 no_letter (c ∷ cs) digit (inr (inl lower)) = omega arith
 no_letter (c ∷ cs) digit (inr (inr line)) = omega arith
 
 -- what may be a sign begins with a character of a sign
-begins_sign : (text : List ℕ) → may_be_sign text ≡ true → BeginsWith (λ c. is_sign_character c ≡ true) text
+begins_sign : (text : List ℕ) → may_be_sign text ≡ true → FirstCharacterIs (λ c. is_sign_character c ≡ true) text
 begins_sign [] may = let no : false ≡ true = may in cc
 begins_sign (a ∷ []) may = may
 begins_sign (a ∷ b ∷ []) may = (both_true (is_sign_character a) (is_sign_character b) may).0
@@ -67,7 +68,7 @@ begins_sign (a ∷ b ∷ c ∷ d ∷ rest) may = let no : false ≡ true = may i
 
 -- a sign begins with a character of a sign
 pub sign_begins : (token : Token) (sign : List ℕ) → IsSign token sign
-    → BeginsWith (λ c. is_sign_character c ≡ true) sign
+    → FirstCharacterIs (λ c. is_sign_character c ≡ true) sign
 sign_begins token sign is = begins_sign sign (sign_may_be token sign is)
 
 -- a token that is a constant
@@ -81,7 +82,7 @@ pub record IsConstantToken (token : Token) (spelled rest : List ℕ) : Type 0 wh
 pub record IsNameToken (token : Token) (spelled rest : List ℕ) : Type 0 where
   pub is : token ≡ Name spelled
   pub word : IsWord spelled rest
-  pub letter : BeginsWith IsLetter spelled
+  pub letter : FirstCharacterIs IsLetter spelled
 
 -- a token is a constant, a name or the longest sign
 pub token_cases : (token : Token) (spelled rest : List ℕ) → IsToken token spelled rest
@@ -102,13 +103,13 @@ token_cases Semicolon spelled rest is = inr (inr is)
 
 -- a constant's word begins with a character of a word
 pub constant_begins_word : (token : Token) (spelled rest : List ℕ) → IsConstantToken token spelled rest
-    → BeginsWith IsWordCharacter spelled
+    → FirstCharacterIs IsWordCharacter spelled
 constant_begins_word token spelled rest is = begins_at IsDigit IsWordCharacter (λ c digit. inl digit) spelled
     (constant_begins spelled is.value is.constant)
 
 -- a name begins with a character of a word
 pub name_begins_word : (token : Token) (spelled rest : List ℕ) → IsNameToken token spelled rest
-    → BeginsWith IsWordCharacter spelled
+    → FirstCharacterIs IsWordCharacter spelled
 name_begins_word token spelled rest is = begins_at IsLetter IsWordCharacter (λ c letter. inr letter) spelled is.letter
 
 -- the longest sign is a token

@@ -8,7 +8,7 @@ use Rattle.arith_syntax.specs.declared.fault.ReadFault.TheVariants.{Syntax, TooD
 use Rattle.arith_syntax.specs.declared.token.Token.{Token}
 use Rattle.arith_syntax.specs.declared.token.Placed.{Placed}
 use Rattle.arith_syntax.specs.declared.spelled.Spelled.{Spelled}
-use Rattle.arith_syntax.specs.Tokens.{BeginsWith, IsHexadecimalDigit, digit_value, in_base, IsConstant, IsSign}
+use Rattle.arith_syntax.specs.Tokens.{FirstCharacterIs, IsHexadecimalDigit, digit_value, in_base, IsConstant, IsSign}
 use Rattle.arith_syntax.specs.Tokens.{IsLongestSign, IsToken, IsTokens, IsWrongAt}
 
 -- what a text is as tokens: these, or wrong at a place
@@ -22,7 +22,7 @@ Lexes text (Err OutOfMemory) = ⊤
 pub record IsRun (P : ℕ → Type 0) (text : List ℕ) (size : ℕ) : Type 0 where
   pub fits : size ≤ length text
   pub inside : All P (take size text)
-  pub longest : BeginsWith P (drop size text) → ⊥
+  pub longest : FirstCharacterIs P (drop size text) → ⊥
 
 -- a digit of a base of at most 16
 abbrev pub IsDigitOf : ℕ → ℕ → Type 0
@@ -45,9 +45,9 @@ ReadsConstant word (Some n) = IsConstant word n
 ReadsConstant word None = (n : ℕ) → IsConstant word n → ⊥
 
 -- the token that a sign spells
-abbrev pub Spells : List ℕ → Option Token → Type 0
-Spells text (Some token) = IsSign token text
-Spells text None = (token : Token) → IsSign token text → ⊥
+abbrev pub SpellsSign : List ℕ → Option Token → Type 0
+SpellsSign text (Some token) = IsSign token text
+SpellsSign text None = (token : Token) → IsSign token text → ⊥
 
 -- the longest sign that a text begins with
 abbrev pub BeginsWithSign : List ℕ → Option Spelled → Type 0

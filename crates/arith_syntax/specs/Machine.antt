@@ -102,30 +102,30 @@ take_due bs Open = begin Opened bs
 take_due bs token = begin_sign (sign_of token) bs
 
 -- `:` behind what has settled
-abbrev pub divide : List Begun → Tree → Option State
-divide [] u = None
-divide (Questioned c ∷ bs) u = begin (Divided c u) bs
-divide (_ ∷ bs) u = None
+abbrev pub take_colon : List Begun → Tree → Option State
+take_colon [] u = None
+take_colon (Questioned c ∷ bs) u = begin (Divided c u) bs
+take_colon (_ ∷ bs) u = None
 
 -- `)` behind what has settled
-abbrev pub enclose : List Begun → Tree → Option State
-enclose [] u = None
-enclose (Opened ∷ bs) u = Some (record { begun = bs; operand = Some (Group u) })
-enclose (_ ∷ bs) u = None
+abbrev pub take_close : List Begun → Tree → Option State
+take_close [] u = None
+take_close (Opened ∷ bs) u = Some (record { begun = bs; operand = Some (Group u) })
+take_close (_ ∷ bs) u = None
 
 -- an assignment's sign behind an operand
-abbrev pub assign : AssignmentOperator → List Begun → Tree → Option State
-assign op bs (Variable x) = cond (nat_le 13 (room_of bs)) (begin (Named x op) bs) None
-assign op bs _ = None
+abbrev pub take_assign : AssignmentOperator → List Begun → Tree → Option State
+take_assign op bs (Variable x) = cond (nat_le 13 (room_of bs)) (begin (Named x op) bs) None
+take_assign op bs _ = None
 
 -- a token behind an operand
 abbrev pub take_behind : List Begun → Tree → Token → Option State
 take_behind bs u (Operator op) =
     let s = settle (operator_level op) bs u in begin (Operated s.operand op) s.begun
-take_behind bs u (Assign op) = assign op bs u
+take_behind bs u (Assign op) = take_assign op bs u
 take_behind bs u Question = let s = settle 11 bs u in begin (Questioned s.operand) s.begun
-take_behind bs u Colon = let s = settle 13 bs u in divide s.begun s.operand
-take_behind bs u Close = let s = settle 13 bs u in enclose s.begun s.operand
+take_behind bs u Colon = let s = settle 13 bs u in take_colon s.begun s.operand
+take_behind bs u Close = let s = settle 13 bs u in take_close s.begun s.operand
 take_behind bs u _ = None
 
 -- a token behind an operand, or where one is due
@@ -216,13 +216,13 @@ ends_at weak (b ∷ bs) = nat_le (rank b) weak
 
 -- a construct is a `?` with its condition, or `:` can't follow in it
 abbrev pub IsCondition : Begun → Option Expression → Type 0
-IsCondition b None = (bs : List Begun) (u : Tree) → divide (b ∷ bs) u ≡ None
+IsCondition b None = (bs : List Begun) (u : Tree) → take_colon (b ∷ bs) u ≡ None
 IsCondition b (Some c) = b ≡ Questioned (tree_of c)
 
 -- a construct is a `(`, or `)` can't follow in it
 abbrev pub IsOpen : Begun → Bool → Type 0
 IsOpen b true = b ≡ Opened
-IsOpen b false = (bs : List Begun) (u : Tree) → enclose (b ∷ bs) u ≡ None
+IsOpen b false = (bs : List Begun) (u : Tree) → take_close (b ∷ bs) u ≡ None
 
 -- a construct more
 abbrev pub PushesTo : Begun → List Begun → Result (Unit {0}) ReadFault → List Begun → Type 0
@@ -241,13 +241,13 @@ PopsEnding weak old (Some f) new = (old ≡ begun_of f ∷ new) × (rank (begun_
 
 -- the innermost construct, taken off, which is a `?` with its condition, or `:` can't follow
 abbrev pub PopsCondition : List Begun → Option Expression → List Begun → Type 0
-PopsCondition old None new = (u : Tree) → divide old u ≡ None
+PopsCondition old None new = (u : Tree) → take_colon old u ≡ None
 PopsCondition old (Some c) new = old ≡ Questioned (tree_of c) ∷ new
 
 -- the innermost construct, taken off, which is a `(`, or `)` can't follow
 abbrev pub PopsOpen : List Begun → Bool → List Begun → Type 0
 PopsOpen old true new = old ≡ Opened ∷ new
-PopsOpen old false new = (u : Tree) → enclose old u ≡ None
+PopsOpen old false new = (u : Tree) → take_close old u ≡ None
 
 -- no construct is left, or the end can't follow
 abbrev pub IsWholeStack : List Begun → Bool → Type 0

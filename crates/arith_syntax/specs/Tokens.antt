@@ -39,9 +39,9 @@ abbrev pub IsHexadecimalDigit : ℕ → Type 0
 IsHexadecimalDigit c = IsDigit c ⊎ ((65 ≤ c) × (c ≤ 70)) ⊎ ((97 ≤ c) × (c ≤ 102))
 
 -- a text has a first character, and that has a property
-abbrev pub BeginsWith : (ℕ → Type 0) → List ℕ → Type 0
-BeginsWith P [] = ⊥
-BeginsWith P (c ∷ cs) = P c
+abbrev pub FirstCharacterIs : (ℕ → Type 0) → List ℕ → Type 0
+FirstCharacterIs P [] = ⊥
+FirstCharacterIs P (c ∷ cs) = P c
 
 -- what a digit is worth
 abbrev pub digit_value : ℕ → ℕ
@@ -54,7 +54,7 @@ in_base base (d ∷ ds) = digit_value d * base ^ length ds + in_base base ds
 
 -- a decimal constant: a digit 1 to 9 and decimal digits
 pub record IsDecimal (word : List ℕ) (n : ℕ) : Type 0 where
-  pub first : BeginsWith (λ d. (49 ≤ d) × (d ≤ 57)) word
+  pub first : FirstCharacterIs (λ d. (49 ≤ d) × (d ≤ 57)) word
   pub digits : All IsDigit word
   pub value : n ≡ in_base 10 word
 
@@ -82,7 +82,7 @@ IsConstant word n = (n < 2 ^ 63) × (IsDecimal word n ⊎ IsOctal word n ⊎ IsH
 -- a word: the longest run of letters, digits and `_` that stands here, `rest` being what follows it
 pub record IsWord (word rest : List ℕ) : Type 0 where
   pub characters : All IsWordCharacter word
-  pub longest : BeginsWith IsWordCharacter rest → ⊥
+  pub longest : FirstCharacterIs IsWordCharacter rest → ⊥
 
 -- the sign of an operator with two operands
 abbrev pub operator_sign : BinaryOperator → List ℕ
@@ -144,23 +144,23 @@ pub record IsLongestSign (token : Token) (sign rest : List ℕ) : Type 0 where
 -- a token, what spells it, and what follows that
 abbrev pub IsToken : Token → List ℕ → List ℕ → Type 0
 IsToken (Constant n) word rest = IsWord word rest × IsConstant word n
-IsToken (Name x) word rest = IsWord word rest × BeginsWith IsLetter word × (x ≡ word)
+IsToken (Name x) word rest = IsWord word rest × FirstCharacterIs IsLetter word × (x ≡ word)
 IsToken token sign rest = IsLongestSign token sign rest
 
 -- the tokens that a text begins with, from a place on; `rest` is what is left behind them, at the place `end`
-abbrev pub Reads : ℕ → List ℕ → List Placed → ℕ → List ℕ → Type 0
-Reads place text [] end rest = (end ≡ place) × (rest ≡ text)
-Reads place text (t ∷ ts) end rest =
+abbrev pub ReadsTokens : ℕ → List ℕ → List Placed → ℕ → List ℕ → Type 0
+ReadsTokens place text [] end rest = (end ≡ place) × (rest ≡ text)
+ReadsTokens place text (t ∷ ts) end rest =
     (white : List ℕ) × (spelled : List ℕ) × (more : List ℕ)
     × (text ≡ white ++ (spelled ++ more)) × All IsWhite white × IsToken t.token spelled more
     × (t.place ≡ place + length white)
-    × Reads (place + length white + length spelled) more ts end rest
+    × ReadsTokens (place + length white + length spelled) more ts end rest
 
 -- a text is these tokens, with white space between and around them
 pub record IsTokens (text : List ℕ) (tokens : List Placed) : Type 0 where
   pub end : ℕ
   pub rest : List ℕ
-  pub reads : Reads 0 text tokens end rest
+  pub reads : ReadsTokens 0 text tokens end rest
   pub white : All IsWhite rest
 
 -- the character at this place begins no token, or a constant that is wrong; before it stand tokens and white space
@@ -169,9 +169,9 @@ pub record IsWrongAt (text : List ℕ) (place : ℕ) : Type 0 where
   pub end : ℕ
   pub white : List ℕ
   pub wrong : List ℕ
-  pub reads : Reads 0 text tokens end (white ++ wrong)
+  pub reads : ReadsTokens 0 text tokens end (white ++ wrong)
   pub blank : All IsWhite white
   pub there : place ≡ end + length white
   pub some : 0 < length wrong
-  pub visible : BeginsWith IsWhite wrong → ⊥
+  pub visible : FirstCharacterIs IsWhite wrong → ⊥
   pub no_token : (token : Token) (spelled rest : List ℕ) → wrong ≡ spelled ++ rest → IsToken token spelled rest → ⊥

@@ -1,3 +1,5 @@
+//! The number that a constant stands for.
+
 ghost use Rattle.std.specs.Prelude.{◌≡◌, ◌+◌, ◌*◌, ◌^◌, ◌<◌, ◌≤◌, slice_index, MatchOption, SomeIff};
 ghost use Rattle.arith_syntax.specs.Tokens.{digit_value};
 ghost use Rattle.arith_syntax.specs.Lexed.{IsDigitOf, ReadsNumber, ReadsConstant};
@@ -8,7 +10,7 @@ use crate::octet::octet_at;
 const GREATEST: u64 = 0x7FFF_FFFF_FFFF_FFFF;
 
 /// The constant that a word is: decimal, octal behind `0` or hexadecimal behind `0x`, and at most 2^63 - 1.
-pub fn constant(word: &[u8]) -> Option<u64>
+pub(crate) fn constant(word: &[u8]) -> Option<u64>
     ensures { ReadsConstant word.now result }
 {
     match octet_at(word, 0) {

@@ -1,3 +1,5 @@
+//! The tree of a statement.
+
 use crate::operator::{AssignmentOperator, BinaryOperator, UnaryOperator};
 use listed::Text;
 

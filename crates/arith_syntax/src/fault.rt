@@ -1,3 +1,5 @@
+//! Why a text has no reading.
+
 ghost use Rattle.std.specs.Prelude.{◌≡◌};
 ghost use Rattle.arith_syntax.specs.declared.fault.ReadFault.TheVariants.{OutOfMemory};
 

@@ -1,4 +1,5 @@
 //! Laws of the grammar, which rest on its definitions alone. Each is the contract of a function that does nothing.
+
 ghost use Rattle.arith_syntax.specs.Once.{HasOneReading};
 ghost use Rattle.arith_syntax.specs.Parsing.{HaveOneTree};
 

@@ -1,7 +1,9 @@
+//! From a text to its tokens.
+
 ghost use Rattle.std.specs.Prelude.{◌≡◌, ◌↔◌, IsTrue, IfOk, IfErr};
 ghost use Rattle.std.specs.Str.{chars};
 ghost use Rattle.arith_syntax.specs.declared.fault.ReadFault.TheVariants.{OutOfMemory};
-ghost use Rattle.arith_syntax.specs.Tokens.{BeginsWith, IsWhite, IsDigit, IsWordCharacter};
+ghost use Rattle.arith_syntax.specs.Tokens.{FirstCharacterIs, IsWhite, IsDigit, IsWordCharacter};
 ghost use Rattle.arith_syntax.specs.Lexed.{IsRun, Lexes, BeginsWithToken};
 
 use crate::constant::constant;
@@ -73,7 +75,7 @@ fn name_of(alloc: Global, word: &str) -> Result<Text, ReadFault>
 
 /// Whether a text begins with a digit.
 fn begins_with_digit(text: &[u8]) -> bool
-    ensures { IsTrue result ↔ BeginsWith IsDigit text.now }
+    ensures { IsTrue result ↔ FirstCharacterIs IsDigit text.now }
 {
     match text.first() {
         Some(octet) => octet.is_ascii_digit(),

@@ -25,6 +25,4 @@ pub use token::{Placed, Token};
 pub use token_laws::{one_lexing, one_wrong_place, tokens_are_nowhere_wrong};
 
 #[cfg(test)]
-mod tests_lexer;
-#[cfg(test)]
-mod tests_parser;
+mod tests;

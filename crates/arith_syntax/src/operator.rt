@@ -1,3 +1,5 @@
+//! The operators, and how strongly they bind.
+
 ghost use Rattle.std.specs.Prelude.{◌≡◌};
 ghost use Rattle.arith_syntax.specs.Grammar.{operator_level};
 

@@ -1,9 +1,11 @@
 //! Parsing by precedence: constructs that have begun wait on a stack for the operands that end them.
+
 ghost use Rattle.std.specs.Bool.{nat_le};
 ghost use Rattle.std.specs.Prelude.{◌≡◌, ◌≤◌};
 ghost use Rattle.arith_syntax.specs.Grammar.{operator_level, tree_of};
 ghost use Rattle.arith_syntax.specs.Machine.{rank, room, room_of, settle, start, advance, sign_of, take_due};
-ghost use Rattle.arith_syntax.specs.Machine.{take_behind, divide, enclose, assign, close, begun_of, stack_of, state_of};
+ghost use Rattle.arith_syntax.specs.Machine.{take_behind, take_colon, take_close, take_assign, close, begun_of};
+ghost use Rattle.arith_syntax.specs.Machine.{stack_of, state_of};
 ghost use Rattle.arith_syntax.specs.Machine.{ends_at, IsBuilt, IsCopied, IsCondition, IsOpen, IsWholeStack, PushesTo};
 ghost use Rattle.arith_syntax.specs.Machine.{Pops, PopsEnding, PopsCondition, PopsOpen, SettlesTo, LeadsTo, ClosesTo};
 ghost use Rattle.arith_syntax.specs.Parsing.{Parses};
@@ -195,7 +197,7 @@ impl Parser {
                 self.push(Frame::Binary(left, *operator))?;
                 Ok(true)
             }
-            Token::Assign(operator) => self.assign(*operator, operand),
+            Token::Assign(operator) => self.take_assign(*operator, operand),
             Token::Question => {
                 let condition = self.settle(alloc, WEAKEST_OPERATOR, operand)?;
                 self.push(Frame::Question(condition))?;
@@ -203,11 +205,11 @@ impl Parser {
             }
             Token::Colon => {
                 let middle = self.settle(alloc, ASSIGNMENT, operand)?;
-                self.divide(middle)
+                self.take_colon(middle)
             }
             Token::Close => {
                 let inner = self.settle(alloc, ASSIGNMENT, operand)?;
-                self.enclose(alloc, inner)
+                self.take_close(alloc, inner)
             }
             Token::Constant(_)
             | Token::Name(_)
@@ -299,9 +301,9 @@ impl Parser {
     }
 
     /// Takes `:` behind the middle of a conditional.
-    fn divide(&mut self, middle: Expression) -> Result<bool, ReadFault>
+    fn take_colon(&mut self, middle: Expression) -> Result<bool, ReadFault>
         requires { self.old.operand ≡ None }
-        ensures { LeadsTo (divide (stack_of self.old.frames.items) (tree_of middle)) result (state_of self.new) }
+        ensures { LeadsTo (take_colon (stack_of self.old.frames.items) (tree_of middle)) result (state_of self.new) }
     {
         match self.pop_condition() {
             Some(condition) => {
@@ -313,8 +315,8 @@ impl Parser {
     }
 
     /// Takes `)` behind what stands in parentheses.
-    fn enclose(&mut self, alloc: Global, inner: Expression) -> Result<bool, ReadFault>
-        ensures { LeadsTo (enclose (stack_of self.old.frames.items) (tree_of inner)) result (state_of self.new) }
+    fn take_close(&mut self, alloc: Global, inner: Expression) -> Result<bool, ReadFault>
+        ensures { LeadsTo (take_close (stack_of self.old.frames.items) (tree_of inner)) result (state_of self.new) }
     {
         if !self.pop_open() {
             return Ok(false);
@@ -324,13 +326,13 @@ impl Parser {
     }
 
     /// Takes an operator that assigns, behind a name.
-    fn assign(
+    fn take_assign(
         &mut self,
         operator: AssignmentOperator,
         operand: Expression,
     ) -> Result<bool, ReadFault>
         requires { self.old.operand ≡ None }
-        ensures { LeadsTo (assign operator (stack_of self.old.frames.items) (tree_of operand)) result
+        ensures { LeadsTo (take_assign operator (stack_of self.old.frames.items) (tree_of operand)) result
             (state_of self.new) }
     {
         let Expression::Variable(name) = operand else {

@@ -1,3 +1,5 @@
+//! From a text to the trees of its statements.
+
 ghost use Rattle.std.specs.Prelude.{◌≡◌, ◌<◌, ℕ, ◌∷◌, [], length, Ok, Err, map, filter, count_by, MatchOption};
 ghost use Rattle.std.specs.Prelude.{MatchResult, IfSome};
 ghost use Rattle.std.specs.List.{position};
@@ -46,7 +48,7 @@ pub fn read_statement(alloc: Global, text: &str) -> Result<Expression, ReadFault
     statement(alloc, placed.as_slice(), text.len() as u64)
 }
 
-// The trees of the statements that `;` cuts tokens into; the last one ends at `end`.
+/// The trees of the statements that `;` cuts tokens into; the last one ends at `end`.
 fn statements(alloc: Global, tokens: &[Placed], end: u64) -> Result<VecDeque<Expression>, ReadFault>
     ensures { MatchResult result (λ trees. AllMean (filter has_tokens (sentences end tokens.now))
         (map tree_of trees.items))
@@ -62,7 +64,7 @@ fn statements(alloc: Global, tokens: &[Placed], end: u64) -> Result<VecDeque<Exp
     Ok(trees)
 }
 
-// One more tree, unless the sentence is empty.
+/// One more tree, unless the sentence is empty.
 fn add(
     alloc: Global,
     trees: &mut VecDeque<Expression>,
@@ -81,7 +83,7 @@ fn add(
     Ok(())
 }
 
-// The tree of a statement's tokens.
+/// The tree of a statement's tokens.
 fn statement(alloc: Global, tokens: &[Placed], end: u64) -> Result<Expression, ReadFault>
     ensures { MatchResult result (λ tree. Means (sentence_of tokens.now end) (Ok (tree_of tree)))
         (OrMemory (λ fault. Means (sentence_of tokens.now end) (Err fault))) }
@@ -93,7 +95,7 @@ fn statement(alloc: Global, tokens: &[Placed], end: u64) -> Result<Expression, R
     }
 }
 
-// How many tokens are neither names nor constants.
+/// How many tokens are neither names nor constants.
 fn operator_count(tokens: &[Placed]) -> usize
     ensures { result ≡ count_by (λ (p : Placed). is_operator p.token) tokens.now }
 {
@@ -103,15 +105,18 @@ fn operator_count(tokens: &[Placed]) -> usize
         .count()
 }
 
-// A sentence that `;` ends: its tokens, the place of the `;`, and the tokens behind it.
+/// A sentence that `;` ends.
 #[derive(Drop)]
 struct Ended<'a> {
+    /// Its tokens.
     tokens: &'a [Placed],
+    /// The place of the `;`.
     end: u64,
+    /// The tokens behind the `;`.
     behind: &'a [Placed],
 }
 
-// The first sentence, where a `;` ends it.
+/// The first sentence, where a `;` ends it.
 fn first_sentence(tokens: &[Placed]) -> Option<Ended<'_>>
     ensures cut { MatchOption result ((end : ℕ) → sentences end tokens.now ≡ sentence_of tokens.now end ∷ [])
         (λ first. (end : ℕ) → sentences end tokens.now
@@ -128,7 +133,7 @@ fn first_sentence(tokens: &[Placed]) -> Option<Ended<'_>>
     }
 }
 
-// Where the first `;` is.
+/// Where the first `;` is.
 fn first_semicolon(tokens: &[Placed]) -> Option<usize>
     ensures { result ≡ position (λ (p : Placed). is_semicolon p.token) tokens.now }
 {

@@ -1,5 +1,7 @@
+//! The sign that a text begins with.
+
 ghost use Rattle.std.specs.Prelude.{[], ◌∷◌, ◌≡◌, ◌≢◌};
-ghost use Rattle.arith_syntax.specs.Lexed.{Spells, BeginsWithSign};
+ghost use Rattle.arith_syntax.specs.Lexed.{SpellsSign, BeginsWithSign};
 
 use crate::octet::octet_at;
 use crate::operator::{AssignmentOperator, BinaryOperator};
@@ -7,7 +9,7 @@ use crate::spelled::Spelled;
 use crate::token::Token;
 
 /// The longest sign that a text begins with.
-pub fn sign(text: &[u8]) -> Option<Spelled>
+pub(crate) fn sign(text: &[u8]) -> Option<Spelled>
     ensures { BeginsWithSign text.now result }
 {
     let first = octet_at(text, 0);
@@ -27,7 +29,7 @@ pub fn sign(text: &[u8]) -> Option<Spelled>
 
 /// The sign of three characters.
 fn three(first: u8, second: u8, third: u8) -> Option<Token>
-    ensures { Spells (first ∷ second ∷ third ∷ []) result }
+    ensures { SpellsSign (first ∷ second ∷ third ∷ []) result }
 {
     if first != second || third != b'=' {
         return None;
@@ -41,7 +43,7 @@ fn three(first: u8, second: u8, third: u8) -> Option<Token>
 
 /// The sign of two characters.
 fn two(first: u8, second: u8) -> Option<Token>
-    ensures { Spells (first ∷ second ∷ []) result }
+    ensures { SpellsSign (first ∷ second ∷ []) result }
 {
     if second == b'=' {
         before_equals(first)
@@ -54,7 +56,7 @@ fn two(first: u8, second: u8) -> Option<Token>
 
 /// The sign of a character and `=`.
 fn before_equals(first: u8) -> Option<Token>
-    ensures { Spells (first ∷ 61 ∷ []) result }
+    ensures { SpellsSign (first ∷ 61 ∷ []) result }
 {
     match first {
         b'<' => Some(Token::Operator(BinaryOperator::LessOrEqual)),
@@ -76,7 +78,7 @@ fn before_equals(first: u8) -> Option<Token>
 /// The sign of a character that stands twice.
 fn doubled(first: u8) -> Option<Token>
     requires { first ≢ 61 }
-    ensures { Spells (first ∷ first ∷ []) result }
+    ensures { SpellsSign (first ∷ first ∷ []) result }
 {
     match first {
         b'<' => Some(Token::Operator(BinaryOperator::ShiftLeft)),
@@ -91,7 +93,7 @@ fn doubled(first: u8) -> Option<Token>
 
 /// The sign of one character.
 fn one(first: u8) -> Option<Token>
-    ensures { Spells (first ∷ []) result }
+    ensures { SpellsSign (first ∷ []) result }
 {
     match first {
         b'*' => Some(Token::Operator(BinaryOperator::Multiply)),

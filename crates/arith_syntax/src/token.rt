@@ -1,3 +1,5 @@
+//! The tokens of a text.
+
 ghost use Rattle.std.specs.Prelude.{◌≡◌};
 ghost use Rattle.arith_syntax.specs.Reading.{is_operator, is_semicolon};
 
@@ -38,7 +40,9 @@ pub enum Token {
 /// A token and the number of code points that stand before it in its text.
 #[derive(Debug, Drop)]
 pub struct Placed {
+    /// The token.
     pub token: Token,
+    /// How many code points stand before it.
     pub place: u64,
 }
 

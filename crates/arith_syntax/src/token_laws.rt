@@ -1,4 +1,5 @@
 //! Laws of tokens, which rest on their definition alone. Each is the contract of a function that does nothing.
+
 ghost use Rattle.arith_syntax.specs.TokenLaws.{TextsHaveOneLexing, TokensAreNowhereWrong, TextsHaveOneWrongPlace};
 
 /// A text is only one list of tokens.

@@ -1,3 +1,4 @@
-pub mod EvaluateLemmas
-pub mod OwnLemmas
-pub mod VariablesLemmas
+mod EvaluateLemmas
+mod OwnLemmas
+mod VariablesLemmas
+pub mod Theorems

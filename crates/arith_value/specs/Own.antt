@@ -7,13 +7,13 @@ use Rattle.arith_value.specs.Value.{value}
 use Rattle.arith_value.specs.Variables.{Bindings}
 
 -- a result, or a fault that isn't want of memory
-abbrev pub IsOwn : {T : Type 0} → Result T ValueFault → Type 0
-IsOwn (Ok n) = ⊤
-IsOwn (Err Overflow) = ⊤
-IsOwn (Err ZeroDivision) = ⊤
-IsOwn (Err Shift) = ⊤
-IsOwn (Err OutOfMemory) = ⊥
+abbrev pub IsOwnResult : {T : Type 0} → Result T ValueFault → Type 0
+IsOwnResult (Ok n) = ⊤
+IsOwnResult (Err Overflow) = ⊤
+IsOwnResult (Err ZeroDivision) = ⊤
+IsOwnResult (Err Shift) = ⊤
+IsOwnResult (Err OutOfMemory) = ⊥
 
 -- what a tree is worth is never want of memory
 abbrev pub ValuesAreOwn : Type 0
-ValuesAreOwn = (tree : Tree) (variables : Bindings) → IsOwn (value tree variables).result
+ValuesAreOwn = (tree : Tree) (variables : Bindings) → IsOwnResult (value tree variables).result

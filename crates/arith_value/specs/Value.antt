@@ -12,34 +12,34 @@ use Rattle.arith_value.specs.declared.fault.ValueFault.TheVariants as fault
 use Rattle.arith_value.specs.Operators.{checked, is_true, unary, apply}
 use Rattle.arith_value.specs.Variables.{Bindings, read, after}
 
--- what an evaluation comes to: its result, and the assignments that it made, in their order
-pub record Outcome : Type 0 where
+-- an evaluation: its result, and the assignments that it made, in their order
+pub record Evaluation : Type 0 where
   pub result : Result ℤ ValueFault
   pub made : Bindings
 
--- what an evaluation comes to where the variables are these
-abbrev pub Evaluation : Type 0
-Evaluation = Bindings → Outcome
+-- a computation: its evaluation where the variables are these
+abbrev pub Computation : Type 0
+Computation = Bindings → Evaluation
 
 -- a result with no assignment
-abbrev pub give : Result ℤ ValueFault → Evaluation
+abbrev pub give : Result ℤ ValueFault → Computation
 give result variables = record { result = result; made = [] }
 
 -- the value of a name
-abbrev pub load : List ℕ → Evaluation
+abbrev pub load : List ℕ → Computation
 load name variables = give (Ok (read name variables)) variables
 
 -- an assignment, whose value is what was assigned
-abbrev pub store : List ℕ → ℤ → Evaluation
+abbrev pub store : List ℕ → ℤ → Computation
 store name value variables = record { result = Ok value; made = (name, value) ∷ [] }
 
--- an outcome, and where it has a value what comes of that, its assignments behind those already made
-abbrev pub followed : Result ℤ ValueFault → Bindings → (ℤ → Outcome) → Outcome
+-- an evaluation, and where it has a value what comes of that, its assignments behind those already made
+abbrev pub followed : Result ℤ ValueFault → Bindings → (ℤ → Evaluation) → Evaluation
 followed (Ok value) made next = record { result = (next value).result; made = made ++ (next value).made }
 followed (Err fault) made next = record { result = Err fault; made = made }
 
--- one evaluation, and then the next with its value and the variables after it; a fault ends both
-abbrev pub first_then : Evaluation → (ℤ → Evaluation) → Evaluation
+-- one computation, and then the next with its value and the variables after it; a fault ends both
+abbrev pub first_then : Computation → (ℤ → Computation) → Computation
 first_then first next variables =
     followed (first variables).result (first variables).made
     (λ value. next value (after variables (first variables).made))
@@ -50,13 +50,13 @@ decided binary.And a = if is_true a then None else Some (pos 0)
 decided binary.Or a = if is_true a then Some (pos 1) else None
 decided op a = None
 
--- a value that is decided, or else an evaluation
-abbrev pub unless : Option ℤ → Evaluation → Evaluation
+-- a value that is decided, or else a computation
+abbrev pub unless : Option ℤ → Computation → Computation
 unless None step = step
 unless (Some value) step = give (Ok value)
 
 -- the value of an operator: the right operand is evaluated unless the left one decides
-abbrev pub operate : BinaryOperator → ℤ → Evaluation → Evaluation
+abbrev pub operate : BinaryOperator → ℤ → Computation → Computation
 operate op a right = unless (decided op a) (first_then right (λ b. give (apply op a b)))
 
 -- the operator that an assignment applies before it assigns, where it has one
@@ -74,16 +74,16 @@ operator_of assignment.BitXor = Some binary.BitXor
 operator_of assignment.BitOr = Some binary.BitOr
 
 -- what an assignment assigns: its operand, or what its operator gives of the name's value, read now, and the operand
-abbrev pub combined : Option BinaryOperator → List ℕ → ℤ → Evaluation
+abbrev pub combined : Option BinaryOperator → List ℕ → ℤ → Computation
 combined None name operand = give (Ok operand)
 combined (Some op) name operand = first_then (load name) (λ old. give (apply op old operand))
 
 -- an assignment whose operand has this value
-abbrev pub assignment_of : List ℕ → AssignmentOperator → ℤ → Evaluation
+abbrev pub assignment_of : List ℕ → AssignmentOperator → ℤ → Computation
 assignment_of name op operand = first_then (combined (operator_of op) name operand) (λ value. store name value)
 
 -- the value of a tree
-abbrev pub value : Tree → Evaluation
+abbrev pub value : Tree → Computation
 value (Number n) = give (checked (pos n))
 value (Variable name) = load name
 value (Group inner) = value inner
@@ -93,22 +93,21 @@ value (Conditional condition if_so if_not) =
     first_then (value condition) (λ a. if is_true a then value if_so else value if_not)
 value (Assignment name op operand) = first_then (value operand) (λ a. assignment_of name op a)
 
--- the variables are `new` after all that an evaluation assigned, and this is its result
-pub record Comes (step : Evaluation) (old : Bindings) (answer : Result ℤ ValueFault) (new : Bindings) : Type 0 where
+-- the variables are `new` after all that a computation assigned, and this is its result
+pub record Comes (step : Computation) (old : Bindings) (answer : Result ℤ ValueFault) (new : Bindings) : Type 0 where
   pub result : answer ≡ (step old).result
   pub assigned : new ≡ after old (step old).made
 
--- the variables are `new` after the beginning `done` of what an evaluation assigns
-pub record Stops (step : Evaluation) (old new : Bindings) : Type 0 where
+-- the variables are `new` after the beginning `done` of what a computation assigns
+pub record Stops (step : Computation) (old new : Bindings) : Type 0 where
   pub done : Bindings
   pub rest : Bindings
   pub beginning : done ++ rest ≡ (step old).made
   pub assigned : new ≡ after old done
 
--- a program's answer and the variables that it leaves are those of an evaluation; want of memory leaves the variables
--- after a
--- beginning of the assignments
-abbrev pub Evaluates : Evaluation → Bindings → Result ℤ ValueFault → Bindings → Type 0
+-- a program's answer and the variables that it leaves are those of a computation; want of memory leaves the variables
+-- after a beginning of the assignments
+abbrev pub Evaluates : Computation → Bindings → Result ℤ ValueFault → Bindings → Type 0
 Evaluates step old (Ok n) new = Comes step old (Ok n) new
 Evaluates step old (Err fault.Overflow) new = Comes step old (Err fault.Overflow) new
 Evaluates step old (Err fault.ZeroDivision) new = Comes step old (Err fault.ZeroDivision) new

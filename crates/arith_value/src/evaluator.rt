@@ -1,3 +1,5 @@
+//! The value of an expression.
+
 ghost use Rattle.std.specs.Prelude.{◌≡◌};
 ghost use Rattle.arith_syntax.specs.Grammar.{tree_of};
 ghost use Rattle.arith_value.specs.Value.{Evaluates, assignment_of, combined, operator_of, value};
@@ -60,7 +62,7 @@ fn assign(
 }
 
 /// The value of an expression; its assignments are made in the variables, also those before a fault.
-#[tactic(auto, using(crate::proofs::EvaluateLemmas::chained, crate::proofs::EvaluateLemmas::broken, crate::proofs::EvaluateLemmas::given))]
+#[tactic(auto, using(crate::proofs::EvaluateLemmas::evaluations))]
 pub fn evaluate(
     alloc: Global,
     expression: &Expression,

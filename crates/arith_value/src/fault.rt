@@ -1,3 +1,5 @@
+//! Why an expression has no value.
+
 ghost use Rattle.std.specs.Prelude.{◌≡◌};
 ghost use Rattle.arith_value.specs.declared.fault.ValueFault.TheVariants.{OutOfMemory};
 

@@ -1,3 +1,5 @@
+//! The values of operators.
+
 ghost use Rattle.std.specs.Prelude.{◌≡◌, pos, ◌+ℤ◌, ◌-ℤ◌, ◌*ℤ◌};
 ghost use Rattle.arith_value.specs.Operators.{apply, checked, count_of, is_true, quotient, remainder, shift_left};
 ghost use Rattle.arith_value.specs.Operators.{shift_right, truth, unary};
@@ -7,14 +9,14 @@ use crate::fault::ValueFault;
 use arith_syntax::{BinaryOperator, UnaryOperator};
 
 /// Whether a number is true, which each but 0 is.
-pub fn is_true(number: i64) -> bool
+pub(crate) fn is_true(number: i64) -> bool
     ensures { result ≡ is_true number }
 {
     number != 0
 }
 
 /// 1 for what is true, and 0 for what is false.
-pub fn truth(holds: bool) -> i64
+pub(crate) fn truth(holds: bool) -> i64
     ensures { result ≡ truth holds }
 {
     if holds { 1 } else { 0 }
@@ -52,7 +54,7 @@ fn divide(left: i64, right: i64) -> Result<i64, ValueFault>
 }
 
 /// A remainder, with the dividend's sign or 0.
-fn remain(left: i64, right: i64) -> Result<i64, ValueFault>
+fn remainder(left: i64, right: i64) -> Result<i64, ValueFault>
     ensures { result ≡ remainder left right }
 {
     if right == 0 {
@@ -113,7 +115,7 @@ pub fn apply(op: BinaryOperator, left: i64, right: i64) -> Result<i64, ValueFaul
     match op {
         BinaryOperator::Multiply => multiply(left, right),
         BinaryOperator::Divide => divide(left, right),
-        BinaryOperator::Remainder => remain(left, right),
+        BinaryOperator::Remainder => remainder(left, right),
         BinaryOperator::Add => add(left, right),
         BinaryOperator::Subtract => subtract(left, right),
         BinaryOperator::ShiftLeft => shift_left(left, right),
@@ -133,7 +135,7 @@ pub fn apply(op: BinaryOperator, left: i64, right: i64) -> Result<i64, ValueFaul
 }
 
 /// The value that the left operand decides by itself: a false one that of `&&`, and a true one that of `||`.
-pub fn decided(op: BinaryOperator, left: i64) -> Option<i64>
+pub(crate) fn decided(op: BinaryOperator, left: i64) -> Option<i64>
     ensures { result ≡ decided op left }
 {
     if op == BinaryOperator::And && !is_true(left) {
@@ -146,7 +148,7 @@ pub fn decided(op: BinaryOperator, left: i64) -> Option<i64>
 }
 
 /// The number that a constant stands for.
-pub fn constant(n: u64) -> Result<i64, ValueFault>
+pub(crate) fn constant(n: u64) -> Result<i64, ValueFault>
     ensures { result ≡ checked (pos n) }
 {
     i64::try_from(n).map_err(|_| ValueFault::Overflow)

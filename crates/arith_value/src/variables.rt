@@ -1,3 +1,5 @@
+//! The variables of a shell.
+
 ghost use Rattle.std.specs.Prelude.{◌≡◌, [], IfOk};
 ghost use Rattle.arith_value.specs.Variables.{IsAscending, IsSet, NamesBeginning, find, read, shown};
 
@@ -10,6 +12,7 @@ use std::marker::Model;
 /// The variables of a shell: a contract sees the names with their values, in the order of the names' octets.
 #[derive(Debug, Drop)]
 pub struct Variables {
+    /// Their values, by name.
     values: BTreeMap<String, i64>,
 }
 

@@ -6,14 +6,14 @@ use Rattle.interp_core.specs.declared.fault.InterpFault.TheVariants.{Syntax, Ove
 use Rattle.interp_core.specs.declared.fault.InterpFault.TheVariants.{Interrupted, OutOfMemory}
 
 -- the number of a fault
-abbrev pub fault_number : InterpFault → ℕ
-fault_number (Syntax place) = 50
-fault_number Overflow = 51
-fault_number ZeroDivision = 52
-fault_number Shift = 53
-fault_number TooDeep = 54
-fault_number Interrupted = 55
-fault_number OutOfMemory = 56
+abbrev pub interp_fault_number : InterpFault → ℕ
+interp_fault_number (Syntax place) = 50
+interp_fault_number Overflow = 51
+interp_fault_number ZeroDivision = 52
+interp_fault_number Shift = 53
+interp_fault_number TooDeep = 54
+interp_fault_number Interrupted = 55
+interp_fault_number OutOfMemory = 56
 
 -- the name of a fault: `ename`
 abbrev pub fault_name : InterpFault → List ℕ

@@ -66,29 +66,28 @@ ByMemory (Failed fault) memory other = IfMemory fault memory other
 
 -- a fault that a definition may have: an interruption is for who runs the cell to say, and want of memory for the
 -- program
-abbrev pub IsOwn : InterpFault → Type 0
-IsOwn (fault.Syntax place) = ⊤
-IsOwn fault.Overflow = ⊤
-IsOwn fault.ZeroDivision = ⊤
-IsOwn fault.Shift = ⊤
-IsOwn fault.TooDeep = ⊤
-IsOwn fault.Interrupted = ⊥
-IsOwn fault.OutOfMemory = ⊥
+abbrev pub IsOwnFault : InterpFault → Type 0
+IsOwnFault (fault.Syntax place) = ⊤
+IsOwnFault fault.Overflow = ⊤
+IsOwnFault fault.ZeroDivision = ⊤
+IsOwnFault fault.Shift = ⊤
+IsOwnFault fault.TooDeep = ⊤
+IsOwnFault fault.Interrupted = ⊥
+IsOwnFault fault.OutOfMemory = ⊥
 
 -- an answer, or such a fault
 abbrev pub HasOwn : {T : Type 0} → Result T InterpFault → Type 0
 HasOwn (Ok answer) = ⊤
-HasOwn (Err fault) = IsOwn fault
+HasOwn (Err fault) = IsOwnFault fault
 
 -- a step that failed has such a fault
 abbrev pub FailsOwn : Next → Type 0
 FailsOwn More = ⊤
 FailsOwn (Done value) = ⊤
-FailsOwn (Failed fault) = IsOwn fault
+FailsOwn (Failed fault) = IsOwnFault fault
 
 -- the laws of an interpreter: each definition has at most one value, and no fault that isn't its own; a step lessens
--- the
--- steps that are left by one, and the one that leaves none ends the cell
+-- the steps that are left by one, and the one that leaves none ends the cell
 pub record Laws {State Cell : Type 0} (m : Meaning State Cell) : Type 0 where
   pub one_info : (state : State) (a b : Result Info InterpFault) → m.tells state a → m.tells state b → a ≡ b
   pub one_begin : (state : State) (text : List ℕ) (a b : Result Cell InterpFault) (after other : State)

@@ -1,43 +1,37 @@
+//! Why an interpreter has no answer, and how that is reported.
+
 ghost use Rattle.std.specs.Prelude.{◌≡◌, MatchResult};
 ghost use Rattle.interp_core.specs.declared.fault.InterpFault.TheVariants.{OutOfMemory};
-ghost use Rattle.interp_core.specs.Fault.{fault_number, fault_name, fault_value};
+ghost use Rattle.interp_core.specs.Fault.{interp_fault_number, fault_name, fault_value};
 
-use arith_syntax::ReadFault;
-use arith_value::ValueFault;
 use listed::Text;
 use std::alloc::{AllocError, AllocFailed, Global};
-use thiserror::Error;
+use std::error::Error;
+use std::fmt::{self, Display, Formatter};
 
 /// Why an interpreter has no answer.
-#[derive(Clone, Copy, Debug, PartialEq, Eq, Error)]
+#[derive(Clone, Copy, Debug, PartialEq, Eq)]
 pub enum InterpFault {
     /// The text has no reading from this place on, which is a number of code points.
-    #[error("syntax error at {0}")]
     Syntax(u64),
     /// A result is below -2^63 or above 2^63 - 1.
-    #[error("result outside 64 bits")]
     Overflow,
     /// A divisor is 0.
-    #[error("division by zero")]
     ZeroDivision,
     /// A shift count is outside 0 to 63, or a negative value is shifted to the left.
-    #[error("shift refused")]
     Shift,
     /// A statement has more than 200 operators.
-    #[error("more than 200 operators")]
     TooDeep,
     /// The cell was interrupted between two steps. No interpreter answers this: who runs the cell does.
-    #[error("interrupted")]
     Interrupted,
     /// No memory was left.
-    #[error("out of memory")]
     OutOfMemory,
 }
 
 impl InterpFault {
     /// The number of the fault, from 50 on in the order of the variants.
     pub fn number(self) -> u8
-        ensures { result ≡ fault_number self }
+        ensures { result ≡ interp_fault_number self }
     {
         match self {
             InterpFault::Syntax(_) => 50,
@@ -49,7 +43,44 @@ impl InterpFault {
             InterpFault::OutOfMemory => 56,
         }
     }
+
+    /// The name of the fault, an `ename`.
+    pub fn name(self) -> &'static str
+        ensures { result.now ≡ fault_name self }
+    {
+        match self {
+            InterpFault::Syntax(_) => "SyntaxError",
+            InterpFault::Overflow => "OverflowError",
+            InterpFault::ZeroDivision => "ZeroDivisionError",
+            InterpFault::Shift => "ShiftError",
+            InterpFault::TooDeep => "TooDeep",
+            InterpFault::Interrupted => "Interrupted",
+            InterpFault::OutOfMemory => "OutOfMemory",
+        }
+    }
 }
+
+/// What is said of a fault, an `evalue`.
+impl Display for InterpFault {
+    ghost use Rattle.std.specs.Prelude.{Some};
+    ghost use Rattle.interp_core.specs.Fault.{fault_value};
+
+    ghost output = { λ fault. Some (fault_value fault) };
+
+    fn fmt<W: fmt::Write>(&self, f: &mut Formatter<W>) -> fmt::Result {
+        match self {
+            InterpFault::Syntax(place) => write!(f, "syntax error at {place}"),
+            InterpFault::Overflow => write!(f, "result outside 64 bits"),
+            InterpFault::ZeroDivision => write!(f, "division by zero"),
+            InterpFault::Shift => write!(f, "shift refused"),
+            InterpFault::TooDeep => write!(f, "more than 200 operators"),
+            InterpFault::Interrupted => write!(f, "interrupted"),
+            InterpFault::OutOfMemory => write!(f, "out of memory"),
+        }
+    }
+}
+
+impl Error for InterpFault {}
 
 /// The `ename` and the `evalue` of a fault, by which 'Messaging in Jupyter' reports an error.
 ///
@@ -60,31 +91,8 @@ pub fn fault_words(alloc: Global, fault: &InterpFault) -> Result<(&'static str, 
     ensures { MatchResult result (λ words. (words.0.now ≡ fault_name fault.now) × (words.1 ≡ fault_value fault.now))
         (λ refused. refused ≡ OutOfMemory) }
 {
-    match fault {
-        InterpFault::Syntax(place) => {
-            let value = format!(in alloc; "syntax error at {place}")?;
-            Ok(("SyntaxError", Text::new(value)))
-        }
-        InterpFault::Overflow => words(alloc, "OverflowError", "result outside 64 bits"),
-        InterpFault::ZeroDivision => words(alloc, "ZeroDivisionError", "division by zero"),
-        InterpFault::Shift => words(alloc, "ShiftError", "shift refused"),
-        InterpFault::TooDeep => words(alloc, "TooDeep", "more than 200 operators"),
-        InterpFault::Interrupted => words(alloc, "Interrupted", "interrupted"),
-        InterpFault::OutOfMemory => words(alloc, "OutOfMemory", "out of memory"),
-    }
-}
-
-// Two texts as the words of a fault.
-fn words(
-    alloc: Global,
-    name: &'static str,
-    value: &'static str,
-) -> Result<(&'static str, Text), InterpFault>
-    ensures { MatchResult result (λ words. (words.0.now ≡ name.now) × (words.1 ≡ value.now))
-        (λ refused. refused ≡ OutOfMemory) }
-{
-    let value = String::from_str(alloc, value)?;
-    Ok((name, Text::new(value)))
+    let value = format!(in alloc; "{fault}")?;
+    Ok((fault.name(), Text::new(value)))
 }
 
 impl From<AllocError> for InterpFault {
@@ -100,34 +108,5 @@ impl<T: Drop> From<AllocFailed<T>> for InterpFault {
 
     fn from(_e: AllocFailed<T>) -> InterpFault {
         InterpFault::OutOfMemory
-    }
-}
-
-impl From<ReadFault> for InterpFault {
-    ghost use Rattle.interp_core.specs.ShellArithmetic.{from_read};
-
-    ghost from_gives = { λ fault e. e ≡ from_read fault };
-
-    fn from(fault: ReadFault) -> InterpFault {
-        match fault {
-            ReadFault::Syntax(place) => InterpFault::Syntax(place),
-            ReadFault::TooDeep => InterpFault::TooDeep,
-            ReadFault::OutOfMemory => InterpFault::OutOfMemory,
-        }
-    }
-}
-
-impl From<ValueFault> for InterpFault {
-    ghost use Rattle.interp_core.specs.ShellArithmetic.{from_value};
-
-    ghost from_gives = { λ fault e. e ≡ from_value fault };
-
-    fn from(fault: ValueFault) -> InterpFault {
-        match fault {
-            ValueFault::Overflow => InterpFault::Overflow,
-            ValueFault::ZeroDivision => InterpFault::ZeroDivision,
-            ValueFault::Shift => InterpFault::Shift,
-            ValueFault::OutOfMemory => InterpFault::OutOfMemory,
-        }
     }
 }

@@ -1,3 +1,5 @@
+//! The interface of an interpreter.
+
 ghost use Rattle.std.specs.Prelude.{◌≡◌, ℕ, ◌+◌, ◌<◌, []};
 ghost use Rattle.interp_core.specs.Interpreter.{Answers, ByMemory, IsEnd, Laws, Meaning, OnMemory};
 
@@ -11,9 +13,9 @@ use std::alloc::Global;
 /// What its calls answer are the values of the language's definitions, its `meaning`, or want of memory.
 pub trait Interpreter {
     /// A text that was read, with the steps that it has left.
-    type Cell;
+    type Cell: Drop;
 
-    // What each call answers.
+    /// What each call answers.
     ghost meaning: { Meaning Self Self.Cell };
 
     /// What the language says of itself.
@@ -78,6 +80,6 @@ pub trait Interpreter {
         ensures answered { Answers (λ answer. meaning.evaluates self.old text.now answer self.new) result }
         ensures refused { OnMemory result (meaning.gives_up self.old text.now self.new) };
 
-    // Each definition has at most one value, and a cell ends within the steps that it has left.
+    /// Each definition has at most one value, and a cell ends within the steps that it has left.
     ghost laws: { Laws meaning };
 }

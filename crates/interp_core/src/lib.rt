@@ -1,23 +1,14 @@
-//! The interface of an interpreter, and shell arithmetic as one.
+//! The interface of an interpreter: what its calls answer, step by step, and the laws of that. It says nothing of a
+//! language.
 #![tactic(auto)]
 
 mod answer;
-mod cursor;
 mod fault;
 mod interpreter;
-mod laws;
-mod shell_arithmetic;
-mod statement;
 
 pub use answer::{Completeness, Completion, Info, Next, Output, Stepped};
 pub use fault::{InterpFault, fault_words};
 pub use interpreter::Interpreter;
-pub use laws::words_are_tokens;
-pub use shell_arithmetic::{ShellArith, Statements};
 
 #[cfg(test)]
 mod tests;
-#[cfg(test)]
-mod tests_cells;
-#[cfg(test)]
-mod tests_words;

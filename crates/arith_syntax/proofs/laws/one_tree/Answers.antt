@@ -1,4 +1,4 @@
-use Rattle.arith_syntax.proofs.ParsingLemmas.{one_tree}
+use Rattle.arith_syntax.proofs.Theorems.{one_tree}
 use Rattle.arith_syntax.proofs.laws.one_tree.Goals as goal
 
 pub returns : goal.returns

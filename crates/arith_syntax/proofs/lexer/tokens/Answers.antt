@@ -2,7 +2,8 @@ use Rattle.std.proofs.Common.{◌≡◌, ℕ, List, ◌+◌, drop, subst, None, 
 use Rattle.std.proofs.lemmas.List.{take_rest}
 use Rattle.arith_syntax.specs.Tokens.{IsWhite}
 use Rattle.arith_syntax.specs.Lexed.{IsRun, BeginsWithToken}
-use Rattle.arith_syntax.proofs.ReadsLemmas.{reached_first, reached_more, reached_boundary, reached_end, reached_wrong}
+use Rattle.arith_syntax.proofs.TokensReadLemmas.{reached_first, reached_more, reached_boundary, reached_end}
+use Rattle.arith_syntax.proofs.TokensReadLemmas.{reached_wrong}
 use Rattle.arith_syntax.proofs.CharsLemmas.{tokens_chars, wrong_chars}
 use Rattle.arith_syntax.proofs.lexer.tokens.Goals as goal
 

@@ -1,4 +1,4 @@
-use Rattle.arith_syntax.proofs.TokenLawLemmas.{one_lexing}
+use Rattle.arith_syntax.proofs.Theorems.{one_lexing}
 use Rattle.arith_syntax.proofs.token_laws.one_lexing.Goals as goal
 
 pub returns : goal.returns

@@ -1,4 +1,4 @@
-use Rattle.arith_syntax.proofs.TokenLawLemmas.{one_wrong_place}
+use Rattle.arith_syntax.proofs.Theorems.{one_wrong_place}
 use Rattle.arith_syntax.proofs.token_laws.one_wrong_place.Goals as goal
 
 pub returns : goal.returns

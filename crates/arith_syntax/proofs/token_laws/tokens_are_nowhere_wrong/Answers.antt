@@ -1,5 +1,5 @@
-use Rattle.arith_syntax.proofs.TokenLawLemmas.{nowhere_wrong}
+use Rattle.arith_syntax.proofs.Theorems.{tokens_are_nowhere_wrong}
 use Rattle.arith_syntax.proofs.token_laws.tokens_are_nowhere_wrong.Goals as goal
 
 pub returns : goal.returns
-returns c = nowhere_wrong
+returns c = tokens_are_nowhere_wrong

@@ -1,41 +1,34 @@
-use Rattle.std.proofs.Common.{rules, ◌≡◌, Err, sym, ap, subst, ◌∙◌, true, false, FitsSigned, w64, to_z, of_z, None}
+use Rattle.std.proofs.Common.{rules, ◌≡◌, Err, ap, subst, ◌∙◌, true, false, FitsSigned, w64, to_z, of_z}
 use Rattle.std.proofs.lemmas.Result.{err_from_is_err_and}
-use Rattle.std.specs.Prelude.{if◌then◌else◌}
 use Rattle.std.proofs.lemmas.Int.{to_z-of_z}
 use Rattle.arith_syntax.specs.declared.expression.Expression.{Expression}
 use Rattle.arith_syntax.specs.Grammar.{tree_of}
-use Rattle.arith_value.specs.Operators.{is_true, apply}
-use Rattle.arith_value.specs.Value.{Evaluates, value, operate, assignment_of, decided, give}
-use Rattle.arith_value.proofs.EvaluateLemmas.{chained, broken, given, goes_on}
+use Rattle.arith_value.specs.Operators.{apply}
+use Rattle.arith_value.specs.Value.{Evaluates, value, assignment_of, give}
+use Rattle.arith_value.proofs.EvaluateLemmas.{branched, broken, chained, given, operated}
 use Rattle.arith_value.proofs.evaluator.+evaluate.Goals as goal
 
 pub returns-then-is_true : goal.returns-then-is_true
 returns-then-is_true t c =
     let fits : FitsSigned w64 c.in_ok-tested-in-Conditional.tested = search rules in
-    let holds : is_true c.in_ok-tested-in-Conditional.tested ≡ true =
-    ap is_true (sym (to_z-of_z w64 c.in_ok-tested-in-Conditional.tested fits)) ∙ sym c.is_true.ensures
-    ∙ c.if-is_true.true in
     rw c.in-Conditional.is
-    (chained (value (tree_of c.in-Conditional.condition.value))
-    (λ a. if is_true a then value (tree_of c.in-Conditional.if_so.value) else value
-    (tree_of c.in-Conditional.if_not.value))
-    c.args.variables.now c.evaluate-in-Conditional.new.variables _ c.in_ok-tested-in-Conditional.tested _
+    (branched (tree_of c.in-Conditional.condition.value) (tree_of c.in-Conditional.if_so.value)
+    (tree_of c.in-Conditional.if_not.value)
+    c.args.variables.now c.evaluate-in-Conditional.new.variables _ c.in_ok-tested-in-Conditional.tested
+    c.is_true.result true _ fits c.is_true.ensures c.if-is_true.true
     (rw (← c.deref-in-Conditional.ensures) c.in_ok-tested-in-Conditional.ensures)
-    (rw (holds, ← c.deref-then-is_true.ensures) c.evaluate-then-is_true.ensures))
+    (rw (← c.deref-then-is_true.ensures) c.evaluate-then-is_true.ensures))
 
 pub returns-else-is_true : goal.returns-else-is_true
 returns-else-is_true t c =
     let fits : FitsSigned w64 c.in_ok-tested-in-Conditional.tested = search rules in
-    let fails : is_true c.in_ok-tested-in-Conditional.tested ≡ false =
-    ap is_true (sym (to_z-of_z w64 c.in_ok-tested-in-Conditional.tested fits)) ∙ sym c.is_true.ensures
-    ∙ c.if-is_true.false in
     rw c.in-Conditional.is
-    (chained (value (tree_of c.in-Conditional.condition.value))
-    (λ a. if is_true a then value (tree_of c.in-Conditional.if_so.value) else value
-    (tree_of c.in-Conditional.if_not.value))
-    c.args.variables.now c.evaluate-in-Conditional.new.variables _ c.in_ok-tested-in-Conditional.tested _
+    (branched (tree_of c.in-Conditional.condition.value) (tree_of c.in-Conditional.if_so.value)
+    (tree_of c.in-Conditional.if_not.value)
+    c.args.variables.now c.evaluate-in-Conditional.new.variables _ c.in_ok-tested-in-Conditional.tested
+    c.is_true.result false _ fits c.is_true.ensures c.if-is_true.false
     (rw (← c.deref-in-Conditional.ensures) c.in_ok-tested-in-Conditional.ensures)
-    (rw (fails, ← c.deref-else-is_true.ensures) c.evaluate-else-is_true.ensures))
+    (rw (← c.deref-else-is_true.ensures) c.evaluate-else-is_true.ensures))
 
 pub returns-in_ok-assigned-in-Assignment : goal.returns-in_ok-assigned-in-Assignment
 returns-in_ok-assigned-in-Assignment t c =
@@ -51,32 +44,24 @@ returns-in_ok-assigned-in-Assignment t c =
 pub returns-in_err-second-in-Binary : goal.returns-in_err-second-in-Binary
 returns-in_err-second-in-Binary t c =
     let fits : FitsSigned w64 c.in_ok-first-in-Binary.first = search rules in
-    let undecided : decided c.in-Binary.op c.in_ok-first-in-Binary.first ≡ None =
-    ap (decided c.in-Binary.op) (sym (to_z-of_z w64 c.in_ok-first-in-Binary.first fits)) ∙ sym c.decided.ensures
-    ∙ c.in_default.is in
     let Failed : Expression → Type 0 =
     λ e. Evaluates (value (tree_of e)) c.evaluate-in-Binary.new.variables (Err c.in_err-second-in-Binary.field-0.0)
     c.evaluate-in-Binary-2.new.variables in
     let fault = err_from_is_err_and c.from_residual-in_err-second-in-Binary.result
     c.from_residual-in_err-second-in-Binary.ensures.1 in
     rw c.in-Binary.is
-    (chained (value (tree_of c.in-Binary.left.value))
-    (λ a. operate c.in-Binary.op a (value (tree_of c.in-Binary.right.value)))
-    c.args.variables.now c.evaluate-in-Binary.new.variables _ c.in_ok-first-in-Binary.first _
+    (operated c.in-Binary.op (tree_of c.in-Binary.left.value) (tree_of c.in-Binary.right.value)
+    c.args.variables.now c.evaluate-in-Binary.new.variables _
+    c.in_ok-first-in-Binary.first c.decided.result _ fits c.decided.ensures c.in_default.is
     (rw (← c.deref-in-Binary.ensures) c.in_ok-first-in-Binary.ensures)
-    (rw (fault.1, fault.2) (goes_on c.in-Binary.op c.in_ok-first-in-Binary.first
-    (value (tree_of c.in-Binary.right.value)) c.evaluate-in-Binary.new.variables
-    c.evaluate-in-Binary-2.new.variables (Err c.in_err-second-in-Binary.field-0.0) undecided
-    (broken (value (tree_of c.in-Binary.right.value)) (λ b. give (apply c.in-Binary.op c.in_ok-first-in-Binary.first b))
+    (rw (fault.1, fault.2) (broken (value (tree_of c.in-Binary.right.value))
+    (λ b. give (apply c.in-Binary.op c.in_ok-first-in-Binary.first b))
     c.evaluate-in-Binary.new.variables c.evaluate-in-Binary-2.new.variables c.in_err-second-in-Binary.field-0.0
-    (subst Failed c.deref-in-Binary-2.ensures c.in_err-second-in-Binary.ensures)))))
+    (subst Failed c.deref-in-Binary-2.ensures c.in_err-second-in-Binary.ensures))))
 
 pub returns-in_ok-second-in-Binary : goal.returns-in_ok-second-in-Binary
 returns-in_ok-second-in-Binary t c =
     let fits : FitsSigned w64 c.in_ok-first-in-Binary.first = search rules in
-    let undecided : decided c.in-Binary.op c.in_ok-first-in-Binary.first ≡ None =
-    ap (decided c.in-Binary.op) (sym (to_z-of_z w64 c.in_ok-first-in-Binary.first fits)) ∙ sym c.decided.ensures
-    ∙ c.in_default.is in
     let fits_too : FitsSigned w64 c.in_ok-second-in-Binary.second = search rules in
     let applied : c.apply.result ≡ apply c.in-Binary.op c.in_ok-first-in-Binary.first c.in_ok-second-in-Binary.second =
     c.apply.ensures
@@ -85,15 +70,13 @@ returns-in_ok-second-in-Binary t c =
     ∙ ap (apply c.in-Binary.op c.in_ok-first-in-Binary.first) (to_z-of_z w64 c.in_ok-second-in-Binary.second fits_too)
     in
     rw c.in-Binary.is
-    (chained (value (tree_of c.in-Binary.left.value))
-    (λ a. operate c.in-Binary.op a (value (tree_of c.in-Binary.right.value)))
-    c.args.variables.now c.evaluate-in-Binary.new.variables _ c.in_ok-first-in-Binary.first _
+    (operated c.in-Binary.op (tree_of c.in-Binary.left.value) (tree_of c.in-Binary.right.value)
+    c.args.variables.now c.evaluate-in-Binary.new.variables _
+    c.in_ok-first-in-Binary.first c.decided.result _ fits c.decided.ensures c.in_default.is
     (rw (← c.deref-in-Binary.ensures) c.in_ok-first-in-Binary.ensures)
-    (goes_on c.in-Binary.op c.in_ok-first-in-Binary.first (value (tree_of c.in-Binary.right.value))
-    c.evaluate-in-Binary.new.variables c.evaluate-in-Binary-2.new.variables c.apply.result undecided
-    (chained (value (tree_of c.in-Binary.right.value)) (λ b.
-    give (apply c.in-Binary.op c.in_ok-first-in-Binary.first b))
+    (chained (value (tree_of c.in-Binary.right.value))
+    (λ b. give (apply c.in-Binary.op c.in_ok-first-in-Binary.first b))
     c.evaluate-in-Binary.new.variables c.evaluate-in-Binary-2.new.variables _ c.in_ok-second-in-Binary.second _
     (rw (← c.deref-in-Binary-2.ensures) c.in_ok-second-in-Binary.ensures)
     (rw applied (given (apply c.in-Binary.op c.in_ok-first-in-Binary.first c.in_ok-second-in-Binary.second)
-    c.evaluate-in-Binary-2.new.variables)))))
+    c.evaluate-in-Binary-2.new.variables))))

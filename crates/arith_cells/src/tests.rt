@@ -1,0 +1,4 @@
+//! Tests of the program.
+
+mod output;
+mod status;

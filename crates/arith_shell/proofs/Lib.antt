@@ -1,0 +1,2 @@
+mod CursorLemmas
+mod ShellLemmas

@@ -1,0 +1,7 @@
+use Rattle.std.proofs.Common.{string_bytes}
+use Rattle.std.specs.Str.{chars}
+use Rattle.arith_shell.proofs.CursorLemmas.{ReadsBefore}
+use Rattle.arith_shell.proofs.cursor.word_before.Given as goal
+
+abbrev pub invariant-loop-c : goal.invariant-loop-c
+invariant-loop-c l = ReadsBefore (chars l.text) l.cursor l.yielded (string_bytes l.word) l.start l.place

@@ -1,0 +1,4 @@
+pub mod ShellArithmetic
+pub mod ShellLaws
+pub mod WordLaws
+pub mod Words

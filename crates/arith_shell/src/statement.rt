@@ -1,0 +1,94 @@
+//! The statements of a cell, run one at a time.
+
+ghost use Rattle.std.specs.Prelude.{◌≡◌, ◌+◌, ◌<◌, List, [], ◌∷◌, ◌++◌, codes, map, length, MatchResult};
+ghost use Rattle.arith_syntax.specs.Grammar.{Tree, tree_of};
+ghost use Rattle.arith_value.specs.Value.{Stops, value};
+ghost use Rattle.interp_core.specs.declared.answer.Next.TheVariants.{Failed};
+ghost use Rattle.interp_core.specs.declared.answer.Output.TheVariants.{Stdout};
+ghost use Rattle.interp_core.specs.declared.fault.InterpFault.TheVariants.{OutOfMemory};
+ghost use Rattle.interp_core.specs.Interpreter.{ByMemory};
+ghost use Rattle.arith_shell.specs.ShellArithmetic.{BreaksOff, IsLast, IsPrintedValue, Runs};
+
+use crate::fault::from_value;
+use arith_syntax::Expression;
+use arith_value::{Variables, evaluate};
+use interp_core::{InterpFault, Next, Output, Stepped};
+use listed::{Row, Text};
+use std::alloc::Global;
+use std::collections::VecDeque;
+
+/// Runs the first of some statements, of which there is one.
+pub(crate) fn run_first(
+    alloc: Global,
+    variables: &mut Variables,
+    waiting: &mut VecDeque<Expression>,
+) -> Stepped
+    requires { 0 < length waiting.old.items }
+    ensures stepped { ByMemory result.next
+        ((result.outputs ≡ []) × BreaksOff variables.old (map tree_of waiting.old.items) variables.new)
+        (Runs variables.old (map tree_of waiting.old.items) result variables.new (map tree_of waiting.new.items)) }
+    ensures lessened { length waiting.new.items + 1 ≡ length waiting.old.items }
+{
+    match waiting.pop_front() {
+        Some(statement) => run(alloc, variables, &statement, waiting.is_empty()),
+        None => unreachable!(),
+    }
+}
+
+/// Runs a statement, which may be the last of its cell.
+fn run(alloc: Global, variables: &mut Variables, statement: &Expression, last: bool) -> Stepped
+    ensures { ByMemory result.next
+        ((result.outputs ≡ []) × Stops (value (tree_of statement.now)) variables.old variables.new)
+        ((left : List Tree) → IsLast last left → Runs variables.old (tree_of statement.now ∷ left) result variables.new
+        left) }
+{
+    match value_text(alloc, variables, statement) {
+        Ok(text) if last => Stepped {
+            outputs: Row::new(Vec::new(alloc)),
+            next: Next::Done(Some(text)),
+        },
+        Ok(text) => match line(alloc, text) {
+            Ok(outputs) => Stepped {
+                outputs,
+                next: Next::More,
+            },
+            Err(fault) => failed(alloc, fault),
+        },
+        Err(fault) => failed(alloc, fault),
+    }
+}
+
+/// A line on standard output.
+fn line(alloc: Global, text: Text) -> Result<Row<Output>, InterpFault>
+    ensures { MatchResult result (λ outputs. outputs ≡ Stdout (text ++ codes "\n") ∷ [])
+        (λ fault. fault ≡ OutOfMemory) }
+{
+    let mut line = text.into_string();
+    line.push_str("\n")?;
+    let mut outputs = Vec::new(alloc);
+    outputs.push(Output::Stdout(Text::new(line)))?;
+    Ok(Row::new(outputs))
+}
+
+/// A step that failed.
+fn failed(alloc: Global, fault: InterpFault) -> Stepped
+    ensures { result ≡ record { outputs = []; next = Failed fault } }
+{
+    Stepped {
+        outputs: Row::new(Vec::new(alloc)),
+        next: Next::Failed(fault),
+    }
+}
+
+/// The value of an expression as it is printed.
+pub(crate) fn value_text(
+    alloc: Global,
+    variables: &mut Variables,
+    expression: &Expression,
+) -> Result<Text, InterpFault>
+    ensures { IsPrintedValue (tree_of expression.now) variables.old result variables.new }
+{
+    let value = evaluate(alloc, expression, variables).map_err(from_value)?;
+    let text = format!(in alloc; "{value}")?;
+    Ok(Text::new(text))
+}

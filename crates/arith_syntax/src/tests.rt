@@ -1,0 +1,4 @@
+//! Tests of the grammar.
+
+mod lexer;
+mod parser;

@@ -1,2 +1,0 @@
-pub mod CursorLemmas
-pub mod ShellLemmas
