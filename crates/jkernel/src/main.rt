@@ -13,6 +13,7 @@ mod stamp;
 mod status;
 #[cfg(test)]
 mod tests;
+mod words;
 
 use replay::run_replay;
 use status::{Status, judge_words};
