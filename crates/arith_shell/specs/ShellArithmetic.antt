@@ -47,9 +47,9 @@ from_value value_fault.Shift = fault.Shift
 from_value value_fault.OutOfMemory = fault.OutOfMemory
 
 -- a reading with its fault as one of an interpreter
-abbrev pub reading : {T : Type 0} → Result T ReadFault → Result T InterpFault
-reading (Ok tree) = Ok tree
-reading (Err fault) = Err (from_read fault)
+abbrev pub read_answer : {T : Type 0} → Result T ReadFault → Result T InterpFault
+read_answer (Ok tree) = Ok tree
+read_answer (Err fault) = Err (from_read fault)
 
 -- a value as it is printed: in decimal, with `-` for a negative one
 abbrev pub printed : Result ℤ ValueFault → Result (List ℕ) InterpFault
@@ -69,7 +69,7 @@ IsPrintedValue tree old (Err fault) new =
 pub record IsRead (text : List ℕ) (answer : Result (List Tree) InterpFault) : Type 0 where
   pub cell : Result (List Tree) ReadFault
   pub means : CellMeans (chars text) cell
-  pub answers : answer ≡ reading cell
+  pub answers : answer ≡ read_answer cell
 
 -- a text is read as a cell, and no variable changes
 abbrev pub Begins : Bindings → List ℕ → Result (List Tree) InterpFault → Bindings → Type 0

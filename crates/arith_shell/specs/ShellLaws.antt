@@ -18,7 +18,7 @@ use Rattle.arith_value.specs.declared.fault.ValueFault.TheVariants as value_faul
 use Rattle.arith_value.specs.Own as values
 use Rattle.arith_value.proofs.Theorems.{values_are_their_own}
 use Rattle.interp_core.specs.Interpreter.{FailsOwn, HasOwn, IsEnd, Laws}
-use Rattle.arith_shell.specs.ShellArithmetic.{Begins, IsWorth, IsEvaluated, Judges, Runs, printed, reading}
+use Rattle.arith_shell.specs.ShellArithmetic.{Begins, IsWorth, IsEvaluated, Judges, Runs, printed, read_answer}
 use Rattle.arith_shell.specs.ShellArithmetic.{shell_meaning, shows}
 
 -- a step comes to one thing
@@ -77,7 +77,7 @@ evaluates_once old text (Ok tree) a b after other p q = (p.0 ∙ sym q.0, p.1 �
 evaluates_once old text (Err fault) a b after other p q = (p.0 ∙ sym q.0, p.1 ∙ sym q.1)
 
 -- a cell's fault is never want of memory
-own_cell : (text : List ℕ) (cell : Result (List Tree) ReadFault) → CellMeans text cell → HasOwn (reading cell)
+own_cell : (text : List ℕ) (cell : Result (List Tree) ReadFault) → CellMeans text cell → HasOwn (read_answer cell)
 own_cell text (Ok trees) means = tt
 own_cell text (Err (read_fault.Syntax place)) means = tt
 own_cell text (Err read_fault.TooDeep) means = tt
@@ -152,7 +152,7 @@ module _ (reads : HasOneReading) where
   begun_once : (state : Bindings) (text : List ℕ) (a b : Result (List Tree) InterpFault) (after other : Bindings)
       → Begins state text a after → Begins state text b other → (a ≡ b) × (after ≡ other)
   begun_once state text a b after other p q = (
-    p.0.answers ∙ ap reading (reads.one_cell (chars text) p.0.cell q.0.cell p.0.means q.0.means) ∙ sym q.0.answers,
+    p.0.answers ∙ ap read_answer (reads.one_cell (chars text) p.0.cell q.0.cell p.0.means q.0.means) ∙ sym q.0.answers,
     p.1 ∙ sym q.1,
   )
 

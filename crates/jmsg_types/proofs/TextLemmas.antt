@@ -12,7 +12,7 @@ use Rattle.serde_json.specs.Data.{Members}
 use Rattle.serde_json.specs.View.{view, members_view}
 use Rattle.serde_json.specs.declared.value.Value.{Value}
 use Rattle.serde_json.proofs.Views.{Entry}
-use Rattle.jmsg_types.specs.Field.{NamesRise, text_in, texts_of}
+use Rattle.jmsg_types.specs.Field.{NamesRise, as_text, texts_of}
 
 -- names and their texts
 abbrev pub Texts : Type 0
@@ -45,7 +45,7 @@ one_more done name text (Some texts) = ap Some (sym (append_assoc done ((name, t
 
 pub left_next : (all : Option Texts) (done new : Texts) (left later : List Entry) (name : String Global) (value : Value)
     (key text : List ℕ)
-    → AreLeft all done left → left ≡ (name, value) ∷ later → Some text ≡ text_in (view value) → key ≡ string_bytes name
+    → AreLeft all done left → left ≡ (name, value) ∷ later → Some text ≡ as_text (view value) → key ≡ string_bytes name
     → new ≡ done ++ (key, text) ∷ [] → AreLeft all new later
 left_next all done new left later name value key text left_is turn is named more =
     let entry = ap (λ entries. option_map (λ rest. done ++ rest) (texts_of (members_view entries))) turn in
@@ -56,7 +56,7 @@ left_next all done new left later name value key text left_is turn is named more
 
 -- a value that is no text
 pub left_other : (all : Option Texts) (done : Texts) (left later : List Entry) (name : String Global) (value : Value)
-    → AreLeft all done left → left ≡ (name, value) ∷ later → None ≡ text_in (view value) → None ≡ all
+    → AreLeft all done left → left ≡ (name, value) ∷ later → None ≡ as_text (view value) → None ≡ all
 left_other all done left later name value left_is turn other =
     let entry = ap (λ entries. option_map (λ rest. done ++ rest) (texts_of (members_view entries))) turn in
     let worded = ap (option_map (λ rest. done ++ rest))
@@ -83,7 +83,7 @@ names_are_keys : (entries : List Entry) → IfSome (texts_of (members_view entri
     (λ texts. map (λ text. text.0) texts ≡ map string_bytes (keys_of entries))
 names_are_keys [] = refl
 names_are_keys (entry ∷ entries) =
-    names_behind (string_bytes entry.0) (text_in (view entry.1)) (texts_of (members_view entries))
+    names_behind (string_bytes entry.0) (as_text (view entry.1)) (texts_of (members_view entries))
     (map string_bytes (keys_of entries))
     (names_are_keys entries)
 

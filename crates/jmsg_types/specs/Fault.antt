@@ -17,11 +17,11 @@ refusal_of (Field name) = Some (field name.now)
 refusal_of OutOfMemory = None
 
 -- the number that names a fault where only a number goes
-abbrev pub fault_number : ContentFault → ℕ
-fault_number NotJson = 30
-fault_number NotAnObject = 31
-fault_number (Field name) = 32
-fault_number OutOfMemory = 33
+abbrev pub content_fault_number : ContentFault → ℕ
+content_fault_number NotJson = 30
+content_fault_number NotAnObject = 31
+content_fault_number (Field name) = 32
+content_fault_number OutOfMemory = 33
 
 -- an answer is what is due: the value, or a fault that tells the refusal
 abbrev pub IsAnswer : {A : Type 0} → Result A ContentFault → Result A Refusal → Type 0

@@ -11,35 +11,35 @@ use Rattle.serde_json.specs.Find.{as_bool, as_number, as_object, as_str, as_u64,
 use Rattle.serde_json.specs.Read.{read}
 use Rattle.jmsg_types.specs.Fault.{Refusal, not_json, not_an_object, field}
 
--- a text
-abbrev pub text_in : Data → Option (List ℕ)
-text_in value = as_str value
+-- a value that is a text
+abbrev pub as_text : Data → Option (List ℕ)
+as_text value = as_str value
 
--- a truth
-abbrev pub truth_in : Data → Option Bool
-truth_in value = as_bool value
+-- a value that is a truth
+abbrev pub as_truth : Data → Option Bool
+as_truth value = as_bool value
 
--- a whole number, which JSON's reader keeps below 2^64
-abbrev pub whole_in : Data → Option ℕ
-whole_in value = option_and_then as_u64 (as_number value)
+-- a value that is a whole number; JSON's reader keeps it below 2^64
+abbrev pub as_whole : Data → Option ℕ
+as_whole value = option_and_then as_u64 (as_number value)
 
--- a level of detail: 0 or 1
-abbrev pub level_in : Data → Option ℕ
-level_in value = option_and_then (λ level. if nat_le level 1 then Some level else None) (whole_in value)
+-- a value that is a level of detail: 0 or 1
+abbrev pub as_level : Data → Option ℕ
+as_level value = option_and_then (λ level. if nat_le level 1 then Some level else None) (as_whole value)
 
 -- the names and texts of members that are texts, all of them, in the order of the names' octets
 abbrev pub texts_of : Members → Option (List (List ℕ × List ℕ))
 texts_of no_members = Some []
 texts_of (member name value rest) =
-    option_and_then (λ text. option_map (λ texts. (name, text) ∷ texts) (texts_of rest)) (text_in value)
+    option_and_then (λ text. option_map (λ texts. (name, text) ∷ texts) (texts_of rest)) (as_text value)
 
 -- names and texts by the order of the names' octets, each name once
 abbrev pub NamesRise : List (List ℕ × List ℕ) → Type 0
 NamesRise texts = IsStrictlySortedBy (slice_cmp nat_cmp) (map (λ text. text.0) texts)
 
--- an object of texts
-abbrev pub texts_in : Data → Option (List (List ℕ × List ℕ))
-texts_in value = option_and_then texts_of (as_object value)
+-- a value that is an object of texts, with their names
+abbrev pub as_texts : Data → Option (List (List ℕ × List ℕ))
+as_texts value = option_and_then texts_of (as_object value)
 
 -- members without a name have those of the other names as before
 abbrev pub KeepsOthers : List ℕ → Members → Members → Type 0
@@ -56,9 +56,9 @@ optional kind default name members =
     option_map_or (λ value. ok_or (kind value) (field name)) (get_member name members) (Ok default)
 
 -- the first is judged, and the next where it isn't refused
-abbrev pub and_then : {A B : Type 0} → Result A Refusal → (A → Result B Refusal) → Result B Refusal
+abbrev pub and_then : {A B E : Type 0} → Result A E → (A → Result B E) → Result B E
 and_then (Ok value) next = next value
-and_then (Err refusal) next = Err refusal
+and_then (Err fault) next = Err fault
 
 -- how many characters a text has
 abbrev pub code_points : List ℕ → ℕ
@@ -67,7 +67,7 @@ code_points text = length (chars text)
 -- a cursor in a code, in code points: one past the code's end is at its end, and so is one that is left out
 abbrev pub optional_cursor : List ℕ → List ℕ → Members → Result ℕ Refusal
 optional_cursor code name members =
-    and_then (optional whole_in (code_points code) name members) (λ cursor. Ok (min cursor (code_points code)))
+    and_then (optional as_whole (code_points code) name members) (λ cursor. Ok (min cursor (code_points code)))
 
 -- the members of what was read as JSON, which is to be an object
 abbrev pub members_of_data : Option Data → Result Members Refusal

@@ -6,8 +6,8 @@ use Rattle.std.specs.Option.{option_map_or}
 use Rattle.std.specs.Str.{bytes_eq}
 use Rattle.serde_json.specs.Data.{Members}
 use Rattle.jmsg_types.specs.Fault.{Refusal}
-use Rattle.jmsg_types.specs.Field.{required, optional, and_then, text_in, truth_in, optional_cursor, level_in}
-use Rattle.jmsg_types.specs.Field.{texts_in, members_in, NamesRise}
+use Rattle.jmsg_types.specs.Field.{required, optional, and_then, as_text, as_truth, optional_cursor, as_level}
+use Rattle.jmsg_types.specs.Field.{as_texts, members_in, NamesRise}
 use Rattle.jmsg_types.specs.declared.request.Request.{Request}
 use Rattle.jmsg_types.specs.declared.request.Request.TheVariants as asks
 use Rattle.jmsg_types.specs.declared.message_type.MessageType.{MessageType}
@@ -35,19 +35,19 @@ row_of KernelInfoRequest = record {
 row_of ExecuteRequest = record {
   msg_type = codes "execute_request";
   fields = λ members.
-      and_then (required text_in (codes "code") members) (λ code.
-      and_then (optional truth_in false (codes "silent") members) (λ silent.
-      and_then (optional truth_in true (codes "store_history") members) (λ store_history.
-      and_then (optional texts_in [] (codes "user_expressions") members) (λ user_expressions.
-      and_then (optional truth_in true (codes "allow_stdin") members) (λ allow_stdin.
-      and_then (optional truth_in true (codes "stop_on_error") members) (λ stop_on_error.
+      and_then (required as_text (codes "code") members) (λ code.
+      and_then (optional as_truth false (codes "silent") members) (λ silent.
+      and_then (optional as_truth true (codes "store_history") members) (λ store_history.
+      and_then (optional as_texts [] (codes "user_expressions") members) (λ user_expressions.
+      and_then (optional as_truth true (codes "allow_stdin") members) (λ allow_stdin.
+      and_then (optional as_truth true (codes "stop_on_error") members) (λ stop_on_error.
       Ok (asks.Execute code silent (store_history && not silent) user_expressions allow_stdin stop_on_error)))))));
   reply = Some (codes "execute_reply");
 }
 row_of CompleteRequest = record {
   msg_type = codes "complete_request";
   fields = λ members.
-      and_then (required text_in (codes "code") members) (λ code.
+      and_then (required as_text (codes "code") members) (λ code.
       and_then (optional_cursor code (codes "cursor_pos") members) (λ cursor.
       Ok (asks.Complete code cursor)));
   reply = Some (codes "complete_reply");
@@ -55,16 +55,16 @@ row_of CompleteRequest = record {
 row_of InspectRequest = record {
   msg_type = codes "inspect_request";
   fields = λ members.
-      and_then (required text_in (codes "code") members) (λ code.
+      and_then (required as_text (codes "code") members) (λ code.
       and_then (optional_cursor code (codes "cursor_pos") members) (λ cursor.
-      and_then (optional level_in 0 (codes "detail_level") members) (λ level.
+      and_then (optional as_level 0 (codes "detail_level") members) (λ level.
       Ok (asks.Inspect code cursor level))));
   reply = Some (codes "inspect_reply");
 }
 row_of IsCompleteRequest = record {
   msg_type = codes "is_complete_request";
   fields = λ members.
-      and_then (required text_in (codes "code") members) (λ code.
+      and_then (required as_text (codes "code") members) (λ code.
       Ok (asks.IsComplete code));
   reply = Some (codes "is_complete_reply");
 }
@@ -81,7 +81,7 @@ row_of CommInfoRequest = record {
 row_of CommOpen = record {
   msg_type = codes "comm_open";
   fields = λ members.
-      and_then (required text_in (codes "comm_id") members) (λ comm_id.
+      and_then (required as_text (codes "comm_id") members) (λ comm_id.
       Ok (asks.CommOpen comm_id));
   reply = None;
 }
@@ -98,7 +98,7 @@ row_of CommClose = record {
 row_of ShutdownRequest = record {
   msg_type = codes "shutdown_request";
   fields = λ members.
-      and_then (optional truth_in false (codes "restart") members) (λ restart.
+      and_then (optional as_truth false (codes "restart") members) (λ restart.
       Ok (asks.Shutdown restart));
   reply = Some (codes "shutdown_reply");
 }
@@ -123,12 +123,12 @@ abbrev pub reply_type_of : List ℕ → Option (List ℕ)
 reply_type_of name = option_and_then (λ kind. (row_of kind).reply) (message_type name)
 
 -- the request that a content of a type means, or why it is refused
-abbrev pub request_of : MessageType → List ℕ → Result Request Refusal
-request_of kind content = and_then (members_in content) (row_of kind).fields
+abbrev pub known_request : MessageType → List ℕ → Result Request Refusal
+known_request kind content = and_then (members_in content) (row_of kind).fields
 
 -- the request of a message type and a content, or why it is refused; of an unknown type the content isn't read
-abbrev pub reading : List ℕ → List ℕ → Result Request Refusal
-reading msg_type content = option_map_or (λ kind. request_of kind content) (message_type msg_type) (Ok asks.Unknown)
+abbrev pub request_in : List ℕ → List ℕ → Result Request Refusal
+request_in msg_type content = option_map_or (λ kind. known_request kind content) (message_type msg_type) (Ok asks.Unknown)
 
 -- the user expressions of a request, where it has any, stand by the order of their names' octets
 abbrev pub ExpressionsRise : Request → Type 0

@@ -1,7 +1,7 @@
 //! What is wrong with a content, its number and its words.
 
 ghost use Rattle.std.specs.Prelude.{◌≡◌, Some, IfOk, IfErr, option_map};
-ghost use Rattle.jmsg_types.specs.Fault.{fault_number, refusal_of};
+ghost use Rattle.jmsg_types.specs.Fault.{content_fault_number, refusal_of};
 ghost use Rattle.jmsg_types.specs.Words.{refusal_name, refusal_value};
 ghost use Rattle.jmsg_types.specs.declared.fault.ContentFault.TheVariants.{OutOfMemory};
 
@@ -41,7 +41,7 @@ pub enum ContentFault {
 impl ContentFault {
     /// The number that names this fault where only a number goes.
     pub fn number(self) -> u8
-        ensures { result ≡ fault_number self }
+        ensures { result ≡ content_fault_number self }
     {
         match self {
             ContentFault::NotJson => 30,

@@ -2,8 +2,8 @@
 
 ghost use Rattle.std.specs.Prelude.{◌≡◌, [], option_map, IfOk, IfSome};
 ghost use Rattle.jmsg_types.specs.Fault.{IsAnswer, IsAnswerOrMemory};
-ghost use Rattle.jmsg_types.specs.Field.{KeepsOthers, NamesRise, code_points, level_in, optional, optional_cursor};
-ghost use Rattle.jmsg_types.specs.Field.{required, text_in, texts_in, texts_of, truth_in, whole_in};
+ghost use Rattle.jmsg_types.specs.Field.{KeepsOthers, NamesRise, as_level, as_text, as_texts, as_truth, as_whole};
+ghost use Rattle.jmsg_types.specs.Field.{code_points, optional, optional_cursor, required, texts_of};
 ghost use Rattle.serde_json.specs.Find.{as_object, get_member};
 ghost use Rattle.serde_json.specs.View.{view, members_view};
 
@@ -32,7 +32,7 @@ fn take_member(members: &mut Map<String, Value>, name: &str) -> Option<Value>
 
 /// The text that a value is.
 fn into_text(value: Value) -> Option<Text>
-    ensures { result ≡ text_in (view value) }
+    ensures { result ≡ as_text (view value) }
 {
     match value {
         Value::String(text) => Some(Text::new(text)),
@@ -56,7 +56,7 @@ pub(crate) fn take_text(
     name: &'static str,
 ) -> Result<Text, ContentFault>
     ensures answer { IsAnswer result
-        (required text_in name.now (members_view members.old.entries)) }
+        (required as_text name.now (members_view members.old.entries)) }
     ensures others { KeepsOthers name.now (members_view members.old.entries)
         (members_view members.new.entries) }
 {
@@ -73,7 +73,7 @@ pub(crate) fn truth_field(
     default: bool,
 ) -> Result<bool, ContentFault>
     ensures { IsAnswer result
-        (optional truth_in default name.now (members_view members.now.entries)) }
+        (optional as_truth default name.now (members_view members.now.entries)) }
 {
     match member(members, name) {
         None => Ok(default),
@@ -88,7 +88,7 @@ fn whole_field(
     default: u64,
 ) -> Result<u64, ContentFault>
     ensures { IsAnswer result
-        (optional whole_in default name.now (members_view members.now.entries)) }
+        (optional as_whole default name.now (members_view members.now.entries)) }
 {
     match member(members, name) {
         None => Ok(default),
@@ -123,7 +123,7 @@ pub(crate) fn level_field(
     name: &'static str,
 ) -> Result<u64, ContentFault>
     ensures { IsAnswer result
-        (optional level_in 0 name.now (members_view members.now.entries)) }
+        (optional as_level 0 name.now (members_view members.now.entries)) }
 {
     match member(members, name) {
         None => Ok(0),
@@ -142,7 +142,7 @@ pub(crate) fn take_texts(
     name: &'static str,
 ) -> Result<Row<(Text, Text)>, ContentFault>
     ensures answer { IsAnswerOrMemory result
-        (optional texts_in [] name.now (members_view members.old.entries)) }
+        (optional as_texts [] name.now (members_view members.old.entries)) }
     ensures ordered { IfOk result NamesRise }
     ensures others { KeepsOthers name.now (members_view members.old.entries)
         (members_view members.new.entries) }

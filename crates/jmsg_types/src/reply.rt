@@ -142,13 +142,7 @@ fn reply_value(alloc: Global, reply: &Reply) -> Result<Value, AllocError>
             name,
             version,
         } => {
-            let language = language_value(
-                alloc,
-                file_extension.as_str(),
-                mimetype.as_str(),
-                name.as_str(),
-                version.as_str(),
-            )?;
+            let language = language_value(alloc, file_extension, mimetype, name, version)?;
             kernel_info_value(alloc, banner.as_str(), language)
         }
         Reply::ExecuteOk { count, values } => {
@@ -182,19 +176,19 @@ fn reply_value(alloc: Global, reply: &Reply) -> Result<Value, AllocError>
 /// The language of a kernel, as its info tells it.
 fn language_value(
     alloc: Global,
-    file_extension: &str,
-    mimetype: &str,
-    name: &str,
-    version: &str,
+    file_extension: &Text,
+    mimetype: &Text,
+    name: &Text,
+    version: &Text,
 ) -> Result<Value, AllocError>
     ensures { IfOk result (λ value. view value
         ≡ language_data file_extension.now mimetype.now name.now version.now) }
 {
     json!(in alloc; {
-        "file_extension": file_extension,
-        "mimetype": mimetype,
-        "name": name,
-        "version": version
+        "file_extension": file_extension.as_str(),
+        "mimetype": mimetype.as_str(),
+        "name": name.as_str(),
+        "version": version.as_str()
     })
 }
 

@@ -3,7 +3,7 @@
 ghost use Rattle.std.specs.Prelude.{◌≡◌, None, Ok, Err, IfOk, IfErr, IfSome, MatchResult};
 ghost use Rattle.jmsg_types.specs.Fault.{IsAnswer, IsAnswerOrMemory, refusal_of};
 ghost use Rattle.jmsg_types.specs.Field.{members_in};
-ghost use Rattle.jmsg_types.specs.Request.{ExpressionsRise, message_type, reading, request_of, row_of};
+ghost use Rattle.jmsg_types.specs.Request.{ExpressionsRise, known_request, message_type, request_in, row_of};
 ghost use Rattle.serde_json.specs.View.{members_view};
 
 use crate::field::{cursor_field, into_members, level_field, take_text, take_texts, truth_field};
@@ -86,9 +86,9 @@ pub enum Request {
 /// `NotJson` and `NotAnObject`, and `Field` with the first field, by the table's order, that is missing
 /// without a default or of a wrong kind. `OutOfMemory` where an allocation was refused.
 pub fn read_request(alloc: Global, msg_type: &str, content: &[u8]) -> Result<Request, ContentFault>
-    ensures read { IfOk result (λ request. reading msg_type.now content.now ≡ Ok request) }
+    ensures read { IfOk result (λ request. request_in msg_type.now content.now ≡ Ok request) }
     ensures refused { IfErr result (λ fault. IfSome (refusal_of fault)
-        (λ refusal. reading msg_type.now content.now ≡ Err refusal)) }
+        (λ refusal. request_in msg_type.now content.now ≡ Err refusal)) }
     ensures ordered { IfOk result ExpressionsRise }
     ensures unknown { message_type msg_type.now ≡ None → result ≡ Ok Request.Unknown }
 {
@@ -100,7 +100,7 @@ pub fn read_request(alloc: Global, msg_type: &str, content: &[u8]) -> Result<Req
 
 /// Reads the content of a message of a known type.
 fn read_known(alloc: Global, kind: MessageType, content: &[u8]) -> Result<Request, ContentFault>
-    ensures answer { IsAnswerOrMemory result (request_of kind content.now) }
+    ensures answer { IsAnswerOrMemory result (known_request kind content.now) }
     ensures ordered { IfOk result ExpressionsRise }
 {
     let members = read_members(alloc, content)?;

@@ -41,34 +41,22 @@ fn told(alloc: Global, request: &Request) -> Result<String, AllocError> {
             allow_stdin,
             stop_on_error,
         } => {
-            let code = code.as_str();
-            let expressions = listing(alloc, user_expressions)?;
-            format!(in alloc;
-                "execute <{code}> {silent} {store_history} <{expressions}> {allow_stdin} {stop_on_error}"
-            )
+            let (code, expressions) = (code.as_str(), listing(alloc, user_expressions)?);
+            let flags = format!(in alloc; "{allow_stdin} {stop_on_error}")?;
+            format!(in alloc; "execute <{code}> {silent} {store_history} <{expressions}> {flags}")
         }
         Request::Complete { code, cursor_pos } => {
-            let code = code.as_str();
-            format!(in alloc; "complete <{code}> {cursor_pos}")
+            format!(in alloc; "complete <{}> {cursor_pos}", code.as_str())
         }
         Request::Inspect {
             code,
             cursor_pos,
             detail_level,
-        } => {
-            let code = code.as_str();
-            format!(in alloc; "inspect <{code}> {cursor_pos} {detail_level}")
-        }
-        Request::IsComplete { code } => {
-            let code = code.as_str();
-            format!(in alloc; "is complete <{code}>")
-        }
+        } => format!(in alloc; "inspect <{}> {cursor_pos} {detail_level}", code.as_str()),
+        Request::IsComplete { code } => format!(in alloc; "is complete <{}>", code.as_str()),
         Request::History => String::from_str(alloc, "history"),
         Request::CommInfo => String::from_str(alloc, "comm info"),
-        Request::CommOpen { comm_id } => {
-            let comm_id = comm_id.as_str();
-            format!(in alloc; "comm open <{comm_id}>")
-        }
+        Request::CommOpen { comm_id } => format!(in alloc; "comm open <{}>", comm_id.as_str()),
         Request::CommMsg => String::from_str(alloc, "comm msg"),
         Request::CommClose => String::from_str(alloc, "comm close"),
         Request::Shutdown { restart } => format!(in alloc; "shutdown {restart}"),

@@ -66,6 +66,7 @@ pub(crate) fn size_behind(long: bool, octets: &[u8]) -> Option<usize>
     ensures said { IfSome result (λ size. size < size_bound long) }
     ensures come { IfSome result (λ _. size_len long ≤ length octets.now) }
     ensures value { IfSome result (λ size. size_octets long size ≡ take (size_len long) octets.now) }
+    ensures cut { IfNone result (length octets.now < size_len long) }
 {
     if !long {
         return octets.first().map(|size| usize::from(*size));
