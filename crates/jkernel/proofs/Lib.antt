@@ -3,3 +3,4 @@ pub mod HexText
 pub mod KnownReads
 pub mod SessionLemmas
 pub mod OneValue
+pub mod WordsLemmas

@@ -10,7 +10,7 @@ use Rattle.jmsg_types.specs.declared.reply.Reply.TheVariants as tells
 use Rattle.jmsg_types.specs.declared.request.Request.{Request}
 use Rattle.jmsg_types.specs.declared.request.Request.TheVariants as asks
 use Rattle.jmsg_types.specs.Fault.{Refusal}
-use Rattle.jmsg_types.specs.Request.{message_type, reading, reply_type_of}
+use Rattle.jmsg_types.specs.Request.{message_type, reply_type_of, request_in}
 use Rattle.jmsg_types.specs.Words.{refusal_name, refusal_value}
 use Rattle.jkernel.specs.declared.answer.Answer.{Answer}
 
@@ -75,7 +75,7 @@ answer_by has_reply (Err refusal) = refused has_reply refusal
 abbrev pub answer_of : Envelope → Answer
 answer_of message =
     if is_answered (message_type message.msg_type)
-    then answer_by (is_some (reply_type_of message.msg_type)) (reading message.msg_type message.content)
+    then answer_by (is_some (reply_type_of message.msg_type)) (request_in message.msg_type message.content)
     else nothing
 
 -- the type of the reply to a message, for those that have one

@@ -5,3 +5,4 @@ pub mod Replay
 pub mod Served
 pub mod Session
 pub mod Status
+pub mod Words

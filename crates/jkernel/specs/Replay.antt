@@ -5,7 +5,8 @@ use Rattle.zmtp_wire.specs.declared.fault.WireFault.TheVariants.{OutOfMemory}
 use Rattle.kernel_engine.specs.declared.end.SessionEnd.{SessionEnd}
 use Rattle.kernel_engine.specs.declared.end.SessionEnd.TheVariants.{Eof, Shutdown, Wire, Failed}
 use Rattle.jkernel.specs.declared.status.Status.{Status}
-use Rattle.jkernel.specs.declared.status.Status.TheVariants.{Done, Failed, WordsRefused, InputRefused}
+use Rattle.jkernel.specs.declared.status.Status.TheVariants.{Done, Failed, WordsRefused, FileUnreadable, FileRefused}
+use Rattle.jkernel.specs.declared.status.Status.TheVariants.{InputRefused}
 use Rattle.jkernel.specs.Lines.{hex_octets}
 use Rattle.jkernel.specs.Session.{IsPrinted, IsLines}
 
@@ -37,4 +38,6 @@ abbrev pub Replays : List ℕ → Option (List ℕ) → Option (List ℕ) → Op
 Replays key input left before after Done = IsReplayed key input left before after
 Replays key input left before after Failed = ⊤
 Replays key input left before after WordsRefused = ⊥
+Replays key input left before after FileUnreadable = ⊥
+Replays key input left before after (FileRefused fault) = ⊥
 Replays key input left before after InputRefused = IsNotHex input

@@ -1,19 +1,21 @@
 -- The exit statuses of the program, and the lines for a person.
 use Rattle.std.specs.Prelude.{ℕ, List, Option, Some, None, codes, ◌==◌, if◌then◌else◌}
 use Rattle.jkernel.specs.declared.status.Status.{Status}
-use Rattle.jkernel.specs.declared.status.Status.TheVariants.{Done, Failed, WordsRefused, InputRefused}
+use Rattle.jkernel.specs.declared.status.Status.TheVariants.{Done, Failed, WordsRefused, FileUnreadable, FileRefused}
+use Rattle.jkernel.specs.declared.status.Status.TheVariants.{InputRefused}
 
 -- the exit status of the program
 abbrev pub status_code : Status → ℕ
 status_code Done = 0
 status_code Failed = 1
 status_code WordsRefused = 2
+status_code FileUnreadable = 3
+status_code (FileRefused fault) = 3
 status_code InputRefused = 6
 
--- the line for a person on standard error, where an exit status has one
+-- the line for a person on standard error, where the exit status alone says which it is
 abbrev pub status_words : ℕ → Option (List ℕ)
 status_words code =
-    if code == 1 then Some (codes "jkernel: failed")
-    else if code == 2 then Some (codes "usage: jkernel < HEX")
-    else if code == 6 then Some (codes "jkernel: replay input refused")
+    if code == 1 then Some (codes "jkernel: failed\n")
+    else if code == 6 then Some (codes "jkernel: replay input refused\n")
     else None

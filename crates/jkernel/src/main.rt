@@ -1,5 +1,5 @@
-//! `jkernel`: a Jupyter kernel. Without words it replays one peer of the shell channel: standard input is
-//! hexadecimal text of the octets that the peer sends, and what the kernel makes of them is printed.
+//! `jkernel`: a Jupyter kernel. It replays one peer of the shell channel, reads a connection file, or prints the
+//! kernelspec, as its command words order.
 #![tactic(auto)]
 
 mod answer;
@@ -7,29 +7,39 @@ mod engine;
 mod input;
 mod laws;
 mod lines;
+mod program;
 mod replay;
 mod session;
 mod stamp;
 mod status;
 #[cfg(test)]
 mod tests;
+mod words;
 
-use replay::run_replay;
-use status::{Status, judge_words};
+use program::{refuse, run};
+use std::env::Env;
 use std::process::ExitCode;
 use std::{env, io};
 
-/// Reads the command words, runs, and tells the status; a line on standard error that can't be written changes nothing.
+/// Hands the command words and the standard streams to the program. Words that aren't UTF-8 are refused.
 fn main(rt: HostRuntime) -> ExitCode {
-    let code = match judge_words(env::args(&rt)) {
-        Some(status) => status.code(),
-        None => {
-            let key = Vec::new(rt.alloc());
-            run_replay(rt.alloc(), &mut rt.reader(), &mut io::writer(&rt), key)
-        }
+    let faults = &mut rt.stderr();
+    let code = match words_behind(&rt) {
+        Ok(words) => run(
+            &rt,
+            rt.alloc(),
+            &words,
+            &mut rt.reader(),
+            &mut io::writer(&rt),
+            faults,
+        ),
+        Err(error) => refuse(error.kind(), faults),
     };
-    if let Some(words) = Status::words_of(code) {
-        let _ = eprintln!(rt; "{words}");
-    }
     ExitCode::from(code)
+}
+
+/// The command words behind the program's name.
+fn words_behind<R: Env + AllocGlobal>(rt: &R) -> io::Result<Vec<String>> {
+    let words: Vec<String> = env::args(rt)?.skip(1).collect(rt.alloc())?;
+    Ok(words)
 }

@@ -1,21 +1,27 @@
-//! How the program ends: its exit status, and the line for a person.
+//! How the program ends: its exit status, and what a person is told.
 
 ghost use Rattle.std.specs.Prelude.{◌≡◌, option_map};
 ghost use Rattle.jkernel.specs.Status.{status_code, status_words};
 
-use std::env::Args;
-use std::io::{self, ErrorKind};
+use conn_file::ConnFault;
+
+/// The line for a person where no memory was left, or standard input or output failed.
+pub(crate) const FAILED: &str = "jkernel: failed\n";
 
 /// How the program ends.
 #[derive(Clone, Copy, Debug, PartialEq, Eq)]
 pub(crate) enum Status {
-    /// The lines were printed.
+    /// What was ordered is done.
     Done,
-    /// No memory was left, or the input or the output failed.
+    /// No memory was left, or standard input or output failed.
     Failed,
-    /// The command words are none that the program knows, and nothing was printed.
+    /// The command words are refused.
     WordsRefused,
-    /// The input is no even number of hexadecimal digits, and nothing was printed.
+    /// The connection file can't be read, or isn't UTF-8.
+    FileUnreadable,
+    /// The connection file is refused.
+    FileRefused(ConnFault),
+    /// The input of a replay is no even number of hexadecimal digits, and nothing was printed.
     InputRefused,
 }
 
@@ -28,30 +34,19 @@ impl Status {
             Status::Done => 0,
             Status::Failed => 1,
             Status::WordsRefused => 2,
+            Status::FileUnreadable | Status::FileRefused(_) => 3,
             Status::InputRefused => 6,
         }
     }
 
-    /// The line for a person on standard error, where the exit status has one.
+    /// The line for a person on standard error, where the exit status alone says which it is.
     pub(crate) fn words_of(code: u8) -> Option<&'static str>
         ensures { option_map (λ words. words.now) result ≡ status_words code }
     {
         match code {
-            1 => Some("jkernel: failed"),
-            2 => Some("usage: jkernel < HEX"),
-            6 => Some("jkernel: replay input refused"),
+            1 => Some(FAILED),
+            6 => Some("jkernel: replay input refused\n"),
             _ => None,
         }
-    }
-}
-
-/// How the program ends by its command words alone, the first of which is its own name: words that aren't UTF-8 are
-/// refused as any others are, and want of memory for them is a failure. Nothing where there are none.
-pub(crate) fn judge_words(words: io::Result<Args>) -> Option<Status> {
-    match words {
-        Ok(words) if words.len() > 1 => Some(Status::WordsRefused),
-        Ok(_) => None,
-        Err(error) if error.kind() == ErrorKind::InvalidData => Some(Status::WordsRefused),
-        Err(_) => Some(Status::Failed),
     }
 }

@@ -3,6 +3,8 @@
 mod cut;
 mod input;
 mod lines;
+mod program;
 mod replay;
 mod sent;
 mod status;
+mod words;

@@ -1,0 +1,107 @@
+-- The command words: what `clap`'s definitions make of them for the program's command.
+use Rattle.std.specs.Prelude.{◌≡◌, ◌≢◌, ◌⊎◌, ℕ, ◌+◌, List, [], ◌∷◌, Bool, true, false, if◌then◌else◌, codes, take}
+use Rattle.std.specs.Prelude.{Option, Some, None, option_and_then, position, slice_get, unwrap_or, ⊤}
+use Rattle.std.specs.Option.{option_map_or}
+use Rattle.std.specs.Str.{bytes_eq}
+use Rattle.clap.specs.Simple.{on_top}
+use Rattle.clap.specs.Kinds.{Kinds}
+use Rattle.clap.specs.Words.{App, IsAmong, Row, Rule, Text, fault_of, first_of, new_app, new_rule, subcommand_of}
+use Rattle.clap.specs.Words.{with_rule, with_subcommand}
+use Rattle.clap.specs.declared.builder.action.ArgAction.TheVariants.{Set}
+use Rattle.clap.specs.declared.error.kind.ErrorKind.{ErrorKind}
+use Rattle.clap.specs.declared.error.kind.ErrorKind.TheVariants as kinds
+use Rattle.jkernel.specs.declared.words.Order.{Order}
+use Rattle.jkernel.specs.declared.words.Order.TheVariants.{Replay, Serve, KernelSpec, Help}
+use Rattle.jkernel.specs.declared.words.WordsFault.{WordsFault}
+use Rattle.jkernel.specs.declared.words.WordsFault.TheVariants.{Refused, OutOfMemory}
+
+-- `--key KEY`
+abbrev pub key_option : Rule
+key_option = record (new_rule (codes "key")) { long = Some (codes "key"); action = Some Set; value_names = 1 }
+
+-- `-f FILE`, which has to be there
+abbrev pub file_option : Rule
+file_option =
+    record (new_rule (codes "file")) { short = Some 102; action = Some Set; value_names = 1; required = true }
+
+-- `replay [--key KEY]`
+abbrev pub replay_command : App
+replay_command = with_rule (new_app (codes "replay")) key_option
+
+-- `serve -f FILE`
+abbrev pub serve_command : App
+serve_command = with_rule (new_app (codes "serve")) file_option
+
+-- `kernelspec`
+abbrev pub kernelspec_command : App
+kernelspec_command = new_app (codes "kernelspec")
+
+-- the program, whose words are those behind its name, with a version and these commands
+abbrev pub jkernel_command : App
+jkernel_command =
+    with_subcommand (with_subcommand (with_subcommand
+    (on_top (λ top. record top { no_binary_name = true; has_version = true }) (new_app (codes "jkernel")))
+    replay_command.top) serve_command.top) kernelspec_command.top
+
+-- whether the first word is `serve`
+abbrev pub begins_with_serve : List Text → Bool
+begins_with_serve words = option_map_or (λ word. bytes_eq word (codes "serve")) (slice_get words 0) false
+
+-- The words that are heeded: of a `serve`, none behind FILE, since Jupyter's programs append words of their own to those
+-- of a kernelspec.
+abbrev pub heeded : List Text → List Text
+heeded words =
+    if begins_with_serve words
+    then option_map_or (λ at. take (at + 2) words) (position (λ word. bytes_eq word (codes "-f")) words) words
+    else words
+
+-- what a command with its options orders
+abbrev pub order_named : Text → List Row → Option Order
+order_named name options =
+    if bytes_eq name (codes "replay") then Some (Replay (unwrap_or (first_of (codes "key") options) []))
+    else if bytes_eq name (codes "serve") then Some (Serve (unwrap_or (first_of (codes "file") options) []))
+    else if bytes_eq name (codes "kernelspec") then Some KernelSpec
+    else None
+
+-- what is ordered, by the command that the words name: without one, a replay without a key
+abbrev pub order_by : Option (Text × List Row) → Option Order
+order_by None = Some (Replay [])
+order_by (Some (name, options)) = order_named name options
+
+-- what words order
+abbrev pub order_of : List Text → Option Order
+order_of words = order_by (subcommand_of jkernel_command (heeded words))
+
+-- what is wrong with words, or asked in place of an order, as kinds of `clap`'s errors; nothing where they are fine
+abbrev pub faults_of : List Text → Kinds
+faults_of words = fault_of jkernel_command (heeded words)
+
+-- words that are fine order this
+pub record IsOrder (words : List Text) (order : Order) : Type 0 where
+  pub fine : faults_of words ≡ []
+  pub ordered : order_of words ≡ Some order
+
+-- what an order says of the words: they order it, or ask for help or the version
+abbrev pub IsOrdered : List Text → Order → Type 0
+IsOrdered words (Replay key) = IsOrder words (Replay key)
+IsOrdered words (Serve file) = IsOrder words (Serve file)
+IsOrdered words KernelSpec = IsOrder words KernelSpec
+IsOrdered words (Help text) =
+    IsAmong kinds.DisplayHelp (faults_of words) ⊎ IsAmong kinds.DisplayVersion (faults_of words)
+
+-- what a refusal says of the words: something is wrong with them, or they name no order
+abbrev pub IsRefusedBy : List Text → WordsFault → Type 0
+IsRefusedBy words (Refused text) = (faults_of words ≢ []) ⊎ (order_of words ≡ None)
+IsRefusedBy words OutOfMemory = ⊤
+
+-- what the kind of an error says where help or the version is told
+abbrev pub TellsHelp : ErrorKind → Order → Type 0
+TellsHelp found (Replay key) = ⊥
+TellsHelp found (Serve file) = ⊥
+TellsHelp found KernelSpec = ⊥
+TellsHelp found (Help text) = (found ≡ kinds.DisplayHelp) ⊎ (found ≡ kinds.DisplayVersion)
+
+-- what the kind of an error says where words are refused
+abbrev pub TellsRefusal : ErrorKind → WordsFault → Type 0
+TellsRefusal found (Refused text) = found ≢ kinds.OutOfMemory
+TellsRefusal found OutOfMemory = ⊤

@@ -1,0 +1,198 @@
+//! The whole program, by its command words, on readers and writers in memory.
+
+use crate::program::{judge, refuse, run};
+use crate::status::Status;
+use crate::tests::sent::{first_session, lines};
+use conn_file::{ConnFault, Field, kernelspec_text};
+use std::io::{self, ErrorKind, Write};
+use std::test::Fail;
+
+/// Refuses each write.
+#[derive(Drop)]
+struct Closed;
+
+impl Write for Closed {
+    fn write(&mut self, _buf: &[u8]) -> io::Result<usize> {
+        Err(io::Error::from(ErrorKind::BrokenPipe))
+    }
+
+    fn flush(&mut self) -> io::Result<()> {
+        Ok(())
+    }
+}
+
+/// What a run of the program came to: its status, and what it printed and told.
+#[derive(Drop)]
+struct Ran {
+    status: u8,
+    output: Vec<u8>,
+    faults: Vec<u8>,
+}
+
+/// Runs the program with these words on this input.
+fn run_on(rt: &HostRuntime, words: &[&str], input: &str) -> Result<Ran, Fail> {
+    let alloc = rt.alloc();
+    let mut owned = Vec::new(alloc);
+    for word in words {
+        owned.push(String::from_str(alloc, word)?)?;
+    }
+    let mut reader = input.as_bytes();
+    let mut output = Vec::new(alloc);
+    let mut faults = Vec::new(alloc);
+    let status = run(rt, alloc, &owned, &mut reader, &mut output, &mut faults);
+    Ok(Ran {
+        status,
+        output,
+        faults,
+    })
+}
+
+#[test]
+fn without_words_it_replays(rt: HostRuntime) -> Result<(), Fail> {
+    let (sent, written, published) = first_session(rt.alloc())?;
+    let wanted = lines(rt.alloc(), &written, &published, "eof")?;
+    let digits = sent.digits(rt.alloc())?;
+    let words: [&[&str]; 3] = [&[], &["replay"], &["replay", "--key", ""]];
+    for words in words {
+        let Ran {
+            status,
+            output,
+            faults,
+        } = run_on(&rt, words, &digits)?;
+        assert_eq!(rt; status, 0);
+        assert_eq!(rt; output.as_slice(), wanted.as_bytes());
+        assert!(rt; faults.is_empty());
+    }
+    // Under a key an unsigned request is dropped.
+    let Ran { status, output, .. } = run_on(&rt, &["replay", "--key", "Jefe"], &digits)?;
+    assert_eq!(rt; status, 0);
+    assert!(rt; output.as_slice() != wanted.as_bytes());
+    Ok(())
+}
+
+#[test]
+fn an_input_that_is_no_text_of_digits_is_told(rt: HostRuntime) -> Result<(), Fail> {
+    let Ran {
+        status,
+        output,
+        faults,
+    } = run_on(&rt, &["replay"], "zz")?;
+    assert_eq!(rt; status, 6);
+    assert!(rt; output.is_empty());
+    assert_eq!(rt;
+        faults.as_slice(),
+        b"jkernel: replay input refused\n".as_slice()
+    );
+    Ok(())
+}
+
+#[test]
+fn the_kernelspec_and_help_are_printed(rt: HostRuntime) -> Result<(), Fail> {
+    let Ran {
+        status,
+        output,
+        faults,
+    } = run_on(&rt, &["kernelspec"], "")?;
+    assert_eq!(rt; status, 0);
+    let wanted = format!(in rt.alloc(); "{}\n", kernelspec_text())?;
+    assert_eq!(rt; output.as_slice(), wanted.as_bytes());
+    assert!(rt; faults.is_empty());
+    let Ran {
+        status,
+        output,
+        faults,
+    } = run_on(&rt, &["--help"], "")?;
+    assert_eq!(rt; status, 0);
+    assert!(rt; output.starts_with(b"A Jupyter kernel") && faults.is_empty());
+    Ok(())
+}
+
+#[test]
+fn refused_words_are_told(rt: HostRuntime) -> Result<(), Fail> {
+    let Ran {
+        status,
+        output,
+        faults,
+    } = run_on(&rt, &["serve"], "")?;
+    assert_eq!(rt; status, 2);
+    assert!(rt; output.is_empty());
+    assert!(rt; faults.starts_with(b"error: "));
+    Ok(())
+}
+
+#[test]
+fn a_connection_file_that_is_not_there_is_told(rt: HostRuntime) -> Result<(), Fail> {
+    for file in ["nowhere/kernel.json", "/", ""] {
+        let Ran {
+            status,
+            output,
+            faults,
+        } = run_on(&rt, &["serve", "-f", file, "--more"], "")?;
+        assert_eq!(rt; status, 3);
+        assert!(rt; output.is_empty());
+        assert_eq!(rt;
+            faults.as_slice(),
+            b"jkernel: connection file unreadable\n".as_slice()
+        );
+    }
+    Ok(())
+}
+
+#[test]
+fn connection_files_are_judged(rt: HostRuntime) {
+    let alloc = rt.alloc();
+    assert_eq!(rt; judge(alloc, b"\xff"), Status::FileUnreadable);
+    assert_eq!(rt;
+        judge(alloc, b"[]"),
+        Status::FileRefused(ConnFault::NotJson)
+    );
+    assert_eq!(rt;
+        judge(alloc, b"{}"),
+        Status::FileRefused(ConnFault::Missing(Field::Transport))
+    );
+    let ports = r#""shell_port":1,"iopub_port":2,"control_port":3,"hb_port":4"#;
+    let front = r#"{"transport":"tcp","ip":"127.0.0.1","signature_scheme":"hmac-sha256","key":"","#;
+    if let Ok(file) = format!(in alloc; "{front}{ports}}}") {
+        assert_eq!(rt; judge(alloc, file.as_bytes()), Status::Done);
+    } else {
+        assert!(rt; false);
+    }
+}
+
+#[test]
+fn output_that_fails_is_told(rt: HostRuntime) -> Result<(), Fail> {
+    let alloc = rt.alloc();
+    for word in ["kernelspec", "--help", "replay"] {
+        let mut words = Vec::new(alloc);
+        words.push(String::from_str(alloc, word)?)?;
+        let mut faults = Vec::new(alloc);
+        let status = run(
+            &rt,
+            alloc,
+            &words,
+            &mut b"".as_slice(),
+            &mut Closed,
+            &mut faults,
+        );
+        assert_eq!(rt; status, 1, "{word}");
+        assert_eq!(rt;
+            faults.as_slice(),
+            b"jkernel: failed\n".as_slice(),
+            "{word}"
+        );
+    }
+    Ok(())
+}
+
+#[test]
+fn words_that_cannot_be_read_are_told(rt: HostRuntime) {
+    let mut faults = Vec::new(rt.alloc());
+    assert_eq!(rt; refuse(ErrorKind::InvalidData, &mut faults), 2);
+    assert_eq!(rt;
+        faults.as_slice(),
+        b"error: the command words are not UTF-8\n".as_slice()
+    );
+    faults.clear();
+    assert_eq!(rt; refuse(ErrorKind::OutOfMemory, &mut faults), 1);
+    assert_eq!(rt; faults.as_slice(), b"jkernel: failed\n".as_slice());
+}

@@ -1,0 +1,193 @@
+//! The command words, read by `clap`.
+
+ghost use Rattle.std.specs.Prelude.{◌≡◌, ◌⊎◌, false, [], Some, None, IfOk, IfErr, map, position, codes, unwrap_or, string_bytes};
+ghost use Rattle.std.specs.Str.{bytes_eq};
+ghost use Rattle.clap.specs.Words.{app_of, first_of, found_of, kind_of, rows_of, subcommand_rows_of};
+ghost use Rattle.clap.specs.declared.builder.command.Command.TheViews.{out-Command as fields_of};
+ghost use Rattle.jkernel.specs.Words.{IsOrdered, IsRefusedBy, TellsHelp, TellsRefusal, begins_with_serve, heeded};
+ghost use Rattle.jkernel.specs.declared.words.WordsFault.TheVariants.{OutOfMemory};
+ghost use Rattle.jkernel.specs.Words.{jkernel_command, kernelspec_command, order_by, replay_command, serve_command};
+
+use clap::error::ErrorKind;
+use clap::{Arg, ArgAction, ArgMatches, Command, Error};
+use listed::Text;
+use std::alloc::{AllocError, Global};
+
+/// What the program is, for a person.
+const ABOUT: &str = "A Jupyter kernel whose promises are proved";
+
+/// What a person orders.
+#[derive(Debug, Drop)]
+pub enum Order {
+    /// To replay one peer under this key.
+    Replay(Text),
+    /// To serve the connections of this file.
+    Serve(Text),
+    /// To print the kernelspec.
+    KernelSpec,
+    /// To print this text: help, or the program's version.
+    Help(Text),
+}
+
+/// Why command words are none.
+#[derive(Debug, Drop)]
+pub enum WordsFault {
+    /// They are refused, for what this text tells a person.
+    Refused(Text),
+    /// There was no memory.
+    OutOfMemory,
+}
+
+impl From<AllocError> for WordsFault {
+    ghost from_gives = { λ _ fault. fault ≡ OutOfMemory };
+
+    fn from(_refused: AllocError) -> WordsFault {
+        WordsFault::OutOfMemory
+    }
+}
+
+/// Reads the words behind the program's name.
+pub fn read_words(alloc: Global, words: &[String]) -> Result<Order, WordsFault>
+    ensures ordered { IfOk result (IsOrdered (map string_bytes words.now)) }
+    ensures refused { IfErr result (IsRefusedBy (map string_bytes words.now)) }
+{
+    match jkernel(alloc)?.try_get_matches_from(heeded(words)) {
+        Ok(matches) => order_in(alloc, &matches),
+        Err(error) => told(alloc, &error),
+    }
+}
+
+/// What is ordered by words that are fine.
+fn order_in(alloc: Global, matches: &ArgMatches<'_>) -> Result<Order, WordsFault>
+    ensures ordered { IfOk result (λ order. order_by (subcommand_rows_of matches.now) ≡ Some order) }
+    ensures none { IfErr result (λ fault. (fault ≡ OutOfMemory) ⊎ (order_by (subcommand_rows_of matches.now) ≡ None)) }
+{
+    match matches.subcommand() {
+        None => Ok(Order::Replay(text(alloc, "")?)),
+        Some(("replay", found)) => {
+            let key = value_of(found, "key");
+            Ok(Order::Replay(text(alloc, key)?))
+        }
+        Some(("serve", found)) => {
+            let file = value_of(found, "file");
+            Ok(Order::Serve(text(alloc, file)?))
+        }
+        Some(("kernelspec", _)) => Ok(Order::KernelSpec),
+        Some((name, _)) => Err(WordsFault::Refused(text(alloc, name)?)),
+    }
+}
+
+/// The value of an option, empty where there is none.
+fn value_of<'a>(options: &ArgMatches<'a>, id: &str) -> &'a str
+    ensures { result.now ≡ unwrap_or (first_of id.now (rows_of (found_of options.now))) [] }
+{
+    match options.get_str(id) {
+        Some(value) => value,
+        None => "",
+    }
+}
+
+/// The program's command.
+fn jkernel<'a>(alloc: Global) -> Result<Command<'a>, AllocError>
+    ensures { IfOk result (λ command. app_of command ≡ jkernel_command) }
+{
+    Command::new(alloc, "jkernel")
+        .no_binary_name(true)
+        .version("1.0")
+        .about(ABOUT)
+        .subcommand(replay(alloc)?)?
+        .subcommand(serve(alloc)?)?
+        .subcommand(kernelspec(alloc))
+}
+
+/// The command `replay`.
+fn replay<'a>(alloc: Global) -> Result<Command<'a>, AllocError>
+    ensures { IfOk result (λ command. (app_of command ≡ replay_command)
+        × ((fields_of command).has_globals ≡ false)) }
+{
+    let key = Arg::new(alloc, "key")
+        .long("key")
+        .value_name("KEY")
+        .action(ArgAction::Set)
+        .help("The key that messages are signed with; without it nothing is signed");
+    Command::new(alloc, "replay")
+        .about(
+            "Reads what a shell peer sends, as hexadecimal text from standard input, and prints what the kernel writes to it, what it publishes, and how the session ends (the default)",
+        )
+        .arg(key)
+}
+
+/// The command `serve`.
+fn serve<'a>(alloc: Global) -> Result<Command<'a>, AllocError>
+    ensures { IfOk result (λ command. (app_of command ≡ serve_command)
+        × ((fields_of command).has_globals ≡ false)) }
+{
+    let file = Arg::new(alloc, "file")
+        .short('f')
+        .value_name("FILE")
+        .required(true)
+        .action(ArgAction::Set)
+        .help("The connection file that a Jupyter server wrote; words behind it are ignored");
+    Command::new(alloc, "serve")
+        .about("Reads a connection file and judges it; there are no sockets yet")
+        .arg(file)
+}
+
+/// The command `kernelspec`.
+fn kernelspec<'a>(alloc: Global) -> Command<'a>
+    ensures { (app_of result ≡ kernelspec_command) × ((fields_of result).has_globals ≡ false) }
+{
+    Command::new(alloc, "kernelspec").about(
+        "Prints the kernelspec, by which Jupyter starts this kernel",
+    )
+}
+
+/// The words that are heeded: of a `serve`, none behind FILE.
+fn heeded(words: &[String]) -> &[String]
+    ensures { map string_bytes result.now ≡ heeded (map string_bytes words.now) }
+{
+    if !begins_with_serve(words) {
+        return words;
+    }
+    match file_flag(words) {
+        Some(at) if words.len() >= 2 && at < words.len() - 2 => &words[..at + 2],
+        Some(_) | None => words,
+    }
+}
+
+/// Whether the first word is `serve`.
+fn begins_with_serve(words: &[String]) -> bool
+    ensures { result ≡ begins_with_serve (map string_bytes words.now) }
+{
+    match words.first() {
+        Some(word) => word.as_str() == "serve",
+        None => false,
+    }
+}
+
+/// The place of the first `-f`.
+fn file_flag(words: &[String]) -> Option<usize>
+    ensures { result ≡ position (λ word. bytes_eq (string_bytes word) (codes "-f")) words.now }
+{
+    words.iter().position(|word| word.as_str() == "-f")
+}
+
+/// What is told where `clap` gave no matches: help and the version are what was ordered.
+fn told(alloc: Global, error: &Error) -> Result<Order, WordsFault>
+    ensures help { IfOk result (TellsHelp (kind_of error.now)) }
+    ensures refusal { IfErr result (TellsRefusal (kind_of error.now)) }
+{
+    let said = error.to_string(alloc)?;
+    match error.kind() {
+        ErrorKind::OutOfMemory => Err(WordsFault::OutOfMemory),
+        ErrorKind::DisplayHelp | ErrorKind::DisplayVersion => Ok(Order::Help(Text::new(said))),
+        _ => Err(WordsFault::Refused(Text::new(said))),
+    }
+}
+
+/// An owned text.
+fn text(alloc: Global, text: &str) -> Result<Text, AllocError>
+    ensures { IfOk result (λ owned. owned ≡ text.now) }
+{
+    Ok(Text::new(String::from_str(alloc, text)?))
+}
