@@ -20,7 +20,8 @@ pub record Laws : Type 0 where
 -- what is served is one value
 serves_once : (laws : Laws) (key : List ℕ) (number : ℕ) (messages : List Message) (replies others : List ℕ)
     (published also : List Message)
-    → AnswersMessages key number messages replies published → AnswersMessages key number messages others also → (replies ≡ others)
+    → AnswersMessages key number messages replies published → AnswersMessages key number messages others also
+    → (replies ≡ others)
     × (published ≡ also)
 serves_once laws key number [] replies others published also one other = (one.0 ∙ sym other.0, one.1 ∙ sym other.1)
 serves_once laws key number (message ∷ messages) replies others published also (inl one) (inl other) =
@@ -35,7 +36,8 @@ serves_once laws key number (message ∷ messages) replies others published also
     (inr (request, r, p, opened, served, replies_are, published_are))
     (inr (request', r', p', opened', served', replies_are', published_are')) =
     let same : request ≡ request' = laws.opened key message request request' opened opened' in
-    let served'' = subst (λ (e : Envelope). AnswersMessages key (number + ids_of e) messages r' p') (sym same) served' in
+    let served'' = subst (λ (e : Envelope). AnswersMessages key (number + ids_of e) messages r' p') (sym same)
+    served' in
     let later = serves_once laws key (number + ids_of request) messages r r' p p' served served'' in (
       replies_are ∙ ap (λ o. reply_text (reply_of key number request) ++ o) later.0
           ∙ ap (λ (e : Envelope). reply_text (reply_of key number e) ++ r') same ∙ sym replies_are',

@@ -1,11 +1,12 @@
 -- What a session makes of the messages of a peer.
-use Rattle.std.proofs.Common.{◌≡◌, ◌≢◌, ◌⊎◌, inl, inr, ℕ, ◌+◌, ◌<◌, ◌^◌, List, [], ◌∷◌, ◌++◌, length, Option, Some, None}
+use Rattle.std.proofs.Common.{◌≡◌, ◌≢◌, ◌⊎◌, inl, inr, ℕ, ◌+◌, ◌<◌, ◌^◌, List, [], ◌∷◌, ◌++◌, length}
+use Rattle.std.proofs.Common.{Option, Some, None}
 use Rattle.std.proofs.Common.{IfSome, Result, Ok, Err, IfOk, refl, sym, ◌∙◌, ap, subst, arith, append_assoc}
 use Rattle.std.proofs.Common.{length-append}
 use Rattle.std.proofs.lemmas.List.{append-nil, length-map}
 use Rattle.std.specs.Global.{Vec}
 use Rattle.std.specs.List.{flat_map}
-use Rattle.std.specs.Io.KnownBytes.{Appends, IsAtEnd}
+use Rattle.std.specs.Io.KnownBytes.{Appends}
 use Rattle.listed.specs.Bodies.{bodies}
 use Rattle.zmtp_wire.specs.declared.handshake.socket_type.SocketType.TheVariants.{Router}
 use Rattle.zmtp_wire.specs.Frame.{text}
@@ -21,7 +22,7 @@ use Rattle.kernel_engine.specs.declared.fault.EngineFault.TheVariants.{Memory, R
 use Rattle.kernel_engine.specs.Peer.{Message}
 use Rattle.kernel_engine.specs.Server.{AnswersAll, IsServed}
 use Rattle.kernel_engine.specs.Server.{Serves as ServesPeer}
-use Rattle.kernel_engine.specs.Exchange.{Exchange, IsCut, IsReadOut}
+use Rattle.kernel_engine.specs.Exchange.{Exchange, IsCut}
 use Rattle.kernel_engine.specs.Laws.{EndStays}
 use Rattle.jmsg_types.specs.declared.reply.Reply.{Reply}
 use Rattle.jkernel.specs.declared.engine.Engine.{Engine}
@@ -89,7 +90,10 @@ served_all old (message ∷ messages) replies new (middle, reply, later, inl one
       published = ih.published;
       added = ih.added ∙ ap (λ o. o ++ ih.published) one.published;
       signer = ih.signer ∙ one.signer;
-      serves = inl (one.dropped, subst (λ r. AnswersMessages old.signer old.next messages r ih.published) (sym same) serves);
+      serves = inl (
+        one.dropped,
+        subst (λ r. AnswersMessages old.signer old.next messages r ih.published) (sym same) serves,
+      );
     }
 served_all old (message ∷ messages) replies new (middle, reply, later, inr one, rest, is) =
     let ih = served_all middle messages later new rest in
@@ -168,9 +172,6 @@ added_all : (octets written : List ℕ) → Appends (Some []) (Some octets) writ
 added_all octets written is = is
 
 -- the lines of the session with a peer whose octets were read
-read_out : (left : Option (List ℕ)) (end : SessionEnd) → end ≡ Eof → IsReadOut left end → IsAtEnd left
-read_out left end is out = out is
-
 pub prints_peer : (key : List ℕ) (old new : Engine) (one two : Inflow) (out last : Outflow) (turns left : ℕ)
     (shell output : List ℕ) (end : SessionEnd)
     → old.signer ≡ key → old.next ≡ 2 → old.published.items ≡ starting key ∷ [] → out.written ≡ Some [] → last.written
@@ -199,7 +200,7 @@ prints_peer key old new one two out last turns left shell output end signed begi
         printed = printed ∙ ap (λ w. printed_lines w (flat_map text new.published.items) end) wrote
             ∙ ap (λ p. printed_lines e.written (flat_map text p) end) published;
       };
-      read_out = λ is. read_out two.left end is e.reading.read_out;
+      read_out = e.reading.read_out;
     }
 
 -- a session that ended holds of all that its peer sends

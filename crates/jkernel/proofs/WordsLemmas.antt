@@ -20,7 +20,7 @@ use Rattle.jkernel.specs.declared.words.Order.TheVariants.{Replay, Serve, Kernel
 use Rattle.jkernel.specs.declared.words.WordsFault.{WordsFault}
 use Rattle.jkernel.specs.declared.words.WordsFault.TheVariants.{Refused, OutOfMemory}
 use Rattle.jkernel.specs.Words.{IsOrder, IsOrdered, IsRefusedBy, TellsHelp, TellsRefusal, begins_with_serve, faults_of}
-use Rattle.jkernel.specs.Words.{heeded, jkernel_command, order_by}
+use Rattle.jkernel.specs.Words.{heeded, is_file_option, jkernel_command, order_by, words_of_file}
 
 -- a pair by its two halves
 pair_by_halves : {A B : Type 0} (o : Option (A × B)) (x : A) (y : B) → option_map (λ p. p.0) o ≡ Some x
@@ -38,32 +38,34 @@ pub command_met : (m : ArgMatches) (name : Text) (options : List Row)
 command_met m name options first second = pair_by_halves (subcommand_rows_of m) name options first second
 
 -- words are cut as their texts are
-kept : (words : List (String Global)) (found : Option ℕ)
-    → option_map_or (λ at. take (at + 2) (map string_bytes words)) found (map string_bytes words)
-    ≡ option_map_or (λ at. map string_bytes (take (at + 2) words)) found (map string_bytes words)
-kept words None = refl
-kept words (Some at) = take-map string_bytes (at + 2) words
+kept : (words : List (String Global)) (count : ℕ → ℕ) (found : Option ℕ)
+    → option_map_or (λ at. take (at + count at) (map string_bytes words)) found (map string_bytes words)
+    ≡ option_map_or (λ at. map string_bytes (take (at + count at) words)) found (map string_bytes words)
+kept words count None = refl
+kept words count (Some at) = take-map string_bytes (at + count at) words
 
 -- of a `serve`, the words up to FILE are heeded
-pub heeded_of_serve : (words : List (String Global)) (found : Option ℕ) → true ≡ begins_with_serve (map string_bytes words)
-    → found ≡ position (λ word. bytes_eq (string_bytes word) (codes "-f")) words
+pub heeded_of_serve : (words : List (String Global)) (found : Option ℕ)
+    → true ≡ begins_with_serve (map string_bytes words)
+    → found ≡ position (λ word. is_file_option (string_bytes word)) words
     → heeded (map string_bytes words)
-    ≡ option_map_or (λ at. map string_bytes (take (at + 2) words)) found (map string_bytes words)
+    ≡ option_map_or (λ at. map string_bytes (take (at + words_of_file (map string_bytes words) at) words)) found
+    (map string_bytes words)
 heeded_of_serve words found is place =
-    ap (λ b. if b then option_map_or (λ at. take (at + 2) (map string_bytes words))
-    (position (λ word. bytes_eq word (codes "-f")) (map string_bytes words)) (map string_bytes words)
-    else map string_bytes words) (sym is)
-    ∙ ap (λ o. option_map_or (λ at. take (at + 2) (map string_bytes words)) o (map string_bytes words))
-    (position-map (λ word. bytes_eq word (codes "-f")) string_bytes words ∙ sym place)
-    ∙ kept words found
+    let texts = map string_bytes words in
+    ap (λ b. if b then option_map_or (λ at. take (at + words_of_file texts at) texts) (position is_file_option texts)
+    texts else texts) (sym is)
+    ∙ ap (λ o. option_map_or (λ at. take (at + words_of_file texts at) texts) o texts)
+    (position-map is_file_option string_bytes words ∙ sym place)
+    ∙ kept words (words_of_file texts) found
 
 -- of any other command, all are
 pub heeded_of_others : (words : List (String Global)) → false ≡ begins_with_serve (map string_bytes words)
     → heeded (map string_bytes words) ≡ map string_bytes words
 heeded_of_others words is =
-    ap (λ b. if b then option_map_or (λ at. take (at + 2) (map string_bytes words))
-    (position (λ word. bytes_eq word (codes "-f")) (map string_bytes words)) (map string_bytes words)
-    else map string_bytes words) (sym is)
+    let texts = map string_bytes words in
+    ap (λ b. if b then option_map_or (λ at. take (at + words_of_file texts at) texts) (position is_file_option texts)
+    texts else texts) (sym is)
 
 -- the name of the command that was met, of its name and options
 named_by : {Z : Type 0} (met : Option (Box SubCommand Z))
@@ -139,9 +141,13 @@ is_helped words read app e (Help text) same is (inr among) (inr help) =
 pub is_refused : (words read : List Text) (app : App) (e : Error) (fault : WordsFault) → app ≡ jkernel_command
     → read ≡ heeded words → HasKind (fault_of app read) e → TellsRefusal (kind_of e) fault → IsRefusedBy words fault
 is_refused words read app e OutOfMemory same is has tells = tt
-is_refused words read app e (Refused text) same is (inl memory) tells = absurd (tells memory)
-is_refused words read app e (Refused text) same is (inr among) tells =
-    inl (λ none. subst (λ found. IsAmong (kind_of e) found) (ap₂ fault_of same is ∙ none) among)
+is_refused words read app e (Refused text) same is (inl memory) tells = absurd (tells.0 memory)
+is_refused words read app e (Refused text) same is (inr among) tells = inl record {
+  kind = kind_of e;
+  found = subst (λ found. IsAmong (kind_of e) found) (ap₂ fault_of same is) among;
+  no_help = tells.1;
+  no_version = tells.2;
+}
 
 -- words that name no order are refused
 pub is_unnamed : (words read : List Text) (app : App) (m : ArgMatches) (fault : WordsFault) → app ≡ jkernel_command

@@ -27,8 +27,8 @@ abbrev pub kernel_info : Reply
 kernel_info = tells.KernelInfo (codes "Shell arithmetic in 64 bits") (codes ".sha") (codes "text/plain")
     (codes "sharith") (codes "1.0")
 
--- Whether the kernel answers requests of a type today. One of another type is busy and idle alone, and its content isn't
--- read.
+-- Whether the kernel answers requests of a type today. One of another type is busy and idle alone, and its content
+-- isn't read.
 abbrev pub is_answered : Option MessageType → Bool
 is_answered (Some types.KernelInfoRequest) = true
 is_answered (Some types.ExecuteRequest) = false
@@ -44,8 +44,8 @@ is_answered (Some types.ShutdownRequest) = false
 is_answered (Some types.InterruptRequest) = false
 is_answered None = false
 
--- What a request that was read is answered. A comm is closed as soon as it is opened, since the kernel has no targets for
--- one ("Custom Messages").
+-- What a request that was read is answered. A comm is closed as soon as it is opened, since the kernel has no targets
+-- for one ("Custom Messages").
 abbrev pub answer_to : Request → Answer
 answer_to asks.KernelInfo = replied kernel_info
 answer_to (asks.Execute code silent store_history user_expressions allow_stdin stop_on_error) = nothing

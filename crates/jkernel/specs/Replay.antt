@@ -1,5 +1,5 @@
 -- What a replay says of its input and output by its status.
-use Rattle.std.specs.Prelude.{◌≡◌, ◌≢◌, ℕ, List, [], Option, Some, None, IfSome, ⊤, codes, ◌==◌, if◌then◌else◌}
+use Rattle.std.specs.Prelude.{◌≡◌, ◌≢◌, ℕ, List, [], Option, Some, None, IfSome, ⊤}
 use Rattle.std.specs.Io.KnownBytes.{Appends, Consumes, IsAtEnd}
 use Rattle.zmtp_wire.specs.declared.fault.WireFault.TheVariants.{OutOfMemory}
 use Rattle.kernel_engine.specs.declared.end.SessionEnd.{SessionEnd}

@@ -1,6 +1,7 @@
 -- The command words: what `clap`'s definitions make of them for the program's command.
-use Rattle.std.specs.Prelude.{◌≡◌, ◌≢◌, ◌⊎◌, ℕ, ◌+◌, List, [], ◌∷◌, Bool, true, false, if◌then◌else◌, codes, take}
-use Rattle.std.specs.Prelude.{Option, Some, None, option_and_then, position, slice_get, unwrap_or, ⊤}
+use Rattle.std.specs.Prelude.{◌≡◌, ◌≢◌, ◌⊎◌, ℕ, ◌+◌, List, [], Bool, true, false, if◌then◌else◌, codes, nat_eq, take}
+use Rattle.std.specs.Prelude.{Option, Some, None, position, slice_get, unwrap_or, ⊤}
+use Rattle.std.specs.List.{starts_with}
 use Rattle.std.specs.Option.{option_map_or}
 use Rattle.std.specs.Str.{bytes_eq}
 use Rattle.clap.specs.Simple.{on_top}
@@ -47,12 +48,20 @@ jkernel_command =
 abbrev pub begins_with_serve : List Text → Bool
 begins_with_serve words = option_map_or (λ word. bytes_eq word (codes "serve")) (slice_get words 0) false
 
--- The words that are heeded: of a `serve`, none behind FILE, since Jupyter's programs append words of their own to those
--- of a kernelspec.
+-- whether a word is the option `-f`, with FILE in the same word or without
+abbrev pub is_file_option : Text → Bool
+is_file_option word = starts_with nat_eq word (codes "-f")
+
+-- how many words the option `-f` at this place takes with FILE: itself, and the next where FILE isn't in it
+abbrev pub words_of_file : List Text → ℕ → ℕ
+words_of_file words at = option_map_or (λ word. if bytes_eq word (codes "-f") then 2 else 1) (slice_get words at) 1
+
+-- The words that are heeded: of a `serve`, none behind FILE, since Jupyter's programs append words of their own to
+-- those of a kernelspec.
 abbrev pub heeded : List Text → List Text
 heeded words =
     if begins_with_serve words
-    then option_map_or (λ at. take (at + 2) words) (position (λ word. bytes_eq word (codes "-f")) words) words
+    then option_map_or (λ at. take (at + words_of_file words at) words) (position is_file_option words) words
     else words
 
 -- what a command with its options orders
@@ -89,9 +98,16 @@ IsOrdered words KernelSpec = IsOrder words KernelSpec
 IsOrdered words (Help text) =
     IsAmong kinds.DisplayHelp (faults_of words) ⊎ IsAmong kinds.DisplayVersion (faults_of words)
 
+-- something is wrong with the words, which is no question for help or the version
+pub record AreWrong (words : List Text) : Type 0 where
+  pub kind : ErrorKind
+  pub found : IsAmong kind (faults_of words)
+  pub no_help : kind ≢ kinds.DisplayHelp
+  pub no_version : kind ≢ kinds.DisplayVersion
+
 -- what a refusal says of the words: something is wrong with them, or they name no order
 abbrev pub IsRefusedBy : List Text → WordsFault → Type 0
-IsRefusedBy words (Refused text) = (faults_of words ≢ []) ⊎ (order_of words ≡ None)
+IsRefusedBy words (Refused text) = AreWrong words ⊎ (order_of words ≡ None)
 IsRefusedBy words OutOfMemory = ⊤
 
 -- what the kind of an error says where help or the version is told
@@ -103,5 +119,6 @@ TellsHelp found (Help text) = (found ≡ kinds.DisplayHelp) ⊎ (found ≡ kinds
 
 -- what the kind of an error says where words are refused
 abbrev pub TellsRefusal : ErrorKind → WordsFault → Type 0
-TellsRefusal found (Refused text) = found ≢ kinds.OutOfMemory
+TellsRefusal found (Refused text) =
+    (found ≢ kinds.OutOfMemory) × (found ≢ kinds.DisplayHelp) × (found ≢ kinds.DisplayVersion)
 TellsRefusal found OutOfMemory = ⊤

@@ -4,6 +4,7 @@ ghost use Rattle.std.specs.Prelude.{◌≡◌, IfOk, IfSome, IsErr};
 ghost use Rattle.jmsg_types.specs.Fault.{refusal_of};
 ghost use Rattle.jkernel.specs.Answer.{answer_of, answer_to, is_answered, kernel_info, refused};
 
+use crate::owned::owned_text;
 use jmsg_envelope::Envelope;
 use jmsg_types::{
     ContentFault, MessageType, Publication, Reply, Request, content_words, read_request, reply_type,
@@ -110,25 +111,19 @@ fn kernel_info(alloc: Global) -> Result<Reply, AllocError>
     ensures { IfOk result (λ reply. reply ≡ kernel_info) }
 {
     Ok(Reply::KernelInfo {
-        banner: text(alloc, "Shell arithmetic in 64 bits")?,
-        file_extension: text(alloc, ".sha")?,
-        mimetype: text(alloc, "text/plain")?,
-        name: text(alloc, "sharith")?,
-        version: text(alloc, "1.0")?,
+        banner: owned_text(alloc, "Shell arithmetic in 64 bits")?,
+        file_extension: owned_text(alloc, ".sha")?,
+        mimetype: owned_text(alloc, "text/plain")?,
+        name: owned_text(alloc, "sharith")?,
+        version: owned_text(alloc, "1.0")?,
     })
-}
-
-/// An owned text.
-fn text(alloc: Global, text: &str) -> Result<Text, AllocError>
-    ensures { IfOk result (λ owned. owned ≡ text.now) }
-{
-    Ok(Text::new(String::from_str(alloc, text)?))
 }
 
 /// What a refused content is answered: an error, where the type has a reply. Where it wasn't read for want of memory,
 /// there is none for an answer.
 fn refused(alloc: Global, has_reply: bool, fault: &ContentFault) -> Result<Answer, AllocError>
-    ensures answer { IfOk result (λ answer. IfSome (refusal_of fault.now) (λ refusal. answer ≡ refused has_reply refusal)) }
+    ensures answer { IfOk result (λ answer. IfSome (refusal_of fault.now)
+        (λ refusal. answer ≡ refused has_reply refusal)) }
     ensures memory { refusal_of fault.now ≡ None → IsErr result }
 {
     let Ok((ename, evalue)) = content_words(alloc, fault) else {
@@ -137,6 +132,6 @@ fn refused(alloc: Global, has_reply: bool, fault: &ContentFault) -> Result<Answe
     if !has_reply {
         return Ok(Answer::nothing());
     }
-    let ename = text(alloc, ename)?;
+    let ename = owned_text(alloc, ename)?;
     Ok(Answer::with_reply(Reply::Error { ename, evalue }))
 }

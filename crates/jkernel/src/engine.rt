@@ -52,7 +52,8 @@ impl Engine {
     pub(crate) fn start(&mut self, alloc: Global) -> Result<(), EngineFault>
         requires { (self.old.next ≡ 1) × (self.old.published.items ≡ []) }
         ensures same { self.new.signer ≡ self.old.signer }
-        ensures started { OnOk result ((self.new.published.items ≡ starting self.old.signer ∷ []) × (self.new.next ≡ 2)) }
+        ensures started { OnOk result
+            ((self.new.published.items ≡ starting self.old.signer ∷ []) × (self.new.next ≡ 2)) }
     {
         let date = self.stamp.date(alloc)?;
         let message = self.status(alloc, date.as_str(), b"{}", self.next, State::Starting)?;

@@ -7,34 +7,32 @@ mod engine;
 mod input;
 mod laws;
 mod lines;
+mod owned;
 mod program;
 mod replay;
 mod session;
 mod stamp;
 mod status;
-#[cfg(test)]
-mod tests;
 mod words;
 
-use program::{refuse, run};
+use program::run;
 use std::env::Env;
 use std::process::ExitCode;
 use std::{env, io};
 
-/// Hands the command words and the standard streams to the program. Words that aren't UTF-8 are refused.
+#[cfg(test)]
+mod tests;
+
+/// Hands the command words and the standard streams to the program.
 fn main(rt: HostRuntime) -> ExitCode {
-    let faults = &mut rt.stderr();
-    let code = match words_behind(&rt) {
-        Ok(words) => run(
-            &rt,
-            rt.alloc(),
-            &words,
-            &mut rt.reader(),
-            &mut io::writer(&rt),
-            faults,
-        ),
-        Err(error) => refuse(error.kind(), faults),
-    };
+    let code = run(
+        &rt,
+        rt.alloc(),
+        &words_behind(&rt),
+        &mut rt.reader(),
+        &mut io::writer(&rt),
+        &mut rt.stderr(),
+    );
     ExitCode::from(code)
 }
 

@@ -42,7 +42,8 @@ pub fn run_replay<R: Read, W: Write>(
     ensures refused { result ≡ 6 → IsNotHex (R.remaining reader.old) × (writer.new ≡ writer.old) }
 
     // An input without lines is refused, memory and reads aside.
-    ensures no_lines { IfSome (R.remaining reader.old) (λ input. hex_octets input ≡ None → (result ≡ 6) ⊎ (result ≡ 1)) }
+    ensures no_lines { IfSome (R.remaining reader.old)
+        (λ input. hex_octets input ≡ None → (result ≡ 6) ⊎ (result ≡ 1)) }
 
     ensures status { (result ≡ 0) ⊎ ((result ≡ 1) ⊎ (result ≡ 6)) }
 {

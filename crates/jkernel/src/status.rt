@@ -5,9 +5,6 @@ ghost use Rattle.jkernel.specs.Status.{status_code, status_words};
 
 use conn_file::ConnFault;
 
-/// The line for a person where no memory was left, or standard input or output failed.
-pub(crate) const FAILED: &str = "jkernel: failed\n";
-
 /// How the program ends.
 #[derive(Clone, Copy, Debug, PartialEq, Eq)]
 pub(crate) enum Status {
@@ -44,7 +41,7 @@ impl Status {
         ensures { option_map (λ words. words.now) result ≡ status_words code }
     {
         match code {
-            1 => Some(FAILED),
+            1 => Some("jkernel: failed\n"),
             6 => Some("jkernel: replay input refused\n"),
             _ => None,
         }

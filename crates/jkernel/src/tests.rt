@@ -1,6 +1,7 @@
 //! Tests of what no clause says: printed words, runs whose octets come from outside, devices that fail.
 
 mod cut;
+mod devices;
 mod input;
 mod lines;
 mod program;

@@ -1,13 +1,15 @@
 //! The command words, read by `clap`.
 
-ghost use Rattle.std.specs.Prelude.{◌≡◌, ◌⊎◌, false, [], Some, None, IfOk, IfErr, map, position, codes, unwrap_or, string_bytes};
-ghost use Rattle.std.specs.Str.{bytes_eq};
+ghost use Rattle.std.specs.Prelude.{◌≡◌, ◌+◌, ◌⊎◌, false, [], Some, None, IfOk, IfErr, map, position, unwrap_or};
+ghost use Rattle.std.specs.Prelude.{string_bytes, take};
 ghost use Rattle.clap.specs.Words.{app_of, first_of, found_of, kind_of, rows_of, subcommand_rows_of};
 ghost use Rattle.clap.specs.declared.builder.command.Command.TheViews.{out-Command as fields_of};
 ghost use Rattle.jkernel.specs.Words.{IsOrdered, IsRefusedBy, TellsHelp, TellsRefusal, begins_with_serve, heeded};
+ghost use Rattle.jkernel.specs.Words.{is_file_option, words_of_file};
 ghost use Rattle.jkernel.specs.declared.words.WordsFault.TheVariants.{OutOfMemory};
 ghost use Rattle.jkernel.specs.Words.{jkernel_command, kernelspec_command, order_by, replay_command, serve_command};
 
+use crate::owned::owned_text;
 use clap::error::ErrorKind;
 use clap::{Arg, ArgAction, ArgMatches, Command, Error};
 use listed::Text;
@@ -15,6 +17,12 @@ use std::alloc::{AllocError, Global};
 
 /// What the program is, for a person.
 const ABOUT: &str = "A Jupyter kernel whose promises are proved";
+
+/// A run that a person can try: a greeting and nothing else.
+const EXAMPLE: &str = concat!(
+    "Example: a peer that greets, and then is gone\n",
+    "  { echo ff00000000000000017f 0300 4e554c4c; printf '%096d' 0; } | jkernel replay",
+);
 
 /// What a person orders.
 #[derive(Debug, Drop)]
@@ -63,17 +71,17 @@ fn order_in(alloc: Global, matches: &ArgMatches<'_>) -> Result<Order, WordsFault
     ensures none { IfErr result (λ fault. (fault ≡ OutOfMemory) ⊎ (order_by (subcommand_rows_of matches.now) ≡ None)) }
 {
     match matches.subcommand() {
-        None => Ok(Order::Replay(text(alloc, "")?)),
+        None => Ok(Order::Replay(owned_text(alloc, "")?)),
         Some(("replay", found)) => {
             let key = value_of(found, "key");
-            Ok(Order::Replay(text(alloc, key)?))
+            Ok(Order::Replay(owned_text(alloc, key)?))
         }
         Some(("serve", found)) => {
             let file = value_of(found, "file");
-            Ok(Order::Serve(text(alloc, file)?))
+            Ok(Order::Serve(owned_text(alloc, file)?))
         }
         Some(("kernelspec", _)) => Ok(Order::KernelSpec),
-        Some((name, _)) => Err(WordsFault::Refused(text(alloc, name)?)),
+        Some((name, _)) => Err(WordsFault::Refused(owned_text(alloc, name)?)),
     }
 }
 
@@ -95,6 +103,7 @@ fn jkernel<'a>(alloc: Global) -> Result<Command<'a>, AllocError>
         .no_binary_name(true)
         .version("1.0")
         .about(ABOUT)
+        .after_help(EXAMPLE)
         .subcommand(replay(alloc)?)?
         .subcommand(serve(alloc)?)?
         .subcommand(kernelspec(alloc))
@@ -111,9 +120,10 @@ fn replay<'a>(alloc: Global) -> Result<Command<'a>, AllocError>
         .action(ArgAction::Set)
         .help("The key that messages are signed with; without it nothing is signed");
     Command::new(alloc, "replay")
-        .about(
-            "Reads what a shell peer sends, as hexadecimal text from standard input, and prints what the kernel writes to it, what it publishes, and how the session ends (the default)",
-        )
+        .about(concat!(
+            "Reads what a shell peer sends, as hexadecimal text from standard input, and prints what the kernel ",
+            "writes to it, what it publishes, and how the session ends (the default)",
+        ))
         .arg(key)
 }
 
@@ -129,7 +139,10 @@ fn serve<'a>(alloc: Global) -> Result<Command<'a>, AllocError>
         .action(ArgAction::Set)
         .help("The connection file that a Jupyter server wrote; words behind it are ignored");
     Command::new(alloc, "serve")
-        .about("Reads a connection file and judges it; there are no sockets yet")
+        .about(concat!(
+            "Reads a connection file, and prints nothing where it is fine, and else what is wrong with it; there are ",
+            "no sockets yet",
+        ))
         .arg(file)
 }
 
@@ -138,7 +151,7 @@ fn kernelspec<'a>(alloc: Global) -> Command<'a>
     ensures { (app_of result ≡ kernelspec_command) × ((fields_of result).has_globals ≡ false) }
 {
     Command::new(alloc, "kernelspec").about(
-        "Prints the kernelspec, by which Jupyter starts this kernel",
+        "Reads nothing, and prints the kernelspec, by which Jupyter starts this kernel",
     )
 }
 
@@ -149,9 +162,20 @@ fn heeded(words: &[String]) -> &[String]
     if !begins_with_serve(words) {
         return words;
     }
-    match file_flag(words) {
-        Some(at) if words.len() >= 2 && at < words.len() - 2 => &words[..at + 2],
-        Some(_) | None => words,
+    match file_option(words) {
+        Some(at) => up_to(words, at, words_of_file(words, at)),
+        None => words,
+    }
+}
+
+/// The words up to a place, and so many from there on.
+fn up_to(words: &[String], at: usize, count: usize) -> &[String]
+    ensures { result.now ≡ take (at + count) words.now }
+{
+    if at < words.len() && count < words.len() - at {
+        &words[..at + count]
+    } else {
+        words
     }
 }
 
@@ -165,11 +189,23 @@ fn begins_with_serve(words: &[String]) -> bool
     }
 }
 
-/// The place of the first `-f`.
-fn file_flag(words: &[String]) -> Option<usize>
-    ensures { result ≡ position (λ word. bytes_eq (string_bytes word) (codes "-f")) words.now }
+/// The place of the first option `-f`, with FILE in the same word or behind it.
+fn file_option(words: &[String]) -> Option<usize>
+    ensures { result ≡ position (λ word. is_file_option (string_bytes word)) words.now }
 {
-    words.iter().position(|word| word.as_str() == "-f")
+    words
+        .iter()
+        .position(|word| word.as_bytes().starts_with(b"-f"))
+}
+
+/// How many words the option `-f` at this place takes with FILE.
+fn words_of_file(words: &[String], at: usize) -> usize
+    ensures { result ≡ words_of_file (map string_bytes words.now) at }
+{
+    match words.get(at) {
+        Some(word) if word.as_str() == "-f" => 2,
+        Some(_) | None => 1,
+    }
 }
 
 /// What is told where `clap` gave no matches: help and the version are what was ordered.
@@ -183,11 +219,4 @@ fn told(alloc: Global, error: &Error) -> Result<Order, WordsFault>
         ErrorKind::DisplayHelp | ErrorKind::DisplayVersion => Ok(Order::Help(Text::new(said))),
         _ => Err(WordsFault::Refused(Text::new(said))),
     }
-}
-
-/// An owned text.
-fn text(alloc: Global, text: &str) -> Result<Text, AllocError>
-    ensures { IfOk result (λ owned. owned ≡ text.now) }
-{
-    Ok(Text::new(String::from_str(alloc, text)?))
 }

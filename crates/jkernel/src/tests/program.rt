@@ -1,25 +1,14 @@
 //! The whole program, by its command words, on readers and writers in memory.
 
-use crate::program::{judge, refuse, run};
+use crate::program::{judge, run};
 use crate::status::Status;
+use crate::tests::devices::{Buffered, Closed};
 use crate::tests::sent::{first_session, lines};
 use conn_file::{ConnFault, Field, kernelspec_text};
-use std::io::{self, ErrorKind, Write};
+use std::alloc::Global;
+use std::io::{self, ErrorKind};
+use std::str;
 use std::test::Fail;
-
-/// Refuses each write.
-#[derive(Drop)]
-struct Closed;
-
-impl Write for Closed {
-    fn write(&mut self, _buf: &[u8]) -> io::Result<usize> {
-        Err(io::Error::from(ErrorKind::BrokenPipe))
-    }
-
-    fn flush(&mut self) -> io::Result<()> {
-        Ok(())
-    }
-}
 
 /// What a run of the program came to: its status, and what it printed and told.
 #[derive(Drop)]
@@ -29,17 +18,23 @@ struct Ran {
     faults: Vec<u8>,
 }
 
-/// Runs the program with these words on this input.
-fn run_on(rt: &HostRuntime, words: &[&str], input: &str) -> Result<Ran, Fail> {
-    let alloc = rt.alloc();
+/// These words, as the system gives them.
+fn given(alloc: Global, words: &[&str]) -> Result<io::Result<Vec<String>>, Fail> {
     let mut owned = Vec::new(alloc);
     for word in words {
         owned.push(String::from_str(alloc, word)?)?;
     }
+    Ok(Ok(owned))
+}
+
+/// Runs the program with these words on this input.
+fn run_on(rt: &HostRuntime, words: &[&str], input: &str) -> Result<Ran, Fail> {
+    let alloc = rt.alloc();
+    let words = given(alloc, words)?;
     let mut reader = input.as_bytes();
     let mut output = Vec::new(alloc);
     let mut faults = Vec::new(alloc);
-    let status = run(rt, alloc, &owned, &mut reader, &mut output, &mut faults);
+    let status = run(rt, alloc, &words, &mut reader, &mut output, &mut faults);
     Ok(Ran {
         status,
         output,
@@ -109,14 +104,25 @@ fn the_kernelspec_and_help_are_printed(rt: HostRuntime) -> Result<(), Fail> {
 
 #[test]
 fn refused_words_are_told(rt: HostRuntime) -> Result<(), Fail> {
-    let Ran {
-        status,
-        output,
-        faults,
-    } = run_on(&rt, &["serve"], "")?;
-    assert_eq!(rt; status, 2);
-    assert!(rt; output.is_empty());
-    assert!(rt; faults.starts_with(b"error: "));
+    let cases: [(&[&str], &str); 3] = [
+        (&["serve"], "-f <FILE>"),
+        (&["replay", "Jefe"], "Jefe"),
+        (&["sing"], "sing"),
+    ];
+    for (words, part) in cases {
+        let Ran {
+            status,
+            output,
+            faults,
+        } = run_on(&rt, words, "")?;
+        let told = str::from_utf8(&faults)?;
+        assert_eq!(rt; status, 2);
+        assert!(rt; output.is_empty());
+        assert!(rt;
+            told.starts_with("error: ") && told.contains(part),
+            "{told}"
+        );
+    }
     Ok(())
 }
 
@@ -163,17 +169,10 @@ fn connection_files_are_judged(rt: HostRuntime) {
 fn output_that_fails_is_told(rt: HostRuntime) -> Result<(), Fail> {
     let alloc = rt.alloc();
     for word in ["kernelspec", "--help", "replay"] {
-        let mut words = Vec::new(alloc);
-        words.push(String::from_str(alloc, word)?)?;
+        let words = given(alloc, &[word])?;
+        let mut reader = b"".as_slice();
         let mut faults = Vec::new(alloc);
-        let status = run(
-            &rt,
-            alloc,
-            &words,
-            &mut b"".as_slice(),
-            &mut Closed,
-            &mut faults,
-        );
+        let status = run(&rt, alloc, &words, &mut reader, &mut Closed, &mut faults);
         assert_eq!(rt; status, 1, "{word}");
         assert_eq!(rt;
             faults.as_slice(),
@@ -185,14 +184,57 @@ fn output_that_fails_is_told(rt: HostRuntime) -> Result<(), Fail> {
 }
 
 #[test]
+fn what_is_printed_and_told_is_flushed(rt: HostRuntime) -> Result<(), Fail> {
+    let alloc = rt.alloc();
+    for (word, printed, told) in [("kernelspec", true, false), ("sing", false, true)] {
+        let words = given(alloc, &[word])?;
+        let mut reader = b"".as_slice();
+        let mut writer = Buffered::new(alloc);
+        let mut faults = Buffered::new(alloc);
+        run(&rt, alloc, &words, &mut reader, &mut writer, &mut faults);
+        assert_eq!(rt; !writer.flushed.is_empty(), printed, "{word}");
+        assert_eq!(rt; !faults.flushed.is_empty(), told, "{word}");
+    }
+    Ok(())
+}
+
+#[test]
+fn what_cannot_be_told_changes_no_status(rt: HostRuntime) -> Result<(), Fail> {
+    let alloc = rt.alloc();
+    let cases: [(&[&str], u8); 3] = [
+        (&["serve"], 2),
+        (&["serve", "-f", "nowhere/kernel.json"], 3),
+        (&["replay"], 6),
+    ];
+    for (words, wanted) in cases {
+        let words = given(alloc, words)?;
+        let mut reader = b"zz".as_slice();
+        let mut output = Vec::new(alloc);
+        let status = run(&rt, alloc, &words, &mut reader, &mut output, &mut Closed);
+        assert_eq!(rt; status, wanted);
+        assert!(rt; output.is_empty());
+    }
+    Ok(())
+}
+
+#[test]
 fn words_that_cannot_be_read_are_told(rt: HostRuntime) {
-    let mut faults = Vec::new(rt.alloc());
-    assert_eq!(rt; refuse(ErrorKind::InvalidData, &mut faults), 2);
-    assert_eq!(rt;
-        faults.as_slice(),
-        b"error: the command words are not UTF-8\n".as_slice()
-    );
-    faults.clear();
-    assert_eq!(rt; refuse(ErrorKind::OutOfMemory, &mut faults), 1);
-    assert_eq!(rt; faults.as_slice(), b"jkernel: failed\n".as_slice());
+    let alloc = rt.alloc();
+    for (kind, wanted, told) in [
+        (
+            ErrorKind::InvalidData,
+            2,
+            "error: the command words are not UTF-8\n",
+        ),
+        (ErrorKind::OutOfMemory, 1, "jkernel: failed\n"),
+    ] {
+        let words = Err(io::Error::from(kind));
+        let mut reader = b"".as_slice();
+        let mut output = Vec::new(alloc);
+        let mut faults = Vec::new(alloc);
+        let status = run(&rt, alloc, &words, &mut reader, &mut output, &mut faults);
+        assert_eq!(rt; status, wanted);
+        assert!(rt; output.is_empty());
+        assert_eq!(rt; faults.as_slice(), told.as_bytes());
+    }
 }

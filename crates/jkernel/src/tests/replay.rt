@@ -9,8 +9,10 @@ use std::test::Fail;
 /// The signature under `Jefe` of a request for the kernel's info.
 const REQUEST_SIGNATURE: &str = "21c553c91ccedd647f6c65bf7707b56c2eed9b23d0aba43886ee0a7b74774ecd";
 
-/// The same with another first digit.
-const WRONG_SIGNATURE: &str = "01c553c91ccedd647f6c65bf7707b56c2eed9b23d0aba43886ee0a7b74774ecd";
+/// The header of another request, and its signature with another first digit.
+const WRONG_REQUEST: &str = r#"{"msg_id":"b","msg_type":"kernel_info_request"}"#;
+
+const WRONG_SIGNATURE: &str = "e08291380d9a73791bc62ebaaf67acd02434223da6386b22d69a9d0e5798392e";
 
 /// The right one in upper-case digits.
 const UPPER_CASE_SIGNATURE: &str =
@@ -96,7 +98,8 @@ fn a_signed_request_gets_a_signed_answer(rt: HostRuntime) -> Result<(), Fail> {
 fn a_wrong_digit_is_dropped_and_upper_case_accepted(rt: HostRuntime) -> Result<(), Fail> {
     let alloc = rt.alloc();
     let (written, published) = signed_answers(alloc)?;
-    let wrong = dealer(alloc)?.info_request(WRONG_SIGNATURE, "{}")?;
+    let frames = [DELIMITER, WRONG_SIGNATURE, WRONG_REQUEST, "{}", "{}", "{}"];
+    let wrong = dealer(alloc)?.message(&frames)?;
     let sent = wrong.info_request(UPPER_CASE_SIGNATURE, "{}")?;
     assert!(rt; is_replayed(alloc, "Jefe", &sent, &written, &published, "eof")?);
     Ok(())

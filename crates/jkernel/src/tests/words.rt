@@ -1,6 +1,8 @@
 //! Command words, by what they order or why they are refused.
 
 use crate::words::{Order, WordsFault, read_words};
+use conn_file::kernelspec_text;
+use serde_json::Value;
 use std::alloc::Global;
 use std::test::Fail;
 
@@ -23,7 +25,7 @@ fn read(alloc: Global, words: &[&str]) -> Result<(&'static str, String), Fail> {
 
 #[test]
 fn commands_and_their_options_are_read(rt: HostRuntime) -> Result<(), Fail> {
-    let cases: [(&[&str], &str, &str); 15] = [
+    let cases: [(&[&str], &str, &str); 17] = [
         (&[], "replay", ""),
         (&["replay"], "replay", ""),
         (&["replay", "--key", "Jefe"], "replay", "Jefe"),
@@ -43,6 +45,16 @@ fn commands_and_their_options_are_read(rt: HostRuntime) -> Result<(), Fail> {
             "kernel.json",
         ),
         (&["serve", "-f", "serve"], "serve", "serve"),
+        (
+            &["serve", "-fkernel.json", "--debug"],
+            "serve",
+            "kernel.json",
+        ),
+        (
+            &["serve", "-fkernel.json", "-f", "more"],
+            "serve",
+            "kernel.json",
+        ),
         (
             &["serve", "-f", "h\u{e9}.json", "--help"],
             "serve",
@@ -75,6 +87,15 @@ fn help_and_the_version_are_told(rt: HostRuntime) -> Result<(), Fail> {
         assert_eq!(rt; name, "help", "{words:?}");
         assert!(rt; said.contains("Usage: "), "{words:?}: {said}");
     }
+    for part in ["replay", "serve", "kernelspec", "Example: "] {
+        let (_, said) = read(rt.alloc(), &["--help"])?;
+        assert!(rt; said.contains(part), "{said}");
+    }
+    let (_, said) = read(rt.alloc(), &["serve", "--help"])?;
+    assert!(rt;
+        said.contains("-f <FILE>") && said.contains("connection file"),
+        "{said}"
+    );
     let (name, said) = read(rt.alloc(), &["--version"])?;
     assert_eq!(rt; name, "help");
     assert_eq!(rt; said.as_str(), "jkernel 1.0\n");
@@ -100,5 +121,21 @@ fn other_words_are_refused(rt: HostRuntime) -> Result<(), Fail> {
         assert_eq!(rt; name, "refused", "{words:?}: {said}");
         assert!(rt; said.contains(part), "{words:?}: {said}");
     }
+    Ok(())
+}
+
+#[test]
+fn the_words_of_the_kernelspec_serve_its_file(rt: HostRuntime) -> Result<(), Fail> {
+    let spec = Value::from_str(rt.alloc(), kernelspec_text())?;
+    let mut words = Vec::new(rt.alloc());
+    if let Some(given) = spec.get("argv").and_then(Value::as_array) {
+        for word in given {
+            words.push(word.as_str().unwrap_or(""))?;
+        }
+    }
+    assert_eq!(rt; words.first(), Some(&"jkernel"));
+    let (name, file) = read(rt.alloc(), &words[1..])?;
+    assert_eq!(rt; name, "serve");
+    assert_eq!(rt; file.as_str(), "{connection_file}");
     Ok(())
 }

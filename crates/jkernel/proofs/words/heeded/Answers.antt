@@ -1,19 +1,13 @@
-use Rattle.std.proofs.Common.{◌+◌, Some, None, map, string_bytes, ap, sym, ◌∙◌, arith}
-use Rattle.std.proofs.lemmas.List.{take_all}
+use Rattle.std.proofs.Common.{◌+◌, Some, None, map, string_bytes, ap, sym, ◌∙◌, take}
 use Rattle.jkernel.proofs.WordsLemmas.{heeded_of_serve}
 use Rattle.jkernel.proofs.words.heeded.Goals as goal
 
 pub returns-in-Some : goal.returns-in-Some
 returns-in-Some c =
-    sym (heeded_of_serve c.args.words.now (Some c.in-Some.at) (c.if-not-begins_with_serve.ensures)
-    (c.in-Some.ensures))
+    ap (map string_bytes) (c.up_to.ensures
+    ∙ ap (λ count. take (c.in-Some.at + count) c.args.words.now) c.words_of_file.ensures)
+    ∙ sym (heeded_of_serve c.args.words.now (Some c.in-Some.at) c.if-not-begins_with_serve.ensures c.in-Some.ensures)
 
-pub returns-in-Some-2 : goal.returns-in-Some-2
-returns-in-Some-2 c =
-    ap (map string_bytes) (sym (take_all (c.in-Some.at + 2) c.args.words.now (omega arith)))
-    ∙ sym (heeded_of_serve c.args.words.now (Some c.in-Some.at) (c.if-not-begins_with_serve.ensures)
-    (c.in-Some.ensures))
-
-pub returns-in-Some-2-3 : goal.returns-in-Some-2-3
-returns-in-Some-2-3 c =
-    sym (heeded_of_serve c.args.words.now None (c.if-not-begins_with_serve.ensures) (c.in-Some-2.ensures))
+pub returns-in-None : goal.returns-in-None
+returns-in-None c =
+    sym (heeded_of_serve c.args.words.now None c.if-not-begins_with_serve.ensures c.in-None.ensures)

@@ -2,7 +2,7 @@ use Rattle.std.proofs.Common.{rules, ◌≡◌, true, codes, ap, ap₂, ◌∙�
 use Rattle.std.proofs.lemmas.Result.{IfOk-weaker}
 use Rattle.clap.specs.Words.{App, app_of, new_app, with_subcommand}
 use Rattle.clap.specs.Simple.{on_top}
-use Rattle.jkernel.specs.Words.{jkernel_command, kernelspec_command, replay_command, serve_command}
+use Rattle.jkernel.specs.Words.{replay_command, serve_command}
 use Rattle.jkernel.proofs.words.jkernel.Goals as goal
 
 -- the program's command before its commands are added
@@ -11,7 +11,7 @@ bare = on_top (λ top. record top { no_binary_name = true; has_version = true })
 
 pub returns : goal.returns
 returns c =
-    let top : app_of c.about.result ≡ bare = search rules in
+    let top : app_of c.after_help.result ≡ bare = search rules in
     let one : app_of c.in_ok-subcommand.field-0 ≡ with_subcommand bare replay_command.top =
     c.in_ok-subcommand.ensures.shape (search rules)
     ∙ ap₂ with_subcommand top (ap (λ (a : App). a.top) c.in_ok-replay.ensures.0) in

@@ -24,13 +24,13 @@ returns-in-Err-clause-ordered c =
     let words = map string_bytes c.args.words.now in
     let same = c.in_ok-jkernel.ensures in
     let has = c.in-Err.ensures.kinds (ap is_simple_and_free same ∙ command_is_free) in
-    IfOk-weaker c.told.result _ _ (λ order tells. is_helped words _ (app_of c.in_ok-jkernel.field-0) c.in-Err.error order
-    same c.heeded.ensures has tells) c.told.ensures.help
+    IfOk-weaker c.told.result _ _ (λ order tells. is_helped words _ (app_of c.in_ok-jkernel.field-0) c.in-Err.error
+    order same c.heeded.ensures has tells) c.told.ensures.help
 
 pub returns-in-Err-clause-refused : goal.returns-in-Err-clause-refused
 returns-in-Err-clause-refused c =
     let words = map string_bytes c.args.words.now in
     let same = c.in_ok-jkernel.ensures in
     let has = c.in-Err.ensures.kinds (ap is_simple_and_free same ∙ command_is_free) in
-    IfErr-weaker c.told.result _ _ (λ fault tells. is_refused words _ (app_of c.in_ok-jkernel.field-0) c.in-Err.error fault
-    same c.heeded.ensures has tells) c.told.ensures.refusal
+    IfErr-weaker c.told.result _ _ (λ fault tells. is_refused words _ (app_of c.in_ok-jkernel.field-0) c.in-Err.error
+    fault same c.heeded.ensures has tells) c.told.ensures.refusal

@@ -1,5 +1,5 @@
-use Rattle.std.proofs.Common.{rules, ◌≡◌, [], Some, None, option_map, unwrap_or, ap, sym, ◌∙◌}
-use Rattle.clap.specs.Words.{first_of, found_of, rows_of}
+use Rattle.std.proofs.Common.{rules, ◌∙◌}
+use Rattle.clap.specs.Words.{found_of}
 use Rattle.clap.proofs.WalkLemmas.{first_value-rows}
 use Rattle.jkernel.proofs.words.value_of.Goals as goal
 
