@@ -1,6 +1,6 @@
--- What a connection file says ('Jupyter Client', "Connection files"), and for what it is refused: the first reason, in the
--- order of the fields.
-use Rattle.std.specs.Prelude.{ℕ, List, Bool, ◌&&◌, nat_le, if◌then◌else◌, Option, Some, None, Result, Ok, Err, codes}
+-- What a connection file says ('Jupyter Client', "Connection files"), and for what it is refused: the first reason, in
+-- the order of the fields.
+use Rattle.std.specs.Prelude.{ℕ, List, ◌&&◌, nat_le, if◌then◌else◌, Option, Some, None, Result, Ok, Err, codes}
 use Rattle.std.specs.Prelude.{option_and_then, is_some}
 use Rattle.std.specs.Option.{ok_or, option_map_or}
 use Rattle.std.specs.Str.{bytes_eq}
@@ -23,6 +23,25 @@ field_name fields.ControlPort = codes "control_port"
 field_name fields.HbPort = codes "hb_port"
 field_name fields.SignatureScheme = codes "signature_scheme"
 field_name fields.Key = codes "key"
+
+-- the transport that a kernel speaks
+abbrev pub known_transport : List ℕ
+known_transport = codes "tcp"
+
+-- the scheme by which it signs
+abbrev pub known_scheme : List ℕ
+known_scheme = codes "hmac-sha256"
+
+-- what a field has to be, in words: the one text that is known, any text, or a port
+abbrev pub expected_words : Field → List ℕ
+expected_words fields.Transport = known_transport
+expected_words fields.Ip = codes "a text"
+expected_words fields.ShellPort = codes "a whole number from 1 to 65535"
+expected_words fields.IopubPort = codes "a whole number from 1 to 65535"
+expected_words fields.ControlPort = codes "a whole number from 1 to 65535"
+expected_words fields.HbPort = codes "a whole number from 1 to 65535"
+expected_words fields.SignatureScheme = known_scheme
+expected_words fields.Key = codes "a text"
 
 -- the number of a fault, from 40 on in the order in which the faults are listed
 abbrev pub connection_fault_number : ConnFault → ℕ
@@ -53,23 +72,23 @@ abbrev pub expected : List ℕ → ConnFault → List ℕ → Result Unit ConnFa
 expected wanted fault text = if bytes_eq text wanted then Ok tt else Err fault
 
 -- the first is judged, and the next where it isn't refused
-abbrev pub and_then : {A B : Type 0} → Result A ConnFault → (A → Result B ConnFault) → Result B ConnFault
-and_then (Ok value) next = next value
-and_then (Err fault) next = Err fault
+abbrev pub then_judged : {A B : Type 0} → Result A ConnFault → (A → Result B ConnFault) → Result B ConnFault
+then_judged (Ok value) next = next value
+then_judged (Err fault) next = Err fault
 
 -- what the fields of a connection file say
 abbrev pub fields_in : Data → Result Connection ConnFault
 fields_in file =
-    and_then (text_in fields.Transport file) (λ transport.
-    and_then (expected (codes "tcp") Transport transport) (λ known.
-    and_then (text_in fields.Ip file) (λ ip.
-    and_then (port_in fields.ShellPort file) (λ shell_port.
-    and_then (port_in fields.IopubPort file) (λ iopub_port.
-    and_then (port_in fields.ControlPort file) (λ control_port.
-    and_then (port_in fields.HbPort file) (λ hb_port.
-    and_then (text_in fields.SignatureScheme file) (λ scheme.
-    and_then (expected (codes "hmac-sha256") Scheme scheme) (λ signs.
-    and_then (text_in fields.Key file) (λ key.
+    then_judged (text_in fields.Transport file) (λ transport.
+    then_judged (expected known_transport Transport transport) (λ known.
+    then_judged (text_in fields.Ip file) (λ ip.
+    then_judged (port_in fields.ShellPort file) (λ shell_port.
+    then_judged (port_in fields.IopubPort file) (λ iopub_port.
+    then_judged (port_in fields.ControlPort file) (λ control_port.
+    then_judged (port_in fields.HbPort file) (λ hb_port.
+    then_judged (text_in fields.SignatureScheme file) (λ scheme.
+    then_judged (expected known_scheme Scheme scheme) (λ signs.
+    then_judged (text_in fields.Key file) (λ key.
     Ok (record {
       ip = ip;
       shell_port = shell_port;
@@ -90,4 +109,4 @@ object_of text = object_in (read text)
 
 -- what the text of a connection file says
 abbrev pub connection_of : List ℕ → Result Connection ConnFault
-connection_of text = and_then (object_of text) fields_in
+connection_of text = then_judged (object_of text) fields_in

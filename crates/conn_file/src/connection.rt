@@ -6,16 +6,10 @@ ghost use Rattle.conn_file.specs.Connection.{connection_of, expected, fields_in,
 ghost use Rattle.conn_file.specs.declared.fault.ConnFault.TheVariants.{OutOfMemory};
 
 use crate::fault::ConnFault;
-use crate::field::Field;
+use crate::field::{Field, SCHEME, TRANSPORT};
 use listed::{Octets, Text};
 use serde_json::Value;
 use std::alloc::Global;
-
-/// The transport that a kernel speaks.
-const TRANSPORT: &str = "tcp";
-
-/// The scheme by which it signs.
-const SCHEME: &str = "hmac-sha256";
 
 /// Where a kernel is to listen, and the key of its messages.
 #[derive(Debug, Drop)]
@@ -34,8 +28,8 @@ pub struct Connection {
     pub key: Octets,
 }
 
-/// Reads a connection file: a JSON object with the fields of `Field`, whose transport is `tcp` and whose signature scheme is
-/// `hmac-sha256`. Other keys are ignored; of a key that comes twice the last counts.
+/// Reads a connection file: a JSON object with the fields of `Field`, whose transport is `tcp` and whose signature
+/// scheme is `hmac-sha256`. Other keys are ignored; of a key that comes twice the last counts.
 ///
 /// # Errors
 ///

@@ -14,16 +14,16 @@ pub enum ConnFault {
     #[error("the file is no JSON object")]
     NotJson,
     /// A field is missing, or has to be a text and is none.
-    #[error("field {0} is missing or of a wrong kind")]
+    #[error("field {0} has to be there, and to be {expected}", expected = .0.expected())]
     Missing(Field),
     /// A port is there, and no whole number from 1 to 65535.
-    #[error("field {0} has to be a whole number from 1 to 65535")]
+    #[error("field {0} has to be {expected}", expected = .0.expected())]
     Port(Field),
     /// The transport isn't `tcp`.
-    #[error("field transport has to be tcp")]
+    #[error("field {} has to be {}", Field::Transport, Field::Transport.expected())]
     Transport,
     /// The signature scheme isn't `hmac-sha256`.
-    #[error("field signature_scheme has to be hmac-sha256")]
+    #[error("field {} has to be {}", Field::SignatureScheme, Field::SignatureScheme.expected())]
     Scheme,
     /// No memory was left.
     #[error("out of memory")]

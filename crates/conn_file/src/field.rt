@@ -4,6 +4,12 @@ ghost use Rattle.std.specs.Prelude.{◌≡◌};
 
 use std::fmt::{self, Display, Formatter, Write};
 
+/// The transport that a kernel speaks.
+pub(crate) const TRANSPORT: &str = "tcp";
+
+/// The scheme by which it signs.
+pub(crate) const SCHEME: &str = "hmac-sha256";
+
 /// A field of a connection file, in the order in which fields are judged. All others are ignored.
 #[derive(Clone, Copy, Debug, PartialEq, Eq)]
 pub enum Field {
@@ -26,7 +32,7 @@ pub enum Field {
 }
 
 impl Field {
-    ghost use Rattle.conn_file.specs.Connection.{field_name};
+    ghost use Rattle.conn_file.specs.Connection.{expected_words, field_name};
 
     /// The field's key in the file.
     pub fn name(self) -> &'static str
@@ -41,6 +47,19 @@ impl Field {
             Field::HbPort => "hb_port",
             Field::SignatureScheme => "signature_scheme",
             Field::Key => "key",
+        }
+    }
+
+    /// What the field has to be, in words.
+    pub fn expected(self) -> &'static str
+        ensures { result.now ≡ expected_words self }
+    {
+        match self {
+            Field::Transport => TRANSPORT,
+            Field::SignatureScheme => SCHEME,
+            Field::Ip | Field::Key => "a text",
+            Field::ShellPort | Field::IopubPort | Field::ControlPort | Field::HbPort =>
+                "a whole number from 1 to 65535",
         }
     }
 }

@@ -3,7 +3,8 @@
 ghost use Rattle.std.specs.Prelude.{◌≡◌, Some};
 ghost use Rattle.conn_file.specs.Kernelspec.{kernel_words, kernelspec, started_by};
 
-/// The text of `kernel.json`: how a server starts the kernel, what it shows of it, and how it interrupts it. Takes no memory.
+/// The text of `kernel.json`: how a server starts the kernel, what it shows of it, and how it interrupts it. Takes no
+/// memory.
 pub fn kernelspec_text() -> &'static str
     ensures text { result.now ≡ kernelspec }
 

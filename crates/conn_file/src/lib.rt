@@ -1,5 +1,5 @@
-//! The connection file that a Jupyter server hands to a kernel, and the kernelspec by which it finds one ('Jupyter Client',
-//! "Making kernels for Jupyter", "Connection files" and "Kernel specs").
+//! The connection file that a Jupyter server hands to a kernel, and the kernelspec by which it finds one ('Jupyter
+//! Client', "Making kernels for Jupyter", "Connection files" and "Kernel specs").
 #![tactic(auto)]
 
 mod connection;

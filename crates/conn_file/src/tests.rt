@@ -197,13 +197,24 @@ fn what_is_no_json_object_is_refused(rt: HostRuntime) -> Result<(), Fail> {
 }
 
 #[test]
+fn a_transport_or_a_scheme_alone_is_refused(rt: HostRuntime) -> Result<(), Fail> {
+    let transport = refused(rt.alloc(), &[("transport", r#""ipc""#)])?;
+    assert_eq!(rt; transport, Some(ConnFault::Transport));
+    assert_eq!(rt; transport.map(ConnFault::number), Some(43));
+    let scheme = refused(rt.alloc(), &[("signature_scheme", r#""hmac-md5""#)])?;
+    assert_eq!(rt; scheme, Some(ConnFault::Scheme));
+    assert_eq!(rt; scheme.map(ConnFault::number), Some(44));
+    Ok(())
+}
+
+#[test]
 fn faults_have_numbers_and_words(rt: HostRuntime) -> Result<(), Fail> {
     for (fault, number, words) in [
         (ConnFault::NotJson, 40, "the file is no JSON object"),
         (
             ConnFault::Missing(Field::Key),
             41,
-            "field key is missing or of a wrong kind",
+            "field key has to be there, and to be a text",
         ),
         (
             ConnFault::Port(Field::HbPort),
@@ -220,6 +231,72 @@ fn faults_have_numbers_and_words(rt: HostRuntime) -> Result<(), Fail> {
     ] {
         assert_eq!(rt; fault.number(), number);
         assert_eq!(rt; fault.to_string(rt.alloc())?.as_str(), words);
+    }
+    Ok(())
+}
+
+#[test]
+fn a_missing_field_is_told_with_what_is_expected(rt: HostRuntime) -> Result<(), Fail> {
+    for (field, words) in [
+        (
+            Field::Transport,
+            "field transport has to be there, and to be tcp",
+        ),
+        (Field::Ip, "field ip has to be there, and to be a text"),
+        (
+            Field::ShellPort,
+            "field shell_port has to be there, and to be a whole number from 1 to 65535",
+        ),
+        (
+            Field::IopubPort,
+            "field iopub_port has to be there, and to be a whole number from 1 to 65535",
+        ),
+        (
+            Field::ControlPort,
+            "field control_port has to be there, and to be a whole number from 1 to 65535",
+        ),
+        (
+            Field::HbPort,
+            "field hb_port has to be there, and to be a whole number from 1 to 65535",
+        ),
+        (
+            Field::SignatureScheme,
+            "field signature_scheme has to be there, and to be hmac-sha256",
+        ),
+        (Field::Key, "field key has to be there, and to be a text"),
+    ] {
+        assert_eq!(rt;
+            ConnFault::Missing(field).to_string(rt.alloc())?.as_str(),
+            words
+        );
+    }
+    Ok(())
+}
+
+#[test]
+fn a_wrong_port_is_told_with_its_field(rt: HostRuntime) -> Result<(), Fail> {
+    for (field, words) in [
+        (
+            Field::ShellPort,
+            "field shell_port has to be a whole number from 1 to 65535",
+        ),
+        (
+            Field::IopubPort,
+            "field iopub_port has to be a whole number from 1 to 65535",
+        ),
+        (
+            Field::ControlPort,
+            "field control_port has to be a whole number from 1 to 65535",
+        ),
+        (
+            Field::HbPort,
+            "field hb_port has to be a whole number from 1 to 65535",
+        ),
+    ] {
+        assert_eq!(rt;
+            ConnFault::Port(field).to_string(rt.alloc())?.as_str(),
+            words
+        );
     }
     Ok(())
 }

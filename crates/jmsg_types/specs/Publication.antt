@@ -31,13 +31,8 @@ publication_type (CommClose comm_id) = codes "comm_close"
 
 -- the topic under which a publication goes out: its message type, of a stream with its name
 abbrev pub topic : Publication → List ℕ
-topic (Status state) = codes "status"
-topic (ExecuteInput code count) = codes "execute_input"
-topic (Stream err text) = codes "stream." ++ stream_name err
-topic (ExecuteResult text count) = codes "execute_result"
-topic (Display text) = codes "display_data"
-topic (Error ename evalue) = codes "error"
-topic (CommClose comm_id) = codes "comm_close"
+topic (Stream err text) = publication_type (Stream err text) ++ codes "." ++ stream_name err
+topic publication = publication_type publication
 
 -- a cell that failed ("Execution errors")
 abbrev pub failure_data : List ℕ → List ℕ → Data

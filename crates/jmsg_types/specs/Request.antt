@@ -128,7 +128,8 @@ known_request kind content = and_then (members_in content) (row_of kind).fields
 
 -- the request of a message type and a content, or why it is refused; of an unknown type the content isn't read
 abbrev pub request_in : List ℕ → List ℕ → Result Request Refusal
-request_in msg_type content = option_map_or (λ kind. known_request kind content) (message_type msg_type) (Ok asks.Unknown)
+request_in msg_type content =
+    option_map_or (λ kind. known_request kind content) (message_type msg_type) (Ok asks.Unknown)
 
 -- the user expressions of a request, where it has any, stand by the order of their names' octets
 abbrev pub ExpressionsRise : Request → Type 0

@@ -204,51 +204,58 @@ fn the_first_wrong_field_is_named(rt: HostRuntime) -> Result<(), Fail> {
 // Of a key that comes twice the last counts, and its kind is judged.
 #[test]
 fn the_last_of_two_equal_keys_counts(rt: HostRuntime) -> Result<(), Fail> {
-    let rows: [(&str, &str, &str); 8] = [
+    let rows: [(&str, &str, &str); 5] = [
         (
             "is_complete_request",
-            "{\"code\":\"1\",\"code\":\"2\"}",
+            r#"{"code":"1","code":"2"}"#,
             "is complete <2>",
         ),
         (
             "is_complete_request",
-            "{\"code\":1,\"code\":\"2\"}",
+            r#"{"code":1,"code":"2"}"#,
             "is complete <2>",
         ),
+        ("is_complete_request", r#"{"code":"2","code":1}"#, "32 code"),
         (
             "is_complete_request",
-            "{\"code\":\"2\",\"code\":1}",
-            "32 code",
-        ),
-        (
-            "is_complete_request",
-            "{\"code\":\"2\",\"\\u0063ode\":\"3\"}",
+            r#"{"code":"2","\u0063ode":"3"}"#,
             "is complete <3>",
         ),
         (
             "shutdown_request",
-            "{\"restart\":true,\"restart\":false}",
+            r#"{"restart":true,"restart":false}"#,
             "shutdown false",
-        ),
-        (
-            "execute_request",
-            "{\"code\":\"\",\"user_expressions\":{\"a\":\"1\",\"b\":\"2\",\"a\":\"3\"}}",
-            "execute <> false true <a=3;b=2;> true true",
-        ),
-        (
-            "execute_request",
-            "{\"code\":\"\",\"user_expressions\":{\"a\":1,\"a\":\"3\"}}",
-            "execute <> false true <a=3;> true true",
-        ),
-        (
-            "execute_request",
-            "{\"code\":\"\",\"user_expressions\":{\"a\":\"3\",\"a\":1}}",
-            "32 user_expressions",
         ),
     ];
     for (msg_type, content, expected) in rows {
         let read = answer(rt.alloc(), msg_type, content.as_bytes())?;
         assert_eq!(rt; read.as_str(), expected, "{msg_type} {content}");
+    }
+    Ok(())
+}
+
+// The same of two user expressions of one name.
+#[test]
+fn the_last_of_two_equal_expressions_counts(rt: HostRuntime) -> Result<(), Fail> {
+    let rows: [(&str, &str); 3] = [
+        (
+            r#"{"a":"1","b":"2","a":"3"}"#,
+            "execute <1> false true <a=3;b=2;> true true",
+        ),
+        (
+            r#"{"a":1,"a":"3"}"#,
+            "execute <1> false true <a=3;> true true",
+        ),
+        (r#"{"a":"3","a":1}"#, "32 user_expressions"),
+    ];
+    for (expressions, expected) in rows {
+        let read = with_field(
+            rt.alloc(),
+            "execute_request",
+            "user_expressions",
+            expressions,
+        )?;
+        assert_eq!(rt; read.as_str(), expected, "{expressions}");
     }
     Ok(())
 }

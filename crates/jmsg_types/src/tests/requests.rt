@@ -4,8 +4,64 @@ use super::answer;
 use std::test::Fail;
 
 #[test]
-fn reads_each_type(rt: HostRuntime) -> Result<(), Fail> {
-    let rows: [(&str, &str, &str); 17] = [
+fn reads_cells_to_run(rt: HostRuntime) -> Result<(), Fail> {
+    let rows: [(&str, &str); 4] = [
+        (r#"{"code":"1"}"#, "execute <1> false true <> true true"),
+        (
+            "{\"code\":\"x\",\"silent\":false,\"store_history\":true,\"user_expressions\":{},\"allow_stdin\":true,\
+             \"stop_on_error\":true}",
+            "execute <x> false true <> true true",
+        ),
+        (
+            r#"{"code":"","stop_on_error":false,"allow_stdin":false,"store_history":false}"#,
+            "execute <> false false <> false false",
+        ),
+        (
+            r#"{"code":"y=4","store_history":false,"user_expressions":{"b":"1/0","a":"y*y"}}"#,
+            "execute <y=4> false false <a=y*y;b=1/0;> true true",
+        ),
+    ];
+    for (content, expected) in rows {
+        let read = answer(rt.alloc(), "execute_request", content.as_bytes())?;
+        assert_eq!(rt; read.as_str(), expected, "{content}");
+    }
+    Ok(())
+}
+
+#[test]
+fn reads_questions_about_a_code(rt: HostRuntime) -> Result<(), Fail> {
+    let rows: [(&str, &str, &str); 4] = [
+        (
+            "complete_request",
+            r#"{"code":"ab","cursor_pos":1}"#,
+            "complete <ab> 1",
+        ),
+        (
+            "inspect_request",
+            r#"{"code":"ab","cursor_pos":1,"detail_level":1}"#,
+            "inspect <ab> 1 1",
+        ),
+        (
+            "inspect_request",
+            r#"{"code":"ab","cursor_pos":0}"#,
+            "inspect <ab> 0 0",
+        ),
+        (
+            "is_complete_request",
+            r#"{"code":"1+"}"#,
+            "is complete <1+>",
+        ),
+    ];
+    for (msg_type, content, expected) in rows {
+        let read = answer(rt.alloc(), msg_type, content.as_bytes())?;
+        assert_eq!(rt; read.as_str(), expected, "{msg_type} {content}");
+    }
+    Ok(())
+}
+
+#[test]
+fn reads_requests_without_a_code(rt: HostRuntime) -> Result<(), Fail> {
+    let rows: [(&str, &str, &str); 9] = [
         ("kernel_info_request", "{}", "kernel info"),
         (
             "kernel_info_request",
@@ -13,58 +69,17 @@ fn reads_each_type(rt: HostRuntime) -> Result<(), Fail> {
             "kernel info",
         ),
         (
-            "execute_request",
-            "{\"code\":\"1\"}",
-            "execute <1> false true <> true true",
-        ),
-        (
-            "execute_request",
-            "{\"code\":\"x\",\"silent\":false,\"store_history\":true,\"user_expressions\":{},\"allow_stdin\":true,\
-             \"stop_on_error\":true}",
-            "execute <x> false true <> true true",
-        ),
-        (
-            "execute_request",
-            "{\"code\":\"\",\"stop_on_error\":false,\"allow_stdin\":false,\"store_history\":false}",
-            "execute <> false false <> false false",
-        ),
-        (
-            "execute_request",
-            "{\"code\":\"y=4\",\"store_history\":false,\"user_expressions\":{\"b\":\"1/0\",\"a\":\"y*y\"}}",
-            "execute <y=4> false false <a=y*y;b=1/0;> true true",
-        ),
-        (
-            "complete_request",
-            "{\"code\":\"ab\",\"cursor_pos\":1}",
-            "complete <ab> 1",
-        ),
-        (
-            "inspect_request",
-            "{\"code\":\"ab\",\"cursor_pos\":1,\"detail_level\":1}",
-            "inspect <ab> 1 1",
-        ),
-        (
-            "inspect_request",
-            "{\"code\":\"ab\",\"cursor_pos\":0}",
-            "inspect <ab> 0 0",
-        ),
-        (
-            "is_complete_request",
-            "{\"code\":\"1+\"}",
-            "is complete <1+>",
-        ),
-        (
             "history_request",
-            "{\"output\":true,\"raw\":true,\"hist_access_type\":\"tail\",\"n\":10}",
+            r#"{"output":true,"raw":true,"hist_access_type":"tail","n":10}"#,
             "history",
         ),
-        ("comm_info_request", "{\"target_name\":\"t\"}", "comm info"),
+        ("comm_info_request", r#"{"target_name":"t"}"#, "comm info"),
         (
             "comm_open",
-            "{\"comm_id\":\"c\",\"target_name\":\"t\",\"data\":{}}",
+            r#"{"comm_id":"c","target_name":"t","data":{}}"#,
             "comm open <c>",
         ),
-        ("comm_msg", "{\"comm_id\":\"c\",\"data\":{}}", "comm msg"),
+        ("comm_msg", r#"{"comm_id":"c","data":{}}"#, "comm msg"),
         ("comm_close", "{}", "comm close"),
         ("shutdown_request", "{}", "shutdown false"),
         ("interrupt_request", "{}", "interrupt"),
