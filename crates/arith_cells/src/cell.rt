@@ -16,7 +16,7 @@ use std::io::{self, Write};
 /// # Errors
 ///
 /// Of the writer, or where memory was refused, to the interpreter too. A part may be printed then.
-pub(crate) fn run_cell<I: Interpreter, W: Write>(
+pub fn run_cell<I: Interpreter, W: Write>(
     alloc: Global,
     interpreter: &mut I,
     code: &str,
