@@ -7,7 +7,6 @@ ghost use Rattle.arith_cells.specs.Printed.{CellPrints, FoundMemory, IsReported,
 ghost use Rattle.arith_cells.specs.Printed.{goes_on, line, next_text, output_text, step_text};
 
 use interp_core::{InterpFault, Interpreter, Next, Output, Stepped, fault_words};
-use listed::Text;
 use std::alloc::{AllocError, Global};
 use std::io::{self, Write};
 
