@@ -7,7 +7,6 @@ ghost use Rattle.arith_cells.specs.Printed.{CellPrints, FoundMemory, IsReported,
 ghost use Rattle.arith_cells.specs.Printed.{goes_on, line, next_text, output_text, step_text};
 
 use interp_core::{InterpFault, Interpreter, Next, Output, Stepped, fault_words};
-use listed::Text;
 use std::alloc::{AllocError, Global};
 use std::io::{self, Write};
 
@@ -16,7 +15,7 @@ use std::io::{self, Write};
 /// # Errors
 ///
 /// Of the writer, or where memory was refused, to the interpreter too. A part may be printed then.
-pub(crate) fn run_cell<I: Interpreter, W: Write>(
+pub fn run_cell<I: Interpreter, W: Write>(
     alloc: Global,
     interpreter: &mut I,
     code: &str,

@@ -14,7 +14,7 @@ use std::str;
 
 /// Runs each line of an input as a cell, and tells how the program ends: done where all that the lines print was
 /// printed and flushed, and else failed.
-pub(crate) fn run_input<I: Interpreter, R: BufRead, W: Write>(
+pub fn run_input<I: Interpreter, R: BufRead, W: Write>(
     alloc: Global,
     interpreter: &mut I,
     reader: &mut R,

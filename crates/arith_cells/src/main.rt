@@ -8,8 +8,6 @@
 mod cell;
 mod lines;
 mod status;
-#[cfg(test)]
-mod tests;
 
 use arith_shell::ShellArith;
 use lines::run_input;
@@ -41,3 +39,6 @@ fn run<R: Input + Print + AllocGlobal>(rt: &R) -> Status {
     };
     run_input(alloc, &mut ShellArith::new(alloc), &mut reader, &mut writer)
 }
+
+#[cfg(test)]
+mod tests;

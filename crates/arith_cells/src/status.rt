@@ -12,7 +12,7 @@ use std::io::{self, ErrorKind};
 
 /// How the program ends.
 #[derive(Clone, Copy, Debug, PartialEq, Eq)]
-pub(crate) enum Status {
+pub enum Status {
     /// Each line was run, and what that prints was printed.
     Done,
     /// No memory was left, a line is no UTF-8, or the input or the output failed.
@@ -23,7 +23,7 @@ pub(crate) enum Status {
 
 impl Status {
     /// The exit status of the program.
-    pub(crate) fn code(self) -> u8
+    pub fn code(self) -> u8
         ensures { result ≡ exit_code self }
     {
         match self {
@@ -34,7 +34,7 @@ impl Status {
     }
 
     /// The line for a person on standard error, where there is one.
-    pub(crate) fn line(self) -> Option<&'static str>
+    pub fn line(self) -> Option<&'static str>
         ensures { option_map (λ line. line.now) result ≡ exit_line self }
     {
         match self {
@@ -47,7 +47,7 @@ impl Status {
 
 /// How the program ends by its command words alone, the first of which is its own name: words that aren't UTF-8 are
 /// refused as any others are, and want of memory for them is a failure. Nothing where there are none.
-pub(crate) fn judge_words(words: io::Result<Args>) -> Option<Status>
+pub fn judge_words(words: io::Result<Args>) -> Option<Status>
     ensures refused { IfOk words (λ words. (result ≡ Some WordsRefused) ↔ (1 < into_iter_len words)) }
     ensures none { IfOk words (λ words. (result ≡ None) ↔ (into_iter_len words ≤ 1)) }
     ensures no_text { IfErr words (λ error. error_kind error ≡ InvalidData → result ≡ Some WordsRefused) }

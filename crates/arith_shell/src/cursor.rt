@@ -1,6 +1,6 @@
 //! The word at a cursor.
 
-ghost use Rattle.std.specs.Prelude.{◌≡◌, length, take, string_bytes, MatchResult};
+ghost use Rattle.std.specs.Prelude.{◌≡◌, length, take, MatchResult};
 ghost use Rattle.std.specs.Str.{chars};
 ghost use Rattle.arith_shell.specs.declared.cursor.Word.{Word};
 ghost use Rattle.interp_core.specs.declared.fault.InterpFault.TheVariants.{OutOfMemory};

@@ -2,7 +2,7 @@
 
 ghost use Rattle.std.specs.Bool.{nat_le};
 ghost use Rattle.std.specs.Prelude.{◌≡◌, ◌≤◌};
-ghost use Rattle.arith_syntax.specs.Grammar.{operator_level, tree_of};
+ghost use Rattle.arith_syntax.specs.Grammar.{tree_of};
 ghost use Rattle.arith_syntax.specs.Machine.{rank, room, room_of, settle, start, advance, sign_of, take_due};
 ghost use Rattle.arith_syntax.specs.Machine.{take_behind, take_colon, take_close, take_assign, close, begun_of};
 ghost use Rattle.arith_syntax.specs.Machine.{stack_of, state_of};

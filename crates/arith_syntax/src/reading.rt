@@ -13,7 +13,7 @@ use crate::expression::Expression;
 use crate::fault::ReadFault;
 use crate::lexer::tokens;
 use crate::parser::parse;
-use crate::token::{Placed, Token};
+use crate::token::Placed;
 use std::alloc::Global;
 use std::collections::VecDeque;
 

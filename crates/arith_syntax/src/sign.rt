@@ -1,6 +1,6 @@
 //! The sign that a text begins with.
 
-ghost use Rattle.std.specs.Prelude.{[], ◌∷◌, ◌≡◌, ◌≢◌};
+ghost use Rattle.std.specs.Prelude.{[], ◌∷◌, ◌≢◌};
 ghost use Rattle.arith_syntax.specs.Lexed.{SpellsSign, BeginsWithSign};
 
 use crate::octet::octet_at;

@@ -1,6 +1,6 @@
 //! The interface of an interpreter.
 
-ghost use Rattle.std.specs.Prelude.{◌≡◌, ℕ, ◌+◌, ◌<◌, []};
+ghost use Rattle.std.specs.Prelude.{◌≡◌, ◌+◌, ◌<◌, []};
 ghost use Rattle.interp_core.specs.Interpreter.{Answers, ByMemory, IsEnd, Laws, Meaning, OnMemory};
 
 use crate::answer::{Completeness, Completion, Info, Stepped};

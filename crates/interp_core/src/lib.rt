@@ -1,5 +1,5 @@
-//! The interface of an interpreter: what its calls answer, step by step, and the laws of that. It says nothing of a
-//! language.
+//! The interface of an interpreter: what its calls answer, step by step, and the laws of that. Of a language it has
+//! only the faults: those of a language of whole numbers, with results of 64 bits.
 #![tactic(auto)]
 
 mod answer;

@@ -65,6 +65,7 @@ pub fn open_envelope(
     })
 }
 
+/// Whether the signature is that of the parts; under an empty key every one is.
 fn is_signed(signer: &Signer, split: &Split) -> bool
     ensures right { IsTrue result → IsSigned signer.now (parts_of split.now) }
     ensures wrong { IsFalse result → IsMissigned signer.now (parts_of split.now) }
@@ -81,6 +82,7 @@ fn is_signed(signer: &Signer, split: &Split) -> bool
     are_same_digits(&split.signature, &digits)
 }
 
+/// Whether two rows of hex digits are the same, in upper case or lower.
 fn are_same_digits(left: &[u8], right: &[u8]) -> bool
     ensures { IsTrue result ↔ (lower_case left.now ≡ lower_case right.now) }
 {

@@ -30,6 +30,7 @@ pub fn header_text(
     Ok(text.into_bytes())
 }
 
+/// A header that the kernel writes, as JSON.
 fn header_value(
     alloc: Global,
     session: &str,
@@ -68,6 +69,7 @@ pub(crate) fn read_names(alloc: Global, octets: &[u8]) -> Result<(Text, Text), E
     Ok((Text::new(id), Text::new(kind)))
 }
 
+/// Reads the octets of a header as JSON.
 fn read_header(alloc: Global, octets: &[u8]) -> Result<Value, EnvelopeFault>
     ensures ok { IfOk result (λ header. header_names octets.now ≡ names_of (view header)) }
     ensures err { IfErr result (λ fault. (fault ≡ EnvelopeFault.OutOfMemory)
@@ -80,6 +82,7 @@ fn read_header(alloc: Global, octets: &[u8]) -> Result<Value, EnvelopeFault>
     }
 }
 
+/// The text under a key of a header, where there is one.
 fn text_under<'v>(header: &'v Value, key: &str) -> Option<&'v str>
     ensures { option_map (λ text. text.now) result ≡ text_at key.now (view header.now) }
 {

@@ -5,10 +5,13 @@ ghost use Rattle.jmsg_envelope.specs.Hmac.{hmac, key_block, zero_padded, xored, 
 
 use sha2::{Digest, Sha256};
 
+/// How many octets SHA-256 takes in at a time.
 const BLOCK_LENGTH: usize = 64;
 
+/// What masks each octet of the key for the inner hash.
 const INNER_PAD: u8 = 0x36;
 
+/// What masks each octet of the key for the outer hash.
 const OUTER_PAD: u8 = 0x5C;
 
 /// The HMAC-SHA256 of the parts, joined in their order, under `key` (RFC 2104, section 2).
@@ -29,6 +32,7 @@ pub fn hmac_sha256(key: &[u8], parts: &[&[u8]]) -> [u8; 32]
     outer.finalize()
 }
 
+/// The key as one block: hashed first where it is longer.
 fn block_of_key(key: &[u8]) -> [u8; BLOCK_LENGTH]
     ensures { result ≡ key_block key.now }
 {
@@ -39,6 +43,7 @@ fn block_of_key(key: &[u8]) -> [u8; BLOCK_LENGTH]
     }
 }
 
+/// A key that fits a block, with zeros behind it.
 fn padded(key: &[u8]) -> [u8; BLOCK_LENGTH]
     requires { length key.now ≤ block_length }
     ensures { result ≡ zero_padded key.now }
@@ -48,6 +53,7 @@ fn padded(key: &[u8]) -> [u8; BLOCK_LENGTH]
     block
 }
 
+/// A block with each octet masked by `pad`.
 fn masked(block: &[u8; BLOCK_LENGTH], pad: u8) -> [u8; BLOCK_LENGTH]
     ensures { result ≡ xored pad block.now }
 {

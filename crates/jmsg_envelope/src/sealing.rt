@@ -42,6 +42,7 @@ pub fn seal(
     Ok(frames)
 }
 
+/// The signature of the four parts, in hex digits; under an empty key it is empty.
 fn signature_text(
     alloc: Global,
     signer: &Signer,

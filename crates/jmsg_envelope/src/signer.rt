@@ -12,6 +12,7 @@ use std::marker::Model;
 /// Under an empty key nothing is signed and no signature is looked at.
 #[derive(Drop)]
 pub struct Signer {
+    /// The key; empty where nothing is signed.
     key: Vec<u8>,
 }
 
@@ -31,6 +32,7 @@ impl Signer {
         Signer { key }
     }
 
+    /// Whether the key is empty, so that nothing is signed.
     pub(crate) fn is_keyless(&self) -> bool
         ensures { IsTrue result ↔ (self.now ≡ []) }
     {

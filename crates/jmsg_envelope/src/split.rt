@@ -16,12 +16,19 @@ const FIXED_FRAMES: usize = 6;
 /// The frames of a message by their parts, cut at the first delimiter.
 #[derive(Drop)]
 pub(crate) struct Split {
+    /// The frames before the delimiter.
     pub(crate) identities: Vec<Vec<u8>>,
+    /// The signature, in hex digits.
     pub(crate) signature: Vec<u8>,
+    /// The header.
     pub(crate) header: Vec<u8>,
+    /// The parent header.
     pub(crate) parent: Vec<u8>,
+    /// The metadata.
     pub(crate) metadata: Vec<u8>,
+    /// The content.
     pub(crate) content: Vec<u8>,
+    /// The frames after the content.
     pub(crate) buffers: Vec<Vec<u8>>,
 }
 
@@ -55,6 +62,7 @@ pub(crate) fn cut_frames(mut frames: Vec<Vec<u8>>) -> Result<Split, EnvelopeFaul
     })
 }
 
+/// Where the first delimiter stands.
 fn delimiter_at(frames: &[Vec<u8>]) -> Option<usize>
     ensures { result ≡ position (λ frame. is_delimiter frame.items) frames.now }
 {

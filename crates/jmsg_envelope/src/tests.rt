@@ -4,15 +4,19 @@ use super::*;
 use std::alloc::{AllocError, Global};
 use std::test::Fail;
 
+/// The text of RFC 4231, section 4.3.
 const WANTED: &[u8] = b"what do ya want for nothing?";
 
+/// A header with the two names that are read.
 const HEADER: &[u8] = b"{\"msg_id\":\"a1\",\"msg_type\":\"kernel_info_request\"}";
 
 /// The code of `HEADER` and three times `{}` under the key `secret`.
 const DIGITS: &[u8] = b"0d95933f4e109d19e2d8a8a169142cdd5cc6564ee7ef081b5ccc30ba04258a90";
 
+/// The same code in upper case.
 const UPPER_DIGITS: &[u8] = b"0D95933F4E109D19E2D8A8A169142CDD5CC6564EE7EF081B5CCC30BA04258A90";
 
+/// The same code with another first digit.
 const WRONG_DIGITS: &[u8] = b"1d95933f4e109d19e2d8a8a169142cdd5cc6564ee7ef081b5ccc30ba04258a90";
 
 /// RFC 4231, sections 4.2 and 4.3, and keys of one block and of one octet more.
@@ -56,6 +60,7 @@ fn codes_of_known_texts(rt: HostRuntime) {
     }
 }
 
+/// Frames with these octets.
 fn frames_of(alloc: Global, bodies: &[&[u8]]) -> Result<Vec<Vec<u8>>, AllocError> {
     let mut frames = Vec::new(alloc);
     for body in bodies {
@@ -102,59 +107,55 @@ fn what_is_sealed_is_opened(rt: HostRuntime) -> Result<(), Fail> {
     Ok(())
 }
 
+/// The number of the fault for which these frames are refused; 0 where they are opened.
+fn judged(alloc: Global, signer: &Signer, bodies: &[&[u8]]) -> Result<u8, AllocError> {
+    let opened = open_envelope(alloc, signer, frames_of(alloc, bodies)?);
+    Ok(opened.err().map_or(0, EnvelopeFault::number))
+}
+
 #[test]
-fn frames_are_judged(rt: HostRuntime) -> Result<(), Fail> {
+fn signed_frames_are_judged(rt: HostRuntime) -> Result<(), Fail> {
     let alloc = rt.alloc();
     let signer = Signer::new(b"secret".to_vec(alloc)?);
-    let keyless = Signer::new(Vec::new(alloc));
-    let judged: [(&Signer, &[&[u8]], u8); 8] = [
+    let rows: [(&[&[u8]], u8); 5] = [
+        (&[b"<IDS|MSG>", DIGITS, HEADER, b"{}", b"{}", b"{}"], 0),
         (
-            &signer,
-            &[b"<IDS|MSG>", DIGITS, HEADER, b"{}", b"{}", b"{}"],
-            0,
-        ),
-        (
-            &signer,
             &[b"<IDS|MSG>", UPPER_DIGITS, HEADER, b"{}", b"{}", b"{}"],
             0,
         ),
-        (&keyless, &[b"<IDS|MSG>", b"any", HEADER, b"", b"", b""], 0),
-        (&signer, &[DIGITS, HEADER, b"{}", b"{}", b"{}"], 20),
-        (&signer, &[b"<IDS|MSG>", DIGITS, HEADER, b"{}", b"{}"], 21),
+        (&[DIGITS, HEADER, b"{}", b"{}", b"{}"], 20),
+        (&[b"<IDS|MSG>", DIGITS, HEADER, b"{}", b"{}"], 21),
         (
-            &signer,
             &[b"<IDS|MSG>", WRONG_DIGITS, HEADER, b"{}", b"{}", b"{}"],
             22,
         ),
-        (
-            &keyless,
-            &[b"<IDS|MSG>", b"", b"[]", b"{}", b"{}", b"{}"],
-            23,
-        ),
-        (
-            &keyless,
-            &[
-                b"<IDS|MSG>",
-                b"",
-                b"{\"msg_id\":\"a1\",\"msg_type\":1}",
-                b"{}",
-                b"{}",
-                b"{}",
-            ],
-            23,
-        ),
     ];
-    for (signer, bodies, number) in judged {
-        let found = match open_envelope(alloc, signer, frames_of(alloc, bodies)?) {
-            Ok(_) => 0,
-            Err(fault) => fault.number(),
-        };
-        assert_eq!(rt; found, number);
+    for (bodies, number) in rows {
+        assert_eq!(rt; judged(alloc, &signer, bodies)?, number);
     }
-    assert_eq!(rt; EnvelopeFault::OutOfMemory.number(), 24);
     Ok(())
 }
 
+#[test]
+fn unsigned_frames_are_judged(rt: HostRuntime) -> Result<(), Fail> {
+    let alloc = rt.alloc();
+    let keyless = Signer::new(Vec::new(alloc));
+    let number_for_type: &[u8] = br#"{"msg_id":"a1","msg_type":1}"#;
+    let rows: [(&[&[u8]], u8); 3] = [
+        (&[b"<IDS|MSG>", b"any", HEADER, b"", b"", b""], 0),
+        (&[b"<IDS|MSG>", b"", b"[]", b"{}", b"{}", b"{}"], 23),
+        (
+            &[b"<IDS|MSG>", b"", number_for_type, b"{}", b"{}", b"{}"],
+            23,
+        ),
+    ];
+    for (bodies, number) in rows {
+        assert_eq!(rt; judged(alloc, &keyless, bodies)?, number);
+    }
+    Ok(())
+}
+
+/// A stamp whose ids are numbered, and whose date stays.
 #[derive(Drop)]
 struct Replay;
 
@@ -195,6 +196,11 @@ fn header_by_a_stamp(rt: HostRuntime) -> Result<(), Fail> {
         .as_bytes()
     );
     Ok(())
+}
+
+#[test]
+fn want_of_memory_has_its_number(rt: HostRuntime) {
+    assert_eq!(rt; EnvelopeFault::OutOfMemory.number(), 24);
 }
 
 #[test]

@@ -1,6 +1,6 @@
 //! Hearing what a peer says behind its READY, and having it answered.
 
-ghost use Rattle.std.specs.Prelude.{◌≡◌, ◌<◌, ◌⊎◌, ℕ, List, length, IfOk, IfErr};
+ghost use Rattle.std.specs.Prelude.{◌<◌, ◌⊎◌, ℕ, List, length, IfOk, IfErr};
 ghost use Rattle.kernel_engine.specs.Exchange.{Exchange};
 ghost use Rattle.kernel_engine.specs.Steps.{IsFed, HearsOn, HearsPiece, HearsNone, PutsAnswer, AnswersFed};
 

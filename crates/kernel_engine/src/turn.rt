@@ -1,6 +1,6 @@
 //! A read, and a write, of an exchange.
 
-ghost use Rattle.std.specs.Prelude.{◌≡◌, ◌<◌, ◌≤◌, ℕ, List, [], length, take, IfOk, IfErr};
+ghost use Rattle.std.specs.Prelude.{◌<◌, ◌≤◌, [], length, take, IfOk, IfErr};
 ghost use Rattle.kernel_engine.specs.Exchange.{Reading};
 ghost use Rattle.kernel_engine.specs.Steps.{Leg, IsStop, PutsAll};
 

@@ -8,6 +8,7 @@ use std::marker::Model;
 /// The frames of a message that are owned: a contract sees the list of their bodies.
 #[derive(Debug, Drop)]
 pub struct Frames {
+    /// The frames, each with its body.
     items: Vec<Vec<u8>>,
 }
 

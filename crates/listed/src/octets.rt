@@ -7,6 +7,7 @@ use std::marker::Model;
 /// Octets that are owned: a contract sees the list of them.
 #[derive(Debug, Drop)]
 pub struct Octets {
+    /// The octets.
     items: Vec<u8>,
 }
 

@@ -7,6 +7,7 @@ use std::marker::Model;
 /// Values in a row that are owned: a contract sees the list of them.
 #[derive(Debug, Drop)]
 pub struct Row<T> {
+    /// The values, in their order.
     items: Vec<T>,
 }
 

@@ -7,6 +7,7 @@ use std::marker::Model;
 /// A text that is owned: a contract sees the list of its octets, in UTF-8.
 #[derive(Debug, Drop)]
 pub struct Text {
+    /// The text.
     text: String,
 }
 

@@ -18,6 +18,7 @@ use std::{env, io};
 /// How often each time is taken. The best is told.
 const ROUNDS: u32 = 5;
 
+/// Reads the command words and standard input, and does the run that they name.
 fn main(rt: HostRuntime) -> io::Result<()> {
     let mut words = env::args(&rt)?;
     let _program = words.next();

@@ -1,8 +1,8 @@
 //! What has come of traffic that isn't whole, and the steps by which it grows.
 
-ghost use Rattle.std.specs.Prelude.{◌≡◌, ◌+◌, ◌-◌, ◌<◌, ◌≤◌, ◌^◌, ◌∷◌, ◌++◌, ℕ, List, length, take, drop, IfOk, IfErr};
-ghost use Rattle.std.specs.Prelude.{IfSome, OnOk, true, [], Ok};
-ghost use Rattle.zmtp_wire.specs.Frame.{flags_octet, front_octets, size_bound, size_octets, bodies_of};
+ghost use Rattle.std.specs.Prelude.{◌≡◌, ◌+◌, ◌-◌, ◌<◌, ◌≤◌, ◌∷◌, ◌++◌, ℕ, List, length, take, drop, IfOk, IfErr};
+ghost use Rattle.std.specs.Prelude.{OnOk, [], Ok};
+ghost use Rattle.zmtp_wire.specs.Frame.{flags_octet, front_octets, size_bound, bodies_of};
 ghost use Rattle.zmtp_wire.specs.Grammar.{AcceptsFlags, IsRefused};
 ghost use Rattle.zmtp_wire.specs.Pending.{size_len, head_of, pending_octets, bodies_before, AcceptsSize, IsFront};
 ghost use Rattle.zmtp_wire.specs.Pending.{IsPending, Keeps, Refuses};
