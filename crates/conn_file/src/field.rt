@@ -65,6 +65,11 @@ impl Field {
 }
 
 impl Display for Field {
+    ghost use Rattle.std.specs.Prelude.{Some};
+    ghost use Rattle.conn_file.specs.Connection.{field_name};
+
+    ghost output = { λ field. Some (field_name field) };
+
     fn fmt<W: Write>(&self, f: &mut Formatter<W>) -> fmt::Result {
         f.write_str(self.name())
     }
