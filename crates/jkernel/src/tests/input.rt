@@ -8,7 +8,9 @@ use std::test::Fail;
 /// Gives an octet a read, and then what a text has no more: its end, or an error.
 #[derive(Drop)]
 struct OneByOne<'a> {
+    /// What wasn't read yet.
     rest: &'a [u8],
+    /// The error of the read behind the last octet, if it fails.
     last: Option<ErrorKind>,
 }
 
@@ -29,6 +31,7 @@ impl<'a> Read for OneByOne<'a> {
     }
 }
 
+/// The octets of a text.
 fn text_of(alloc: Global, text: &str) -> Result<Vec<u8>, AllocError> {
     Vec::from_slice(alloc, text.as_bytes())
 }

@@ -13,8 +13,11 @@ use std::test::Fail;
 /// What a run of the program came to: its status, and what it printed and told.
 #[derive(Drop)]
 struct Ran {
+    /// Its exit status.
     status: u8,
+    /// What it printed.
     output: Vec<u8>,
+    /// What it told a person.
     faults: Vec<u8>,
 }
 

@@ -9,22 +9,26 @@ use std::test::Fail;
 /// The signature under `Jefe` of a request for the kernel's info.
 const REQUEST_SIGNATURE: &str = "21c553c91ccedd647f6c65bf7707b56c2eed9b23d0aba43886ee0a7b74774ecd";
 
-/// The header of another request, and its signature with another first digit.
+/// The header of another request.
 const WRONG_REQUEST: &str = r#"{"msg_id":"b","msg_type":"kernel_info_request"}"#;
 
+/// Its signature with another first digit.
 const WRONG_SIGNATURE: &str = "e08291380d9a73791bc62ebaaf67acd02434223da6386b22d69a9d0e5798392e";
 
 /// The right one in upper-case digits.
 const UPPER_CASE_SIGNATURE: &str =
     "21C553C91CCEDD647F6C65BF7707B56C2EED9B23D0ABA43886EE0A7B74774ECD";
 
-/// The signatures of what the kernel says then: that it starts, works and waits, and its reply.
+/// The signature of the message that the kernel starts.
 const STARTING_SIGNATURE: &str = "9bf72e552187a5161bd257687a6bbcc521c7eb2dfb5f91d7ceb4a4d809b9f7a5";
 
+/// That of the message that it works on the request.
 const BUSY_SIGNATURE: &str = "6cb46737c7120dee45fe481d600ba78ff4707fa3a7ef696e6ca31c08a115a0c6";
 
+/// That of the message that it waits again.
 const IDLE_SIGNATURE: &str = "d33ffc53b79d4142676310d0a9be5594a3ee8ff5c4655ab4cd79a9ba11ea8b23";
 
+/// That of its reply.
 const REPLY_SIGNATURE: &str = "3d4e21096702926e04ed200853503c3aad27652a3792b0b45ed2b9c3620ef554";
 
 /// What a run under this key prints, and its status.
