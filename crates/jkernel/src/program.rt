@@ -43,40 +43,33 @@ pub fn run<E: Files + Alloc, R: Read, W: Write, F: Write>(
 
     ensures status { (result ≡ 0) ⊎ ((result ≡ 1) ⊎ ((result ≡ 2) ⊎ ((result ≡ 3) ⊎ (result ≡ 6)))) }
 {
-    let code = carry_out(rt, alloc, words, reader, writer, faults);
-    if let Some(line) = Status::words_of(code) {
-        tell(faults, line);
-    }
-    code
-}
-
-/// Does what the words order, and tells what is wrong with them: the exit status.
-fn carry_out<E: Files + Alloc, R: Read, W: Write, F: Write>(
-    rt: &E,
-    alloc: Global,
-    words: &io::Result<Vec<String>>,
-    reader: &mut R,
-    writer: &mut W,
-    faults: &mut F,
-) -> u8
-    ensures done { result ≡ 0 → DoesOrder words.now (R.remaining reader.old) (R.remaining reader.new)
-        (W.contents writer.old) (W.contents writer.new) }
-    ensures words { result ≡ 2 → RefusesWords words.now × (writer.new ≡ writer.old) }
-    ensures file { result ≡ 3 → RefusesFile words.now × (writer.new ≡ writer.old) }
-    ensures input { result ≡ 6 → RefusesInput words.now (R.remaining reader.old) × (writer.new ≡ writer.old) }
-    ensures status { (result ≡ 0) ⊎ ((result ≡ 1) ⊎ ((result ≡ 2) ⊎ ((result ≡ 3) ⊎ (result ≡ 6)))) }
-{
     match words {
         Ok(words) => match read_words(alloc, words) {
-            Ok(order) => obey(rt, alloc, order, reader, writer, faults),
+            Ok(order) => {
+                let code = obey(rt, alloc, order, reader, writer, faults);
+                with_line(faults, code)
+            }
             Err(WordsFault::Refused(text)) => {
                 tell(faults, text.as_str());
                 Status::WordsRefused.code()
             }
-            Err(WordsFault::OutOfMemory) => Status::Failed.code(),
+            Err(WordsFault::OutOfMemory) => with_line(faults, Status::Failed.code()),
         },
-        Err(error) => refuse(error.kind(), faults).code(),
+        Err(error) => {
+            let status = refuse(error.kind(), faults);
+            with_line(faults, status.code())
+        }
     }
+}
+
+/// Tells the line of an exit status that has one; the same status.
+fn with_line<F: Write>(faults: &mut F, code: u8) -> u8
+    ensures { result ≡ code }
+{
+    if let Some(line) = Status::words_of(code) {
+        tell(faults, line);
+    }
+    code
 }
 
 /// Tells of command words that couldn't be read: how the program ends.
