@@ -21,7 +21,7 @@ pub use publication::{
     Publication, State, content_of_publication, content_text_of_publication, topic_of, type_of,
 };
 pub use reply::{Reply, Shown, Verdict, content_of, content_text};
-pub use request::{Request, read_request};
+pub use request::{Request, read_known, read_request};
 
 #[cfg(test)]
 mod tests;

@@ -98,8 +98,12 @@ pub fn read_request(alloc: Global, msg_type: &str, content: &[u8]) -> Result<Req
     }
 }
 
-/// Reads the content of a message of a known type.
-fn read_known(alloc: Global, kind: MessageType, content: &[u8]) -> Result<Request, ContentFault>
+/// Reads the content of a message of a known type as the request that it means.
+///
+/// # Errors
+///
+/// As `read_request`.
+pub fn read_known(alloc: Global, kind: MessageType, content: &[u8]) -> Result<Request, ContentFault>
     ensures answer { IsAnswerOrMemory result (known_request kind content.now) }
     ensures ordered { IfOk result ExpressionsRise }
 {

@@ -1,0 +1,306 @@
+-- What an engine keeps: its history grows by blocks.
+use Rattle.std.proofs.Common.{arith, ◌≡◌, ◌⊎◌, inl, inr, ℕ, ◌≤◌, List, [], ◌∷◌, ◌++◌, map, Bool, true, false}
+use Rattle.std.proofs.Common.{Option, Some, None, IfSome, MatchBool, MatchResult, Result, Ok, Err, refl, sym, ◌∙◌, ap, subst, append_assoc}
+use Rattle.std.proofs.lemmas.List.{append-nil, map-append}
+use Rattle.interp_core.specs.Interpreter.{Meaning}
+use Rattle.iopub_relay.specs.declared.event.Event.{Event}
+use Rattle.iopub_relay.specs.declared.event.Event.TheVariants as events
+use Rattle.jmsg_envelope.specs.Stamp.{StampMeaning}
+use Rattle.jmsg_envelope.specs.declared.envelope.Envelope.{Envelope}
+use Rattle.jmsg_types.specs.Request.{message_type}
+use Rattle.jmsg_types.specs.declared.publication.Publication.{Publication}
+use Rattle.kernel_block.specs.declared.fault.EngineFault.{EngineFault}
+use Rattle.kernel_block.specs.declared.fault.EngineFault.TheVariants.{OwedIdle, Memory, Read, Write, Turns, Worn}
+use Rattle.kernel_block.specs.declared.handled.Handled.{Handled}
+use Rattle.kernel_block.specs.declared.parts.Parts.{Parts}
+use Rattle.kernel_block.specs.declared.side.Side.{Side}
+use Rattle.kernel_block.specs.Block.{Message, Sealing, opened}
+use Rattle.kernel_block.specs.Growth.{item_of, sealing_of}
+use Rattle.kernel_block.specs.Handles.{Adds, HandlesCut, HandlesErr, HandlesNot, HandlesOk, IsLeft, Pays}
+use Rattle.kernel_block.specs.Handles.{PaysNot, owed_items}
+use Rattle.kernel_block.specs.WellBlocked.{AreClosed, AreCuts, Block, IsCut, KeepsBlocks, Owes, Rise, first_number}
+use Rattle.kernel_block.specs.WellBlocked.{front_of, heading_of, idle_of, messages_of, past, said_behind}
+use Rattle.kernel_block.specs.WellBlocked.{where_published}
+use Rattle.kernel_block.proofs.HandleLemmas.{sealing_by, handled_count, cut_count}
+use Rattle.kernel_block.proofs.RespondLemmas.{no_course}
+
+-- blocks of which the latest is closed, where its idle was owed
+abbrev paid : {W : Type 0} → Option (Event W) → List Block → List Block
+paid None blocks = blocks
+paid (Some owed) [] = []
+paid (Some owed) (block ∷ earlier) = record block { closed = true } ∷ earlier
+
+module _ {W : Type 0} (sealing : Sealing) where
+  -- the idle that was owed closes its block
+  said_paid : (front : List Message) (owed : Option (Event W)) (blocks : List Block) → Owes sealing owed blocks
+      → map (item_of {W = W}) (said_behind sealing front (paid owed blocks))
+      ≡ map item_of (said_behind sealing front blocks) ++ owed_items owed
+  said_paid front None blocks owes = sym (append-nil _)
+  said_paid front (Some owed) [] owes = absurd owes
+  said_paid front (Some owed) (block ∷ earlier) (still, is, closed) =
+      let before = said_behind sealing front earlier in
+      let inside = opened sealing (heading_of block) block.number block.publications in
+      let last : Some owed ∷ [] ≡ map (item_of {W = W}) (idle_of sealing block ∷ []) = ap (λ o. Some o ∷ []) is in
+      let none : where_published block.closed (idle_of sealing block) ≡ [] =
+      ap (λ b. where_published b (idle_of sealing block)) still in
+      let bare : messages_of sealing block ≡ inside = ap (λ l. inside ++ l) none ∙ append-nil inside in
+      map-append item_of before (inside ++ idle_of sealing block ∷ [])
+      ∙ ap (λ l. map item_of before ++ l) (map-append item_of inside (idle_of sealing block ∷ []))
+      ∙ sym (append_assoc (map item_of before) (map item_of inside) (map item_of (idle_of sealing block ∷ [])))
+      ∙ ap (λ l. l ++ map item_of (idle_of sealing block ∷ [])) (sym (map-append item_of before inside))
+      ∙ ap (λ l. map item_of (before ++ inside) ++ l) (sym last)
+      ∙ ap (λ l. map item_of (before ++ l) ++ Some owed ∷ []) (sym bare)
+
+  -- all of its blocks are closed then
+  closed_paid : (owed : Option (Event W)) (blocks : List Block) → Owes sealing owed blocks
+      → AreClosed (paid owed blocks)
+  closed_paid None blocks owes = owes
+  closed_paid (Some owed) [] owes = tt
+  closed_paid (Some owed) (block ∷ earlier) (still, is, closed) = (refl, closed)
+
+-- the numbers stay
+rise_paid : {W : Type 0} (owed : Option (Event W)) (blocks : List Block) (first next : ℕ) → Rise first blocks next
+    → Rise first (paid owed blocks) next
+rise_paid None blocks first next rise = rise
+rise_paid (Some owed) [] first next rise = rise
+rise_paid (Some owed) (block ∷ earlier) first next rise = rise
+
+-- what stands in the blocks stays
+cuts_paid : {W State Cell : Type 0} (m : Meaning State Cell) (side : Side) (owed : Option (Event W))
+    (blocks : List Block) → AreCuts m side blocks → AreCuts m side (paid owed blocks)
+cuts_paid m side None blocks cuts = cuts
+cuts_paid m side (Some owed) [] cuts = cuts
+cuts_paid m side (Some owed) (block ∷ earlier) cuts = cuts
+
+module _ {I P S W Cell : Type 0} (m : Meaning I Cell) (items_of : P → List (Option (Event W)))
+    (may_refuse : P → Type 0) (is_same : P → P → Type 0) (meaning : S → StampMeaning)
+    (id_text : StampMeaning → ℕ → List ℕ) (is_date : StampMeaning → List ℕ → Bool)
+    (on : (a b c : P) → is_same a b → is_same b c → is_same a c)
+    (stays : (a b : P) → is_same a b → may_refuse a → may_refuse b) where
+  -- nothing is published between busy and idle
+  no_cut : (side : Side) (state : I) → IsCut m side []
+  no_cut side state = record {
+    kind = None;
+    content = [];
+    state = state;
+    count = 0;
+    course = no_course;
+    whole = [];
+    rest = [];
+    publishes = refl;
+    front = refl;
+  }
+
+  -- the owed idle of what a block leaves
+  owes_added : (block : Block) (old new : Parts I P S W) (blocks : List Block)
+      → ((block.closed ≡ true) × (new.owed ≡ None)) ⊎ ((block.closed ≡ false) × (new.owed
+      ≡ Some (events.Message (idle_of (sealing_of meaning id_text old.publishing) block))) × may_refuse old.publishing.sink)
+      → AreClosed blocks
+      → Owes (sealing_of meaning id_text old.publishing) new.owed (block ∷ blocks)
+  owes_added block old new blocks (inl (closed, none)) others =
+      subst (λ o. Owes (sealing_of meaning id_text old.publishing) o (block ∷ blocks)) (sym none) (closed, others)
+  owes_added block old new blocks (inr (still, some, refused)) others =
+      subst (λ o. Owes (sealing_of meaning id_text old.publishing) o (block ∷ blocks)) (sym some)
+      (still, refl, others)
+
+  -- an idle is owed only where the sink may refuse
+  refused_added : (block : Block) (old new : Parts I P S W)
+      → ((block.closed ≡ true) × (new.owed ≡ None)) ⊎ ((block.closed ≡ false) × (new.owed
+      ≡ Some (events.Message (idle_of (sealing_of meaning id_text old.publishing) block))) × may_refuse old.publishing.sink)
+      → is_same old.publishing.sink new.publishing.sink
+      → IfSome new.owed (λ owed. may_refuse new.publishing.sink)
+  refused_added block old new (inl (closed, none)) same =
+      subst (λ o. IfSome o (λ owed. may_refuse new.publishing.sink)) (sym none) tt
+  refused_added block old new (inr (still, some, refused)) same =
+      subst (λ o. IfSome o (λ owed. may_refuse new.publishing.sink)) (sym some)
+      (stays old.publishing.sink new.publishing.sink same refused)
+
+  -- a block was added
+  keeps_added : (block : Block) (old new : Parts I P S W) → KeepsBlocks m items_of may_refuse meaning id_text old
+      → Adds m items_of may_refuse is_same meaning id_text is_date block old new → IsCut m old.side block.publications
+      → past block ≤ new.publishing.next → new.count ≤ new.publishing.next
+      → KeepsBlocks m items_of may_refuse meaning id_text new
+  keeps_added block old new keeps adds cut rises counted =
+      let sealing = sealing_of meaning id_text old.publishing in
+      let seals : sealing_of meaning id_text new.publishing ≡ sealing =
+      sealing_by m items_of may_refuse is_same meaning id_text is_date on new.publishing old.publishing adds.signer
+      adds.meant in
+      let front = front_of sealing keeps.history.started in
+      let blocks = paid old.owed keeps.history.blocks in
+      record {
+        history = record { started = keeps.history.started; blocks = block ∷ blocks };
+        items = subst (λ s. items_of new.publishing.sink
+            ≡ map item_of (said_behind s (front_of s keeps.history.started) (block ∷ blocks))) (sym seals)
+            (adds.items ∙ ap (λ l. l ++ (owed_items old.owed ++ map item_of (messages_of sealing block))) keeps.items
+            ∙ sym (append_assoc (map item_of (said_behind sealing front keeps.history.blocks)) (owed_items old.owed)
+            (map item_of (messages_of sealing block)))
+            ∙ ap (λ l. l ++ map item_of (messages_of sealing block))
+            (sym (said_paid sealing front old.owed keeps.history.blocks keeps.owes))
+            ∙ sym (map-append item_of (said_behind sealing front blocks) (messages_of sealing block)));
+        cuts = subst (λ side. AreCuts m side (block ∷ blocks)) (sym adds.side)
+            (cut, cuts_paid m old.side old.owed keeps.history.blocks keeps.cuts);
+        rise = (
+          rises,
+          subst (λ n. Rise (first_number keeps.history.started) blocks n) (sym adds.number)
+              (rise_paid old.owed keeps.history.blocks _ _ keeps.rise),
+        );
+        owes = subst (λ s. Owes s new.owed (block ∷ blocks)) (sym seals)
+            (owes_added block old new blocks adds.owed (closed_paid sealing old.owed keeps.history.blocks keeps.owes));
+        refused = refused_added block old new adds.owed adds.same;
+        counted = counted;
+      }
+
+  -- a request was handled
+  pub keeps_ok : (may : Type 0) (request : Envelope) (old new : Parts I P S W) (handled : Handled)
+      → KeepsBlocks m items_of may_refuse meaning id_text old
+      → HandlesOk m items_of may_refuse is_same meaning id_text is_date may request old handled new
+      → KeepsBlocks m items_of may_refuse meaning id_text new
+  keeps_ok may request old new handled keeps ok =
+      let next = ok.next in
+      let rises : past ok.block ≤ new.publishing.next = omega (arith, next) in
+      keeps_added ok.block old new keeps ok.adds (record {
+        kind = message_type request.msg_type;
+        content = request.content;
+        state = old.interp;
+        count = old.count;
+        course = ok.course;
+        whole = ok.block.publications;
+        rest = [];
+        publishes = ok.publishes;
+        front = sym (append-nil ok.block.publications);
+      }) rises
+      (handled_count m items_of may_refuse is_same meaning id_text is_date on may request old new handled keeps.counted
+      ok)
+
+  -- what stands in a block that was cut
+  left_cut : (may : Type 0) (msg_type content : List ℕ) (old new : Parts I P S W) (publications : List Publication)
+      → IsLeft m items_of may_refuse is_same meaning id_text is_date may msg_type content old new publications
+      → IsCut m old.side publications
+  left_cut may msg_type content old new publications (inl (state, count, none)) =
+      subst (λ l. IsCut m old.side l) (sym none) (no_cut old.side old.interp)
+  left_cut may msg_type content old new publications (inr (course, whole, behind, publishes, front, leaves, ending)) =
+      record {
+        kind = message_type msg_type;
+        content = content;
+        state = old.interp;
+        count = old.count;
+        course = course;
+        whole = whole;
+        rest = behind;
+        publishes = publishes;
+        front = front;
+      }
+
+  -- a cut block was added
+  keeps_cut : (may : Type 0) (request : Envelope) (old new : Parts I P S W)
+      → KeepsBlocks m items_of may_refuse meaning id_text old
+      → HandlesCut m items_of may_refuse is_same meaning id_text is_date may request old new
+      → KeepsBlocks m items_of may_refuse meaning id_text new
+  keeps_cut may request old new keeps cut =
+      let next = cut.next in
+      let rises : past cut.block ≤ new.publishing.next = omega (arith, next) in
+      keeps_added cut.block old new keeps cut.adds
+      (left_cut may request.msg_type request.content old new cut.block.publications cut.left) rises
+      (cut_count m items_of may_refuse is_same meaning id_text is_date on may request old new keeps.counted cut)
+
+  -- only the idle that was owed was published
+  keeps_paid : (old new : Parts I P S W) → KeepsBlocks m items_of may_refuse meaning id_text old
+      → items_of new.publishing.sink ≡ items_of old.publishing.sink ++ owed_items old.owed → new.owed ≡ None
+      → new.side ≡ old.side → new.publishing.signer ≡ old.publishing.signer
+      → meaning new.publishing.stamp ≡ meaning old.publishing.stamp
+      → new.publishing.next ≡ old.publishing.next → new.count ≡ old.count
+      → KeepsBlocks m items_of may_refuse meaning id_text new
+  keeps_paid old new keeps items owed side signer meant next count =
+      let sealing = sealing_of meaning id_text old.publishing in
+      let seals : sealing_of meaning id_text new.publishing ≡ sealing =
+      sealing_by m items_of may_refuse is_same meaning id_text is_date on new.publishing old.publishing signer
+      meant in
+      let front = front_of sealing keeps.history.started in
+      let blocks = paid old.owed keeps.history.blocks in
+      let counted = keeps.counted in
+      record {
+        history = record { started = keeps.history.started; blocks = blocks };
+        items = subst (λ s. items_of new.publishing.sink
+            ≡ map item_of (said_behind s (front_of s keeps.history.started) blocks)) (sym seals)
+            (items ∙ ap (λ l. l ++ owed_items old.owed) keeps.items
+            ∙ sym (said_paid sealing front old.owed keeps.history.blocks keeps.owes));
+        cuts = subst (λ s. AreCuts m s blocks) (sym side)
+            (cuts_paid m old.side old.owed keeps.history.blocks keeps.cuts);
+        rise = subst (λ n. Rise (first_number keeps.history.started) blocks n) (sym next)
+            (rise_paid old.owed keeps.history.blocks _ _ keeps.rise);
+        owes = subst (λ o. Owes (sealing_of meaning id_text new.publishing) o blocks) (sym owed)
+            (closed_paid sealing old.owed keeps.history.blocks keeps.owes);
+        refused = subst (λ o. IfSome o (λ owed. may_refuse new.publishing.sink)) (sym owed) tt;
+        counted = omega (arith, counted, next, count);
+      }
+
+  -- nothing of the request was published
+  keeps_not : (old new : Parts I P S W) → KeepsBlocks m items_of may_refuse meaning id_text old
+      → HandlesNot m items_of may_refuse is_same meaning id_text is_date old new
+      → KeepsBlocks m items_of may_refuse meaning id_text new
+  keeps_not old new keeps none = keeps_paid old new keeps none.items
+      (ap (λ (p : Parts I P S W). p.owed) none.rest) (ap (λ (p : Parts I P S W). p.side) none.rest)
+      (ap (λ (p : Parts I P S W). p.publishing.signer) none.rest) none.meant
+      (ap (λ (p : Parts I P S W). p.publishing.next) none.rest) (ap (λ (p : Parts I P S W). p.count) none.rest)
+
+  -- an owed idle was published
+  pub keeps_pays : (old new : Parts I P S W) → KeepsBlocks m items_of may_refuse meaning id_text old
+      → Pays items_of may_refuse is_same old new → KeepsBlocks m items_of may_refuse meaning id_text new
+  keeps_pays old new keeps pays = keeps_paid old new keeps pays.items
+      (ap (λ (p : Parts I P S W). p.owed) pays.rest) (ap (λ (p : Parts I P S W). p.side) pays.rest)
+      (ap (λ (p : Parts I P S W). p.publishing.signer) pays.rest)
+      (ap (λ (p : Parts I P S W). meaning p.publishing.stamp) pays.rest)
+      (ap (λ (p : Parts I P S W). p.publishing.next) pays.rest) (ap (λ (p : Parts I P S W). p.count) pays.rest)
+
+  -- the sink may refuse, whether an idle is owed or not
+  still_refused : (owed : Option (Event W)) (new : Parts I P S W) → may_refuse new.publishing.sink
+      → IfSome owed (λ o. may_refuse new.publishing.sink)
+  still_refused None new may = tt
+  still_refused (Some owed) new may = may
+
+  -- only the sink was asked, in vain
+  pub keeps_unpaid : (old new : Parts I P S W) → KeepsBlocks m items_of may_refuse meaning id_text old
+      → PaysNot items_of may_refuse is_same old new → KeepsBlocks m items_of may_refuse meaning id_text new
+  keeps_unpaid old new keeps vain =
+      let asked = vain.asked in
+      let counted = keeps.counted in
+      subst (λ (p : Parts I P S W). KeepsBlocks m items_of may_refuse meaning id_text p) (sym asked.rest) (record {
+        history = keeps.history;
+        items = asked.items ∙ keeps.items;
+        cuts = keeps.cuts;
+        rise = keeps.rise;
+        owes = keeps.owes;
+        refused = still_refused old.owed new (stays _ _ asked.same vain.refused);
+        counted = counted;
+      })
+
+  -- a request was refused
+  pub keeps_err : (may : Type 0) (request : Envelope) (old new : Parts I P S W) (fault : EngineFault)
+      → KeepsBlocks m items_of may_refuse meaning id_text old
+      → HandlesErr m items_of may_refuse is_same meaning id_text is_date may request old fault new
+      → KeepsBlocks m items_of may_refuse meaning id_text new
+  keeps_err may request old new (OwedIdle back) keeps err = keeps_unpaid old new keeps err.owes
+  keeps_err may request old new Memory keeps (inl none) = keeps_not old new keeps none
+  keeps_err may request old new Memory keeps (inr cut) = keeps_cut may request old new keeps cut
+  keeps_err may request old new Read keeps err = absurd err
+  keeps_err may request old new Write keeps err = absurd err
+  keeps_err may request old new Turns keeps err = absurd err
+  keeps_err may request old new Worn keeps (worn, same) =
+      subst (λ (p : Parts I P S W). KeepsBlocks m items_of may_refuse meaning id_text p) (sym same) keeps
+
+  -- a request was handled, or it was refused
+  pub keeps_handled : (may : Type 0) (request : Envelope) (old new : Parts I P S W)
+      (result : Result Handled EngineFault) → KeepsBlocks m items_of may_refuse meaning id_text old
+      → MatchResult result
+      (λ handled. HandlesOk m items_of may_refuse is_same meaning id_text is_date may request old handled new)
+      (λ fault. HandlesErr m items_of may_refuse is_same meaning id_text is_date may request old fault new)
+      → KeepsBlocks m items_of may_refuse meaning id_text new
+  keeps_handled may request old new (Ok handled) keeps ok = keeps_ok may request old new handled keeps ok
+  keeps_handled may request old new (Err fault) keeps err = keeps_err may request old new fault keeps err
+
+  -- an owed idle was tried once more
+  pub keeps_closed : (old new : Parts I P S W) (done : Bool) → KeepsBlocks m items_of may_refuse meaning id_text old
+      → MatchBool done (Pays items_of may_refuse is_same old new) (PaysNot items_of may_refuse is_same old new)
+      → KeepsBlocks m items_of may_refuse meaning id_text new
+  keeps_closed old new true keeps pays = keeps_pays old new keeps pays
+  keeps_closed old new false keeps vain = keeps_unpaid old new keeps vain

@@ -1,0 +1,11 @@
+pub mod GrowthLemmas
+pub mod PuttingLemmas
+pub mod CellLemmas
+pub mod TellLemmas
+pub mod ExpressionLemmas
+pub mod ExecuteLemmas
+pub mod RespondLemmas
+pub mod AnswerLemmas
+pub mod HandleLemmas
+pub mod KeepLemmas
+pub mod StartLemmas

@@ -1,0 +1,43 @@
+-- What is published grows: the messages that a publishing part adds to its sink, with rising numbers.
+use Rattle.std.specs.Prelude.{◌≡◌, ℕ, ◌+◌, List, [], ◌++◌, length, map, Bool, true, false, Option, Some}
+use Rattle.iopub_relay.specs.declared.event.Event.{Event}
+use Rattle.iopub_relay.specs.declared.event.Event.TheVariants as events
+use Rattle.jmsg_envelope.specs.Stamp.{StampMeaning}
+use Rattle.jmsg_types.specs.declared.publication.Publication.{Publication}
+use Rattle.kernel_block.specs.declared.heading.Heading.{Heading}
+use Rattle.kernel_block.specs.declared.publishing.Publishing.{Publishing}
+use Rattle.kernel_block.specs.Block.{Message, Sealing, published_all}
+
+-- a message as an item of a sink
+abbrev pub item_of : {W : Type 0} → Message → Option (Event W)
+item_of message = Some (events.Message message)
+
+-- what all messages of an engine share
+abbrev pub sealing_of : {P S : Type 0} → (S → StampMeaning) → (StampMeaning → ℕ → List ℕ) → Publishing P S → Sealing
+sealing_of meaning id_text publishing = record {
+  key = publishing.signer;
+  session = (meaning publishing.stamp).session;
+  id = id_text (meaning publishing.stamp);
+}
+
+-- These publications were published under a heading, with the next numbers; nothing else changed, and the sink is the
+-- same one.
+pub record Puts {P S W : Type 0} (items_of : P → List (Option (Event W))) (is_same : P → P → Type 0)
+    (meaning : S → StampMeaning) (id_text : StampMeaning → ℕ → List ℕ) (heading : Heading)
+    (old new : Publishing P S) (publications : List Publication) : Type 0 where
+  pub items : items_of new.sink ≡ items_of old.sink
+      ++ map item_of (published_all (sealing_of meaning id_text old) heading old.next publications)
+  pub rest : new ≡ record old { sink = new.sink; next = old.next + length publications }
+  pub same : is_same old.sink new.sink
+
+-- what is published of publications: of a silent cell nothing
+abbrev pub told : Bool → List Publication → List Publication
+told true publications = []
+told false publications = publications
+
+-- a beginning of publications was published
+pub record InFront (Grew : List Publication → Type 0) (silent : Bool) (publications : List Publication) : Type 0 where
+  pub front : List Publication
+  pub rest : List Publication
+  pub whole : publications ≡ front ++ rest
+  pub grew : Grew (told silent front)

@@ -1,0 +1,198 @@
+-- What an engine does with one request: what is published of it, what is owed, what it is replied, and what the engine
+-- is then.
+use Rattle.std.specs.Prelude.{◌≡◌, ◌≢◌, ◌⊎◌, ℕ, ◌+◌, ◌<◌, ◌≤◌, ◌^◌, List, [], ◌∷◌, ◌++◌, map, Bool, true, false}
+use Rattle.std.specs.Prelude.{Option, Some, None, Result}
+use Rattle.interp_core.specs.Interpreter.{Meaning}
+use Rattle.iopub_relay.specs.declared.event.Event.{Event}
+use Rattle.iopub_relay.specs.declared.event.Event.TheVariants as events
+use Rattle.jmsg_envelope.specs.Stamp.{StampMeaning}
+use Rattle.jmsg_envelope.specs.declared.envelope.Envelope.{Envelope}
+use Rattle.jmsg_types.specs.Fault.{Refusal}
+use Rattle.jmsg_types.specs.Request.{message_type}
+use Rattle.jmsg_types.specs.declared.publication.Publication.{Publication}
+use Rattle.jmsg_types.specs.declared.reply.Reply.{Reply}
+use Rattle.jmsg_types.specs.declared.request.Request.{Request}
+use Rattle.kernel_block.specs.declared.fault.EngineFault.{EngineFault}
+use Rattle.kernel_block.specs.declared.fault.EngineFault.TheVariants.{OwedIdle, Memory, Read, Write, Turns, Worn}
+use Rattle.kernel_block.specs.declared.handled.Handled.{Handled}
+use Rattle.kernel_block.specs.declared.heading.Heading.{Heading}
+use Rattle.kernel_block.specs.declared.parts.Parts.{Parts}
+use Rattle.kernel_block.specs.declared.publishing.Publishing.{Publishing}
+use Rattle.kernel_block.specs.declared.side.Side.{Side}
+use Rattle.kernel_block.specs.Answer.{Answer, AnswersAsked, LeavesAsked, asked_of}
+use Rattle.kernel_block.specs.Block.{Message, reply_message}
+use Rattle.kernel_block.specs.Course.{Course, MayEnd}
+use Rattle.kernel_block.specs.Growth.{Puts, item_of, sealing_of}
+use Rattle.kernel_block.specs.Opens.{ids_of_reply}
+use Rattle.kernel_block.specs.Publications.{PublishesAsked}
+use Rattle.kernel_block.specs.Runs.{MayBeCut}
+use Rattle.kernel_block.specs.WellBlocked.{Block, heading_of, idle_of, messages_of, past}
+
+-- what a message asks on a channel
+abbrev pub asked_by_message : Side → Envelope → Result Request Refusal
+asked_by_message side request = asked_of side (message_type request.msg_type) request.content
+
+-- an idle that is owed, as it is published
+abbrev pub owed_items : {W : Type 0} → Option (Event W) → List (Option (Event W))
+owed_items None = []
+owed_items (Some owed) = Some owed ∷ []
+
+-- what was answered with a reply, and what the engine is then
+abbrev pub answer_with : {I P S W : Type 0} → Handled → Option Reply → Parts I P S W → Answer I
+answer_with handled reply parts = record {
+  reply = reply;
+  state = parts.interp;
+  count = parts.count;
+  end = handled.end;
+  restart = handled.restart;
+  interrupt = handled.interrupt;
+}
+
+module _ {I P S W : Type 0} (items_of : P → List (Option (Event W))) (may_refuse : P → Type 0)
+    (is_same : P → P → Type 0) where
+  -- only the sink was asked, which refused: its list is as it was
+  pub record AsksInVain (old new : Parts I P S W) : Type 0 where
+    pub items : items_of new.publishing.sink ≡ items_of old.publishing.sink
+    pub rest : new ≡ record old { publishing = record old.publishing { sink = new.publishing.sink } }
+    pub same : is_same old.publishing.sink new.publishing.sink
+
+  -- an idle that was owed is published, and none is owed then
+  pub record Pays (old new : Parts I P S W) : Type 0 where
+    pub items : items_of new.publishing.sink ≡ items_of old.publishing.sink ++ owed_items old.owed
+    pub rest : new ≡ record old { publishing = record old.publishing { sink = new.publishing.sink }; owed = None }
+    pub same : is_same old.publishing.sink new.publishing.sink
+
+  -- an idle stays owed, since the sink refused it
+  pub record PaysNot (old new : Parts I P S W) : Type 0 where
+    pub owes : old.owed ≢ None
+    pub refused : may_refuse old.publishing.sink
+    pub asked : AsksInVain old new
+
+  -- the idle of a block is published
+  pub record Closes (idle : Message) (old new : Parts I P S W) : Type 0 where
+    pub items : items_of new.publishing.sink ≡ items_of old.publishing.sink ++ item_of idle ∷ []
+    pub rest : new ≡ record old { publishing = record old.publishing { sink = new.publishing.sink } }
+    pub same : is_same old.publishing.sink new.publishing.sink
+
+  -- the idle of a block is owed, since the sink refused it
+  pub record LeavesOpen (idle : Message) (old new : Parts I P S W) : Type 0 where
+    pub refused : may_refuse old.publishing.sink
+    pub items : items_of new.publishing.sink ≡ items_of old.publishing.sink
+    pub rest : new ≡ record old {
+      publishing = record old.publishing { sink = new.publishing.sink };
+      owed = Some (events.Message idle);
+    }
+    pub same : is_same old.publishing.sink new.publishing.sink
+
+module _ {I P S W Cell : Type 0} (m : Meaning I Cell) (items_of : P → List (Option (Event W)))
+    (may_refuse : P → Type 0) (is_same : P → P → Type 0) (meaning : S → StampMeaning)
+    (id_text : StampMeaning → ℕ → List ℕ) (is_date : StampMeaning → List ℕ → Bool) where
+  -- What a request leaves of an engine for which memory was refused: nothing of it was done, or a front part of it by
+  -- a course, of which these publications were published.
+  abbrev pub IsLeft : Type 0 → List ℕ → List ℕ → Parts I P S W → Parts I P S W → List Publication → Type 0
+  IsLeft may msg_type content old new publications =
+      ((new.interp ≡ old.interp) × (new.count ≡ old.count) × (publications ≡ []))
+      ⊎ ((course : Course I) × (whole : List Publication) × (behind : List Publication)
+      × PublishesAsked m (asked_of old.side (message_type msg_type) content) old.interp old.count course whole
+      × (whole ≡ publications ++ behind)
+      × LeavesAsked m (asked_of old.side (message_type msg_type) content) old.interp old.count course new.interp
+      new.count × MayBeCut may course.ending whole behind)
+
+  -- A request was answered by a course: all that is published of it was, and its reply was made with the number behind.
+  pub record Answers (may : Type 0) (heading : Heading) (identities : List (List ℕ)) (msg_type content : List ℕ)
+      (old : Parts I P S W) (handled : Handled) (new : Parts I P S W) : Type 0 where
+    pub course : Course I
+    pub publications : List Publication
+    pub reply : Option Reply
+    pub publishes : PublishesAsked m (asked_of old.side (message_type msg_type) content) old.interp old.count course
+        publications
+    pub answers : AnswersAsked m old.side (message_type msg_type)
+        (asked_of old.side (message_type msg_type) content) old.interp old.count course
+        (answer_with handled reply new)
+    pub ending : MayEnd may course.ending
+    pub at : Publishing P S
+    pub grew : Puts items_of is_same meaning id_text heading old.publishing at publications
+    pub replied : handled.reply
+        ≡ reply_message (sealing_of meaning id_text old.publishing) heading identities at.next msg_type reply
+    pub rest : new ≡ record old {
+      interp = new.interp;
+      count = new.count;
+      publishing = record at { next = at.next + ids_of_reply reply };
+    }
+
+  -- Memory was refused: a beginning of what is published of a request was, and this is what is left.
+  pub record AnswersNot (may : Type 0) (heading : Heading) (msg_type content : List ℕ) (old new : Parts I P S W) : Type 0 where
+    pub publications : List Publication
+    pub grew : Puts items_of is_same meaning id_text heading old.publishing new.publishing publications
+    pub rest : new ≡ record old { interp = new.interp; count = new.count; publishing = new.publishing }
+    pub left : IsLeft may msg_type content old new publications
+
+  -- What an engine adds to its sink by a block: the idle that was owed, and the block, whose own idle is owed where it
+  -- isn't closed.
+  pub record Adds (block : Block) (old new : Parts I P S W) : Type 0 where
+    pub number : block.number ≡ old.publishing.next
+    pub dated : is_date (meaning old.publishing.stamp) block.date ≡ true
+    pub items : items_of new.publishing.sink ≡ items_of old.publishing.sink
+        ++ (owed_items old.owed ++ map item_of (messages_of (sealing_of meaning id_text old.publishing) block))
+    pub owed : ((block.closed ≡ true) × (new.owed ≡ None))
+        ⊎ ((block.closed ≡ false)
+        × (new.owed ≡ Some (events.Message (idle_of (sealing_of meaning id_text old.publishing) block)))
+        × may_refuse old.publishing.sink)
+    pub side : new.side ≡ old.side
+    pub signer : new.publishing.signer ≡ old.publishing.signer
+    pub meant : meaning new.publishing.stamp ≡ meaning old.publishing.stamp
+    pub same : is_same old.publishing.sink new.publishing.sink
+
+  -- A request was handled by a course: its block was added, it has its reply, and this is what the engine is to do.
+  pub record HandlesOk (may : Type 0) (request : Envelope) (old : Parts I P S W) (handled : Handled)
+      (new : Parts I P S W) : Type 0 where
+    pub few : old.publishing.next ≤ 2 ^ 62
+    pub course : Course I
+    pub block : Block
+    pub reply : Option Reply
+    pub parent : block.parent ≡ request.header
+    pub publishes : PublishesAsked m (asked_by_message old.side request) old.interp old.count course
+        block.publications
+    pub answers : AnswersAsked m old.side (message_type request.msg_type) (asked_by_message old.side request)
+        old.interp old.count course (answer_with handled reply new)
+    pub ending : MayEnd may course.ending
+    pub replied : handled.reply ≡ reply_message (sealing_of meaning id_text old.publishing) (heading_of block)
+        request.identities (past block) request.msg_type reply
+    pub adds : Adds block old new
+    pub next : new.publishing.next ≡ past block + ids_of_reply reply
+
+  -- Memory was refused, or the sink refused, before anything of a request was published. An idle that was owed is
+  -- published.
+  pub record HandlesNot (old new : Parts I P S W) : Type 0 where
+    pub few : old.publishing.next ≤ 2 ^ 62
+    pub items : items_of new.publishing.sink ≡ items_of old.publishing.sink ++ owed_items old.owed
+    pub rest : new ≡ record old {
+      publishing = record old.publishing { sink = new.publishing.sink; stamp = new.publishing.stamp };
+      owed = None;
+    }
+    pub meant : meaning new.publishing.stamp ≡ meaning old.publishing.stamp
+    pub same : is_same old.publishing.sink new.publishing.sink
+
+  -- Memory was refused, or the sink refused, while a request was done: a cut block was added, and this is what is left.
+  pub record HandlesCut (may : Type 0) (request : Envelope) (old new : Parts I P S W) : Type 0 where
+    pub few : old.publishing.next ≤ 2 ^ 62
+    pub block : Block
+    pub parent : block.parent ≡ request.header
+    pub left : IsLeft may request.msg_type request.content old new block.publications
+    pub adds : Adds block old new
+    pub next : new.publishing.next ≡ past block
+
+  -- An idle is owed, and the sink refused it again: the request comes back, and nothing changed.
+  pub record HandsBack (request back : Envelope) (old new : Parts I P S W) : Type 0 where
+    pub few : old.publishing.next ≤ 2 ^ 62
+    pub back_is : back ≡ request
+    pub owes : PaysNot items_of may_refuse is_same old new
+
+  -- what each refusal of a request says
+  abbrev pub HandlesErr : Type 0 → Envelope → Parts I P S W → EngineFault → Parts I P S W → Type 0
+  HandlesErr may request old (OwedIdle back) new = HandsBack request back old new
+  HandlesErr may request old Memory new = HandlesNot old new ⊎ HandlesCut may request old new
+  HandlesErr may request old Read new = ⊥
+  HandlesErr may request old Write new = ⊥
+  HandlesErr may request old Turns new = ⊥
+  HandlesErr may request old Worn new = (2 ^ 62 < old.publishing.next) × (new ≡ old)

@@ -1,0 +1,13 @@
+pub mod Course
+pub mod Publications
+pub mod Answer
+pub mod Block
+pub mod Growth
+pub mod Runs
+pub mod Responds
+pub mod Opens
+pub mod Fault
+pub mod WellBlocked
+pub mod Handles
+pub mod Starts
+pub mod Within

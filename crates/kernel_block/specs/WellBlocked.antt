@@ -1,0 +1,123 @@
+-- What an engine published, all of it ('Messaging in Jupyter' 5.3, "Kernel status"): that the kernel starts, and then
+-- one block behind the other.
+use Rattle.std.specs.Prelude.{◌≡◌, ⊤, ℕ, ◌+◌, ◌≤◌, List, [], ◌∷◌, ◌++◌, length, map, Bool, true, false}
+use Rattle.std.specs.Prelude.{Option, Some, None, IfSome}
+use Rattle.interp_core.specs.Interpreter.{Meaning}
+use Rattle.iopub_relay.specs.declared.event.Event.{Event}
+use Rattle.iopub_relay.specs.declared.event.Event.TheVariants as events
+use Rattle.jmsg_envelope.specs.Stamp.{StampMeaning}
+use Rattle.jmsg_types.specs.declared.message_type.MessageType.{MessageType}
+use Rattle.jmsg_types.specs.declared.publication.Publication.{Publication}
+use Rattle.kernel_block.specs.declared.heading.Heading.{Heading}
+use Rattle.kernel_block.specs.declared.parts.Parts.{Parts}
+use Rattle.kernel_block.specs.declared.side.Side.{Side}
+use Rattle.kernel_block.specs.Answer.{asked_of}
+use Rattle.kernel_block.specs.Block.{Message, Sealing, idle, opened, starting}
+use Rattle.kernel_block.specs.Course.{Course}
+use Rattle.kernel_block.specs.Growth.{item_of, sealing_of}
+use Rattle.kernel_block.specs.Publications.{PublishesAsked}
+
+-- A block that was published: the date and the parent header of its messages, its first number, what was published
+-- between busy and idle, and whether idle was.
+pub record Block : Type 0 where
+  pub date : List ℕ
+  pub parent : List ℕ
+  pub number : ℕ
+  pub publications : List Publication
+  pub closed : Bool
+
+-- what the messages of a block share
+abbrev pub heading_of : Block → Heading
+heading_of block = record { date = block.date; parent = block.parent }
+
+-- the number behind those of busy, idle and the publications of a block
+abbrev pub past : Block → ℕ
+past block = block.number + 2 + length block.publications
+
+-- the idle of a block
+abbrev pub idle_of : Sealing → Block → Message
+idle_of sealing block = idle sealing (heading_of block) block.number
+
+-- a message where it was published
+abbrev pub where_published : Bool → Message → List Message
+where_published true message = message ∷ []
+where_published false message = []
+
+-- the messages of a block that were published
+abbrev pub messages_of : Sealing → Block → List Message
+messages_of sealing block = opened sealing (heading_of block) block.number block.publications
+    ++ where_published block.closed (idle_of sealing block)
+
+-- What was published: the date under which the kernel said that it starts, where it did, and the blocks, the latest
+-- first.
+pub record History : Type 0 where
+  pub started : Option (List ℕ)
+  pub blocks : List Block
+
+-- that the kernel starts, where it said so
+abbrev pub front_of : Sealing → Option (List ℕ) → List Message
+front_of sealing None = []
+front_of sealing (Some date) = starting sealing date ∷ []
+
+-- the messages of blocks, the latest first, behind those in front
+abbrev pub said_behind : Sealing → List Message → List Block → List Message
+said_behind sealing front [] = front
+said_behind sealing front (block ∷ earlier) = said_behind sealing front earlier ++ messages_of sealing block
+
+-- all messages that were published
+abbrev pub said : Sealing → History → List Message
+said sealing history = said_behind sealing (front_of sealing history.started) history.blocks
+
+-- the first number behind that of starting
+abbrev pub first_number : Option (List ℕ) → ℕ
+first_number None = 1
+first_number (Some date) = 2
+
+-- the numbers rise from block to block, up to the next one
+abbrev pub Rise : ℕ → List Block → ℕ → Type 0
+Rise first [] next = next ≡ first
+Rise first (block ∷ earlier) next = (past block ≤ next) × Rise first earlier block.number
+
+-- the idle of each block was published
+abbrev pub AreClosed : List Block → Type 0
+AreClosed [] = ⊤
+AreClosed (block ∷ earlier) = (block.closed ≡ true) × AreClosed earlier
+
+-- the idle that is owed is that of the latest block, which is open; all others are closed
+abbrev pub Owes : {W : Type 0} → Sealing → Option (Event W) → List Block → Type 0
+Owes sealing None blocks = AreClosed blocks
+Owes sealing (Some owed) [] = ⊥
+Owes sealing (Some owed) (block ∷ earlier) =
+    (block.closed ≡ false) × (owed ≡ events.Message (idle_of sealing block)) × AreClosed earlier
+
+-- what stands in a block is a beginning of what is published of a message on a channel, in a state and by a course
+pub record IsCut {State Cell : Type 0} (m : Meaning State Cell) (side : Side) (publications : List Publication)
+    : Type 0 where
+  pub kind : Option MessageType
+  pub content : List ℕ
+  pub state : State
+  pub count : ℕ
+  pub course : Course State
+  pub whole : List Publication
+  pub rest : List Publication
+  pub publishes : PublishesAsked m (asked_of side kind content) state count course whole
+  pub front : whole ≡ publications ++ rest
+
+-- so it is in each block
+abbrev pub AreCuts : {State Cell : Type 0} → Meaning State Cell → Side → List Block → Type 0
+AreCuts m side [] = ⊤
+AreCuts m side (block ∷ earlier) = IsCut m side block.publications × AreCuts m side earlier
+
+-- What an engine keeps: what it published is well blocked, and the last block is open exactly where its idle is owed,
+-- which happens only where the sink may refuse. It counted fewer cells than it gave ids.
+pub record KeepsBlocks {I P S W Cell : Type 0} (m : Meaning I Cell) (items_of : P → List (Option (Event W)))
+    (may_refuse : P → Type 0) (meaning : S → StampMeaning) (id_text : StampMeaning → ℕ → List ℕ)
+    (parts : Parts I P S W) : Type 0 where
+  pub history : History
+  pub items : items_of parts.publishing.sink
+      ≡ map item_of (said (sealing_of meaning id_text parts.publishing) history)
+  pub cuts : AreCuts m parts.side history.blocks
+  pub rise : Rise (first_number history.started) history.blocks parts.publishing.next
+  pub owes : Owes (sealing_of meaning id_text parts.publishing) parts.owed history.blocks
+  pub refused : IfSome parts.owed (λ owed. may_refuse parts.publishing.sink)
+  pub counted : parts.count ≤ parts.publishing.next

@@ -1,0 +1,124 @@
+//! The ends of a block: busy and idle, and the reply.
+
+ghost use Rattle.std.specs.Prelude.{◌≡◌, ◌+◌, ◌<◌, ◌^◌, IfOk, OnErr, MatchResult};
+ghost use Rattle.listed.specs.Bodies.{bodies};
+ghost use Rattle.kernel_block.specs.Block.{reply_message};
+ghost use Rattle.kernel_block.specs.Growth.{sealing_of};
+ghost use Rattle.kernel_block.specs.Opens.{Opens, PublishesNone, Starts, ids_of_reply};
+
+use crate::heading::Heading;
+use crate::publishing::{LAST_NUMBER, Publishing};
+use iopub_queue::Publish;
+use iopub_relay::Event;
+use jmsg_envelope::Stamp;
+use jmsg_types::{Publication, Reply, State, content_text, reply_type};
+use listed::{Frames, Octets, Text};
+use std::alloc::{AllocError, Global};
+
+impl<P, S: Stamp> Publishing<P, S> {
+    /// Opens the block of a request with this header: publishes that the kernel is busy, under a new date. What the
+    /// messages of the block share, and the message that it is idle, which is made before anything is published.
+    ///
+    /// # Errors
+    ///
+    /// Where memory was refused, or the sink refused. Then nothing is published.
+    pub fn open<W: Drop>(
+        &mut self,
+        alloc: Global,
+        header: Octets,
+    ) -> Result<(Heading, Frames), AllocError>
+    where
+        P: Publish<Item = Event<W>>,
+        requires { self.old.next < 2 ^ 63 }
+        ensures { MatchResult result
+            (λ opened. Opens P.items_of P.is_same S.meaning S.id_text S.is_date header opened.0 opened.1 self.old
+            self.new)
+            (λ _. PublishesNone P.items_of P.is_same S.meaning self.old self.new) }
+    {
+        let heading = Heading {
+            date: Text::new(self.stamp.date(alloc)?),
+            parent: header,
+        };
+        let busy = self.publication(
+            alloc,
+            &heading,
+            self.next,
+            &Publication::Status(State::Busy),
+        )?;
+        let idle = self.publication(
+            alloc,
+            &heading,
+            self.next + 1,
+            &Publication::Status(State::Idle),
+        )?;
+        match self.sink.publish(Event::Message(Frames::new(busy))) {
+            Ok(()) => {
+                self.next += 2;
+                Ok((heading, Frames::new(idle)))
+            }
+            Err(_) => Err(AllocError),
+        }
+    }
+
+    /// Publishes that the kernel starts, under a new date and with no request as its parent.
+    ///
+    /// # Errors
+    ///
+    /// Where memory was refused, or the sink refused. Then nothing is published.
+    pub fn start<W: Drop>(&mut self, alloc: Global) -> Result<(), AllocError>
+    where
+        P: Publish<Item = Event<W>>,
+        requires { self.old.next ≡ 1 }
+        ensures { MatchResult result
+            (λ _. Starts P.items_of P.is_same S.meaning S.id_text S.is_date self.old self.new)
+            (λ _. PublishesNone P.items_of P.is_same S.meaning self.old self.new) }
+    {
+        let heading = Heading {
+            date: Text::new(self.stamp.date(alloc)?),
+            parent: Octets::new(Vec::from_slice(alloc, b"{}")?),
+        };
+        let starting = Publication::Status(State::Starting);
+        let message = self.publication(alloc, &heading, self.next, &starting)?;
+        match self.sink.publish(Event::Message(Frames::new(message))) {
+            Ok(()) => {
+                self.next += 1;
+                Ok(())
+            }
+            Err(_) => Err(AllocError),
+        }
+    }
+
+    /// The reply to a message of this type, behind the identities of who sent it, with the next number.
+    ///
+    /// # Errors
+    ///
+    /// Where memory was refused, or no number is left. Then nothing changes.
+    pub fn reply(
+        &mut self,
+        alloc: Global,
+        heading: &Heading,
+        identities: Frames,
+        msg_type: &str,
+        reply: Option<Reply>,
+    ) -> Result<Option<Frames>, AllocError>
+        ensures made { IfOk result (λ message. (message ≡ reply_message (sealing_of S.meaning S.id_text self.old)
+            heading.now identities self.old.next msg_type.now reply)
+            × (self.new ≡ record self.old { next = self.old.next + ids_of_reply reply })) }
+        ensures refused { OnErr result (self.new ≡ self.old) }
+    {
+        let Some(reply) = reply else {
+            return Ok(None);
+        };
+        if self.next > LAST_NUMBER {
+            return Err(AllocError);
+        }
+        let Ok(content) = content_text(alloc, &reply) else {
+            return Err(AllocError);
+        };
+        let msg_type = reply_type(msg_type).unwrap_or("");
+        let prefix = identities.into_vec();
+        let message = self.message(alloc, heading, prefix, self.next, msg_type, content)?;
+        self.next += 1;
+        Ok(Some(Frames::new(message)))
+    }
+}

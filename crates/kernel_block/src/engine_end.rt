@@ -1,0 +1,65 @@
+//! What an engine leaves.
+
+ghost use Rattle.std.specs.Prelude.{◌≡◌, is_some};
+ghost use Rattle.kernel_block.specs.WellBlocked.{KeepsBlocks};
+
+use crate::parts::Parts;
+use interp_core::Interpreter;
+use iopub_queue::Publish;
+use iopub_relay::Event;
+use jmsg_envelope::Stamp;
+use std::marker::Model;
+
+/// What an engine leaves that was closed: its parts, of which its interpreter, its sink, its stamp and its signer come
+/// back. What it published is well blocked, and the last block is open exactly where its idle is owed.
+#[derive(Drop)]
+pub struct EngineEnd<I: Interpreter, P, S: Stamp, W>
+where
+    P: Publish<Item = Event<W>>,
+{
+    /// The parts of the engine.
+    parts: Parts<I, P, S, W>,
+}
+
+impl<I: Interpreter, P, S: Stamp, W> Model for EngineEnd<I, P, S, W>
+where
+    P: Publish<Item = Event<W>>,
+{
+    ghost use Rattle.kernel_block.specs.declared.parts.Parts.{Parts};
+
+    ghost Value = { Parts I P S W };
+
+    ghost use Rattle.kernel_block.specs.Within.{parts_at_end, IsSoundAtEnd};
+
+    ghost view = { parts_at_end };
+
+    ghost invariant = { IsSoundAtEnd I.meaning P.items_of P.may_refuse S.meaning S.id_text };
+}
+
+impl<I: Interpreter, P, S: Stamp, W> EngineEnd<I, P, S, W>
+where
+    P: Publish<Item = Event<W>>,
+{
+    /// The end of an engine with these parts.
+    pub(crate) fn new(parts: Parts<I, P, S, W>) -> EngineEnd<I, P, S, W>
+        requires { KeepsBlocks I.meaning P.items_of P.may_refuse S.meaning S.id_text parts }
+        ensures { result ≡ parts }
+    {
+        EngineEnd { parts }
+    }
+
+    /// Whether an idle is owed still.
+    pub fn owed(&self) -> bool
+        ensures { result ≡ is_some self.now.owed }
+    {
+        self.parts.owed.is_some()
+    }
+
+    /// The parts of the engine.
+    pub fn into_parts(self) -> Parts<I, P, S, W>
+        ensures parts { result ≡ self }
+        ensures kept { KeepsBlocks I.meaning P.items_of P.may_refuse S.meaning S.id_text result }
+    {
+        self.parts
+    }
+}

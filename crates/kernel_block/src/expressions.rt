@@ -1,0 +1,45 @@
+//! User expressions, which are evaluated behind a cell.
+
+ghost use Rattle.std.specs.Prelude.{◌≡◌, ℕ, List, Result, MatchResult};
+ghost use Rattle.interp_core.specs.declared.fault.InterpFault.{InterpFault};
+ghost use Rattle.kernel_block.specs.Answer.{Evaluates, EvaluatesFront, LeavesExpression, shown_of};
+
+use crate::words::own_words;
+use interp_core::Interpreter;
+use jmsg_types::Shown;
+use listed::{Row, Text};
+use std::alloc::{AllocError, Global};
+
+/// Evaluates expressions one after the other: what each came to, by its name.
+pub(crate) fn evaluate_all<I: Interpreter>(
+    alloc: Global,
+    interp: &mut I,
+    expressions: Row<(Text, Text)>,
+) -> Result<Row<(Text, Shown)>, AllocError>
+    ensures { MatchResult result (λ values. Evaluates I.meaning interp.old expressions values interp.new)
+        (λ _. EvaluatesFront I.meaning interp.old expressions interp.new) }
+{
+    let mut values = Vec::new(alloc);
+    for expression in expressions.into_vec() {
+        let (name, text) = expression;
+        let shown = evaluate(alloc, interp, text.as_str())?;
+        values.push((name, shown))?;
+    }
+    Ok(Row::new(values))
+}
+
+/// What an expression came to.
+fn evaluate<I: Interpreter>(alloc: Global, interp: &mut I, text: &str) -> Result<Shown, AllocError>
+    ensures { MatchResult result
+        (λ shown. (answer : Result (List ℕ) InterpFault)
+        × I.meaning.evaluates interp.old text.now answer interp.new × (shown ≡ shown_of answer))
+        (λ _. LeavesExpression I.meaning interp.old text.now interp.new) }
+{
+    match interp.evaluate(alloc, text) {
+        Ok(value) => Ok(Shown::Text(value)),
+        Err(fault) => {
+            let (ename, evalue) = own_words(alloc, fault)?;
+            Ok(Shown::Fault { ename, evalue })
+        }
+    }
+}

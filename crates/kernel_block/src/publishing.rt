@@ -1,0 +1,165 @@
+//! Messages made and published, one after the other.
+
+ghost use Rattle.std.specs.Prelude.{◌≡◌, [], ◌∷◌, IfOk, MatchResult, map};
+ghost use Rattle.listed.specs.Bodies.{bodies};
+ghost use Rattle.kernel_block.specs.Block.{message, published};
+ghost use Rattle.kernel_block.specs.Growth.{InFront, Puts, sealing_of, told};
+ghost use Rattle.kernel_block.specs.Publications.{publication_of};
+
+use crate::heading::Heading;
+use interp_core::Output;
+use iopub_queue::Publish;
+use iopub_relay::Event;
+use jmsg_envelope::{Signer, Stamp, header_text, seal};
+use jmsg_types::{Publication, content_text_of_publication, topic_of, type_of};
+use listed::{Frames, Row};
+use std::alloc::{AllocError, Global};
+use std::collections::VecDeque;
+
+/// The last number for an id.
+pub(crate) const LAST_NUMBER: u64 = 1 << 63;
+
+/// What the messages of an engine are made and published with.
+#[derive(Drop)]
+pub struct Publishing<P, S> {
+    /// Where messages are published.
+    pub sink: P,
+    /// What messages are signed with.
+    pub signer: Signer,
+    /// Where ids and dates come from.
+    pub stamp: S,
+    /// The number of the next message's id.
+    pub next: u64,
+}
+
+impl<P, S: Stamp> Publishing<P, S> {
+    /// Publishes a publication, unless it is silent, with the next number.
+    ///
+    /// # Errors
+    ///
+    /// Where memory was refused, the sink refused, or no number is left. Then nothing is published.
+    pub fn put<W: Drop>(
+        &mut self,
+        alloc: Global,
+        heading: &Heading,
+        silent: bool,
+        publication: Publication,
+    ) -> Result<(), AllocError>
+    where
+        P: Publish<Item = Event<W>>,
+        ensures { let grew = Puts P.items_of P.is_same S.meaning S.id_text heading.now self.old self.new in
+            MatchResult result (λ _. grew (told silent (publication ∷ []))) (λ _. grew []) }
+    {
+        if silent {
+            return Ok(());
+        }
+        if self.next > LAST_NUMBER {
+            return Err(AllocError);
+        }
+        let message = self.publication(alloc, heading, self.next, &publication)?;
+        match self.sink.publish(Event::Message(Frames::new(message))) {
+            Ok(()) => {
+                self.next += 1;
+                Ok(())
+            }
+            Err(_) => Err(AllocError),
+        }
+    }
+
+    /// Publishes what a cell wrote, unless it is silent.
+    ///
+    /// # Errors
+    ///
+    /// As `put`. Then a beginning of it is published.
+    #[tactic(auto, using(crate::proofs::GrowthLemmas::puts_none))]
+    pub fn put_outputs<W: Drop>(
+        &mut self,
+        alloc: Global,
+        heading: &Heading,
+        silent: bool,
+        outputs: Row<Output>,
+    ) -> Result<(), AllocError>
+    where
+        P: Publish<Item = Event<W>>,
+        ensures { let grew = Puts P.items_of P.is_same S.meaning S.id_text heading.now self.old self.new in
+            MatchResult result (λ _. grew (told silent (map publication_of outputs)))
+            (λ _. InFront grew silent (map publication_of outputs)) }
+    {
+        let mut waiting = VecDeque::from_vec(outputs.into_vec());
+        while let Some(output) = waiting.pop_front() {
+            self.put(alloc, heading, silent, publication_of(output))?;
+        }
+        Ok(())
+    }
+
+    /// What is published under this number, as a message behind its topic.
+    pub fn publication(
+        &self,
+        alloc: Global,
+        heading: &Heading,
+        number: u64,
+        publication: &Publication,
+    ) -> Result<Vec<Vec<u8>>, AllocError>
+        ensures { IfOk result (λ frames. bodies frames.items
+            ≡ published (sealing_of S.meaning S.id_text self.now) heading.now number publication.now) }
+    {
+        let topic = Vec::from_slice(alloc, topic_of(publication).as_bytes())?;
+        let mut prefix = Vec::new(alloc);
+        prefix.push(topic)?;
+        let Ok(content) = content_text_of_publication(alloc, publication) else {
+            return Err(AllocError);
+        };
+        self.message(
+            alloc,
+            heading,
+            prefix,
+            number,
+            type_of(publication),
+            content,
+        )
+    }
+
+    /// The message of this number, type and content, sealed behind a prefix.
+    #[tactic(auto, unfolding(crate::specs::Block::message))]
+    pub fn message(
+        &self,
+        alloc: Global,
+        heading: &Heading,
+        prefix: Vec<Vec<u8>>,
+        number: u64,
+        msg_type: &str,
+        content: Vec<u8>,
+    ) -> Result<Vec<Vec<u8>>, AllocError>
+        ensures { IfOk result (λ frames. bodies frames.items
+            ≡ message (sealing_of S.meaning S.id_text self.now) heading.now (bodies prefix.items) number msg_type.now
+            content.items) }
+    {
+        let id = self.stamp.id(alloc, number)?;
+        let session = self.stamp.session();
+        let date = heading.date.as_str();
+        let Ok(header) = header_text(alloc, session, id.as_str(), date, msg_type) else {
+            return Err(AllocError);
+        };
+        let parent = Vec::from_slice(alloc, heading.parent.as_slice())?;
+        let metadata = Vec::from_slice(alloc, b"{}")?;
+        let buffers = Vec::new(alloc);
+        let signer = &self.signer;
+        match seal(
+            alloc, signer, prefix, header, parent, metadata, content, buffers,
+        ) {
+            Ok(frames) => Ok(frames),
+            Err(_) => Err(AllocError),
+        }
+    }
+}
+
+/// What a cell wrote, as it is published.
+fn publication_of(output: Output) -> Publication
+    ensures { result ≡ publication_of output }
+{
+    match output {
+        Output::Stdout(text) => Publication::Stream { err: false, text },
+        Output::Stderr(text) => Publication::Stream { err: true, text },
+        Output::Display(text) => Publication::Display { text },
+    }
+}
