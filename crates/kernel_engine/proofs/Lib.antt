@@ -1,9 +1,10 @@
-pub mod AnswerLemmas
 pub mod FirstLemmas
-pub mod HearLemmas
+pub mod HandLemmas
 pub mod HearOnce
 pub mod Legs
+pub mod ListenLemmas
 pub mod Opening
+pub mod PromptLemmas
 pub mod ServeLemmas
 pub mod ShakeLemmas
 pub mod TrafficLemmas
