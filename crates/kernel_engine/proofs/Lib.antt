@@ -3,8 +3,11 @@ pub mod HandLemmas
 pub mod HearOnce
 pub mod Legs
 pub mod ListenLemmas
+pub mod MetLemmas
 pub mod Opening
 pub mod PromptLemmas
+pub mod RespondLemmas
+pub mod SeenLemmas
 pub mod ServeLemmas
 pub mod ShakeLemmas
 pub mod TrafficLemmas

@@ -10,7 +10,7 @@ use Rattle.kernel_engine.specs.declared.end.SessionEnd.TheVariants.{Failed}
 use Rattle.kernel_engine.specs.Fault.{IsServerEnd}
 use Rattle.kernel_engine.specs.Exchange.{Exchange}
 use Rattle.kernel_engine.specs.Server.{Answering, Serving, Treats, marked, Converses}
-use Rattle.kernel_engine.specs.Steps.{IsPrompt}
+use Rattle.kernel_engine.specs.Steps.{Leg, IsPrompt}
 
 -- a writer and a server in a session
 pub record Seen (Server : Type 0) : Type 0 where
@@ -46,7 +46,8 @@ pub record ConversesOn {Server : Type 0} (dropped : Bool) (answers : Answering S
     : Type 0 where
   pub exchange : Exchange (λ octets written new end. Converses dropped answers old (before ++ octets) written new end)
       inflow inflow' outflow outflow' turns left new end
-  pub prompt : elim exchange.outcome.ends [
+  pub prompt : elim exchange.outcome.ends as (λ _. Type 0) [
         inl out ↦ ⊤
-      | inr last ↦ (exchange.read ≡ []) ⊎ IsPrompt inflow inflow' turns left exchange.read last.comes.behind
+      | inr last ↦ ((exchange.read ≡ []) × Leg inflow inflow' turns left [])
+          ⊎ IsPrompt inflow inflow' turns left exchange.read last.comes.behind
       ]

@@ -111,9 +111,9 @@ pub record ServesPeer {Server : Type 0} (dropped : Bool) (answers : Answering Se
     (inflow inflow' : Inflow) (outflow outflow' : Outflow) (turns left : ℕ) (new : Server) (end : SessionEnd)
     : Type 0 where
   pub exchange : Exchange (Serves dropped answers ours old) inflow inflow' outflow outflow' turns left new end
-  pub prompt : elim exchange.outcome [
+  pub prompt : elim exchange.outcome as (λ _. Type 0) [
         inl away ↦ ⊤
-      | inr served ↦ elim served.converses.ends [
+      | inr served ↦ elim served.converses.ends as (λ _. Type 0) [
             inl out ↦ ⊤
           | inr last ↦ IsPrompt inflow inflow' turns left exchange.read last.comes.behind
           ]
