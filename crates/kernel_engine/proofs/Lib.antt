@@ -1,6 +1,8 @@
+pub mod EchoLemmas
 pub mod FirstLemmas
 pub mod HandLemmas
 pub mod HearOnce
+pub mod IntakeLemmas
 pub mod Legs
 pub mod ListenLemmas
 pub mod MetLemmas
