@@ -42,25 +42,25 @@ ends_once laws rest Eof (Failed fault) first second = absurd second
 ends_once laws rest (Wire fault) (Shutdown restart) first second = absurd second
 ends_once laws rest (Wire fault) (Failed other) first second = absurd second
 
-ends_without : (laws : Laws) (rest : List ℕ) (end : SessionEnd) → EndsAs rest end → HasNoTraffic usual_limits rest
+pub ends_without : (laws : Laws) (rest : List ℕ) (end : SessionEnd) → EndsAs rest end → HasNoTraffic usual_limits rest
 ends_without laws rest Eof h = h.no_traffic
 ends_without laws rest (Wire fault) h = laws.no_traffic usual_limits rest fault h
 ends_without laws rest (Shutdown restart) h = absurd h
 ends_without laws rest (Failed fault) h = absurd h
 
 -- octets that begin with no whole traffic are read as none
-none_behind : (rest last : List ℕ) (more : List Traffic) → HasNoTraffic usual_limits rest
+pub none_behind : (rest last : List ℕ) (more : List Traffic) → HasNoTraffic usual_limits rest
     → ReadsUpTo usual_limits rest more last → (more ≡ []) × (rest ≡ last)
 none_behind rest last [] none (read, is, nothing) = (refl, is ∙ ap (λ o. o ++ last) nothing)
 none_behind rest last (first ∷ more) none (read, is, (head, tail, split, spelled, reads)) =
     absurd (none first head (tail ++ last) (is ∙ ap (λ o. o ++ last) split ∙ append_assoc head tail last) spelled)
 
 -- how octets end a connection is one: octets that begin with a command ERROR begin with whole traffic
-error_ends : (laws : Laws) (rest : List ℕ) (end : SessionEnd) → BeginsWithError rest → EndsAs rest end → ⊥
+pub error_ends : (laws : Laws) (rest : List ℕ) (end : SessionEnd) → BeginsWithError rest → EndsAs rest end → ⊥
 error_ends laws rest end (last, comes, error) ends =
     ends_without laws rest end ends last comes.front comes.behind comes.split comes.spelled
 
-behind_once : (laws : Laws) (rest : List ℕ) (one other : SessionEnd) → EndsBehind rest one → EndsBehind rest other
+pub behind_once : (laws : Laws) (rest : List ℕ) (one other : SessionEnd) → EndsBehind rest one → EndsBehind rest other
     → one ≡ other
 behind_once laws rest one other (inl (is, error)) (inl (same, also)) = is ∙ sym same
 behind_once laws rest one other (inl (is, error)) (inr ends) = absurd (error_ends laws rest other error ends)
@@ -68,7 +68,7 @@ behind_once laws rest one other (inr ends) (inl (is, error)) = absurd (error_end
 behind_once laws rest one other (inr first) (inr second) = ends_once laws rest one other first second
 
 -- behind traffic that ends a connection no more is read without a command ERROR
-no_more : (laws : Laws) (rest last : List ℕ) (end : SessionEnd) (more : List Traffic) → EndsBehind rest end
+pub no_more : (laws : Laws) (rest last : List ℕ) (end : SessionEnd) (more : List Traffic) → EndsBehind rest end
     → ReadsUpTo usual_limits rest more last → IsCalm more → (more ≡ []) × (rest ≡ last)
 no_more laws rest last end more (inr ends) reads calm = none_behind rest last more (ends_without laws rest end ends)
     reads
@@ -80,7 +80,7 @@ no_more laws rest last end (first ∷ more) (inl (is, (head, comes, error)))
     absurd (let e : true ≡ false = sym error ∙ ap is_error same ∙ harmless in cc)
 
 -- the later part of traffic without a command ERROR has none either
-calm_behind : (front more : List Traffic) → IsCalm (front ++ more) → IsCalm more
+pub calm_behind : (front more : List Traffic) → IsCalm (front ++ more) → IsCalm more
 calm_behind [] more calm = calm
 calm_behind (first ∷ front) more (harmless, calm) = calm_behind front more calm
 
@@ -152,7 +152,7 @@ greeting_fault_once octets faults.Mechanism other first second =
 greeting_fault_once octets _ other first second = absurd first
 
 -- what comes first is one traffic
-first_once : (laws : Laws) (octets : List ℕ) (one other : Traffic) (rest after : List ℕ) → ComesFirst octets one rest
+pub first_once : (laws : Laws) (octets : List ℕ) (one other : Traffic) (rest after : List ℕ) → ComesFirst octets one rest
     → ComesFirst octets other after → (one ≡ other) × (rest ≡ after)
 first_once laws octets one other rest after first second =
     laws.front usual_limits (drop 64 octets) first.front second.front one other rest after first.split first.spelled
@@ -164,7 +164,7 @@ no_first laws octets first rest end comes ends = ends_without laws (drop 64 octe
     comes.split comes.spelled
 
 -- a peer that is turned away, in one way
-away_once : (laws : Laws) (ours : SocketType) (octets opening other : List ℕ) (ending end : SessionEnd)
+pub away_once : (laws : Laws) (ours : SocketType) (octets opening other : List ℕ) (ending end : SessionEnd)
     → IsTurnedAway ours octets opening ending → IsTurnedAway ours octets other end → (opening ≡ other) × (ending ≡ end)
 away_once laws ours octets opening other ending end (inl first) (inl second) =
     (first.greets ∙ sym second.greets, first.ends ∙ sym second.ends)

@@ -11,6 +11,7 @@ pub mod PromptLemmas
 pub mod RespondLemmas
 pub mod SeenLemmas
 pub mod ServeLemmas
+pub mod ServeOnce
 pub mod ShakeLemmas
 pub mod TrafficLemmas
 pub mod Unfinished

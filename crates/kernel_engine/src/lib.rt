@@ -18,7 +18,7 @@ pub use echoing::echo;
 pub use end::SessionEnd;
 pub use fault::EngineFault;
 pub use hearing::{Intake, hear};
-pub use laws::one_hearing;
+pub use laws::{one_hearing, one_session};
 pub use listening::{Listener, listen};
 pub use server::{Answered, Server};
 pub use serving::serve;
