@@ -1,5 +1,5 @@
 -- The heartbeat: each message is its own answer.
-use Rattle.std.proofs.Common.{◌≡◌, ◌⊎◌, inl, inr, ℕ, List, [], ◌∷◌, ◌++◌, Bool, false, Result, Ok, Err, refl, sym, ◌∙◌}
+use Rattle.std.proofs.Common.{◌≡◌, ◌⊎◌, inl, inr, ℕ, List, [], ◌∷◌, ◌++◌, Bool, false, Result, Ok, Err, sym, ◌∙◌}
 use Rattle.std.proofs.Common.{ap, subst, append_assoc}
 use Rattle.std.specs.List.{flat_map}
 use Rattle.std.proofs.lemmas.List.{append-nil}
@@ -12,12 +12,11 @@ use Rattle.kernel_engine.specs.declared.server.Answered.{Answered}
 use Rattle.kernel_engine.specs.declared.server.Answered.TheVariants.{Done, Dropped}
 use Rattle.kernel_engine.specs.declared.end.SessionEnd.{SessionEnd}
 use Rattle.kernel_engine.specs.declared.end.SessionEnd.TheVariants.{Failed}
-use Rattle.kernel_engine.specs.declared.fault.EngineFault.TheVariants.{Memory, Write}
-use Rattle.kernel_engine.specs.Fault.{IsServerEnd}
-use Rattle.kernel_engine.specs.Echo.{EchoesOne, Echoes, IsEchoed, IsCutShort, echo_of}
+use Rattle.kernel_engine.specs.declared.fault.EngineFault.TheVariants.{Memory}
+use Rattle.kernel_engine.specs.Echo.{EchoesOne, Echoes, IsCutShort, echo_of}
 use Rattle.kernel_engine.specs.Exchange.{Exchange}
 use Rattle.kernel_engine.specs.Listen.{RunsOut}
-use Rattle.kernel_engine.specs.Server.{Answering, Serving, Treats, GoesOn, AnswersAll, IsLast, IsServed, Serves}
+use Rattle.kernel_engine.specs.Server.{Answering, Serving, Treats, GoesOn, AnswersAll, IsLast, Serves}
 use Rattle.kernel_engine.specs.Server.{ServesPeer, Converses, begins, marked, told}
 
 -- what the heartbeat answers

@@ -1,7 +1,6 @@
 -- Traffic that is handed on, one after the other.
-use Rattle.std.proofs.Common.{◌≡◌, inl, inr, List, [], ◌∷◌, ◌++◌, true, false, refl, sym, ◌∙◌, ap, subst, append_assoc}
+use Rattle.std.proofs.Common.{◌≡◌, inl, inr, List, [], ◌∷◌, ◌++◌, true, false, refl, sym, ◌∙◌, subst, append_assoc}
 use Rattle.std.proofs.Common.{Ok, Err}
-use Rattle.std.specs.Prelude.{⊤}
 use Rattle.std.proofs.lemmas.List.{append-nil}
 use Rattle.zmtp_wire.specs.declared.fault.WireFault.TheVariants.{PeerError}
 use Rattle.zmtp_wire.specs.declared.traffic.Traffic.{Traffic}

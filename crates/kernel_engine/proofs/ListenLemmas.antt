@@ -1,13 +1,13 @@
 -- Listening to a peer, piece by piece.
-use Rattle.std.proofs.Common.{◌≡◌, ◌⊎◌, inl, inr, ℕ, ◌<◌, List, [], ◌∷◌, ◌++◌, length, true, false, Option, Some, None}
-use Rattle.std.proofs.Common.{Ok, Err, refl, sym, ◌∙◌, ap, subst, append_assoc}
+use Rattle.std.proofs.Common.{◌≡◌, ◌⊎◌, inl, inr, ℕ, ◌<◌, List, [], ◌++◌, length, false, Option, Some, None}
+use Rattle.std.proofs.Common.{Ok, Err, refl, sym, ◌∙◌, subst, append_assoc}
 use Rattle.std.proofs.lemmas.List.{append-nil}
 use Rattle.zmtp_wire.specs.declared.fault.WireFault.{WireFault}
 use Rattle.zmtp_wire.specs.declared.fault.WireFault.TheVariants.{OutOfMemory}
 use Rattle.zmtp_wire.specs.declared.traffic.Traffic.{Traffic}
 use Rattle.zmtp_wire.specs.declared.traffic.decoder.Fed.{Fed}
 use Rattle.zmtp_wire.specs.Limits.{usual_limits}
-use Rattle.zmtp_wire.specs.Grammar.{ReadsUpTo, IsFaulty, IsUnfinished}
+use Rattle.zmtp_wire.specs.Grammar.{ReadsUpTo, IsUnfinished}
 use Rattle.zmtp_wire.specs.Traffic.{is_error}
 use Rattle.zmtp_wire.specs.Decoding.{Decoding, Feeds, IsFaultOf}
 use Rattle.zmtp_wire.specs.Device.{Inflow}
@@ -16,7 +16,7 @@ use Rattle.kernel_engine.specs.declared.end.SessionEnd.TheVariants.{Wire, Failed
 use Rattle.kernel_engine.specs.declared.fault.EngineFault.TheVariants.{Memory}
 use Rattle.kernel_engine.specs.declared.shaking.Shaken.{Shaken}
 use Rattle.kernel_engine.specs.Peer.{IsCalm, BeginsWith, EndsBehind, EndsAs}
-use Rattle.kernel_engine.specs.Listen.{Hearing, HearsAll, Heard, Listens, IsPause, IsHeardOut, IsBrokenOff}
+use Rattle.kernel_engine.specs.Listen.{Hearing, HearsAll, Heard, Listens, IsPause, IsHeardOut}
 use Rattle.kernel_engine.specs.Handing.{HandsFront, HandsFed, HandsPiece, HandsNone}
 use Rattle.kernel_engine.specs.Steps.{Leg, IsFed, fresh}
 use Rattle.kernel_engine.proofs.Legs.{leg_none, leg_on, stop_on, decided, wire_decided, memory_decided}

@@ -1,8 +1,6 @@
 -- A server that hears a peer at its writer.
-use Rattle.std.proofs.Common.{◌≡◌, ◌≢◌, ◌⊎◌, inl, inr, ℕ, List, [], ◌∷◌, ◌++◌, Bool, false, Result, Ok, Err, IfErr, refl, sym}
+use Rattle.std.proofs.Common.{◌≡◌, ◌⊎◌, inl, inr, ℕ, List, [], ◌∷◌, ◌++◌, Result, Ok, Err, IfErr, refl, sym}
 use Rattle.std.proofs.Common.{◌∙◌, ap, subst, append_assoc}
-use Rattle.std.specs.Prelude.{⊤}
-use Rattle.std.proofs.lemmas.List.{append-nil}
 use Rattle.zmtp_wire.specs.declared.traffic.Traffic.{Traffic}
 use Rattle.zmtp_wire.specs.Device.{Inflow, Outflow, Puts}
 use Rattle.kernel_engine.specs.declared.server.Answered.{Answered}
@@ -10,11 +8,11 @@ use Rattle.kernel_engine.specs.declared.end.SessionEnd.{SessionEnd}
 use Rattle.kernel_engine.specs.declared.end.SessionEnd.TheVariants.{Eof, Shutdown, Wire, Failed}
 use Rattle.kernel_engine.specs.declared.fault.EngineFault.TheVariants.{Memory, Read, Write, Turns, Worn}
 use Rattle.kernel_engine.specs.declared.shaking.Shaken.{Shaken}
-use Rattle.kernel_engine.specs.Exchange.{failed_reads, failed_writes}
+use Rattle.kernel_engine.specs.Exchange.{failed_writes}
 use Rattle.kernel_engine.specs.Fault.{IsServerEnd}
 use Rattle.kernel_engine.specs.Listen.{HearsAll, Listens, RunsOut, IsHeardOut, IsBrokenOff}
-use Rattle.kernel_engine.specs.Respond.{Seen, Responds, Writes, ConversesOn, went}
-use Rattle.kernel_engine.specs.Server.{Answering, Serving, Treats, GoesOn, AnswersAll, begins, marked}
+use Rattle.kernel_engine.specs.Respond.{Seen, Responds, Writes, ConversesOn}
+use Rattle.kernel_engine.specs.Server.{Answering, Treats, GoesOn, AnswersAll, begins, marked}
 use Rattle.kernel_engine.specs.Steps.{Leg, IsPrompt}
 use Rattle.kernel_engine.proofs.Legs.{IsDecided, decided, write_decided, puts_none, puts_on}
 use Rattle.kernel_engine.proofs.SeenLemmas.{listens_seen}

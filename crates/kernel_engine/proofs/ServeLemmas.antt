@@ -1,6 +1,6 @@
 -- Shaking hands with a peer, and then responding to it.
 use Rattle.std.proofs.Common.{◌≡◌, ◌⊎◌, inl, inr, ℕ, ◌+◌, ◌<◌, List, [], ◌++◌, Bool, false, length, refl, sym, ◌∙◌, ap, subst}
-use Rattle.std.proofs.Common.{arith, append_assoc, length-append}
+use Rattle.std.proofs.Common.{arith, length-append}
 use Rattle.std.specs.Prelude.{⊤}
 use Rattle.std.proofs.lemmas.List.{append-nil}
 use Rattle.zmtp_wire.specs.declared.handshake.socket_type.SocketType.{SocketType}
@@ -13,7 +13,6 @@ use Rattle.zmtp_wire.specs.Device.{Inflow, Outflow}
 use Rattle.kernel_engine.specs.declared.end.SessionEnd.{SessionEnd}
 use Rattle.kernel_engine.specs.Peer.{BeginsWith}
 use Rattle.kernel_engine.specs.Exchange.{Exchange, failed_writes}
-use Rattle.kernel_engine.specs.Listen.{RunsOut}
 use Rattle.kernel_engine.specs.Respond.{ConversesOn}
 use Rattle.kernel_engine.specs.Server.{Answering, Serving, IsLast, ServesPeer}
 use Rattle.kernel_engine.specs.Steps.{Leg, IsPrompt, Meets, TurnsAway}

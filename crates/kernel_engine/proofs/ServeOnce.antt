@@ -12,7 +12,7 @@ use Rattle.kernel_engine.specs.declared.server.Answered.{Answered}
 use Rattle.kernel_engine.specs.declared.server.Answered.TheVariants.{Done, Dropped}
 use Rattle.kernel_engine.specs.declared.end.SessionEnd.{SessionEnd}
 use Rattle.kernel_engine.specs.declared.end.SessionEnd.TheVariants.{Eof, Shutdown, Wire, Failed}
-use Rattle.kernel_engine.specs.Peer.{BeginsWith, EndsAs, EndsBehind, IsCalm, IsMet, IsTurnedAway}
+use Rattle.kernel_engine.specs.Peer.{BeginsWith, EndsAs, EndsBehind, IsCalm, IsTurnedAway}
 use Rattle.kernel_engine.specs.Laws.{IsSettled, IsDone, IsFunction, ServesOnce}
 use Rattle.kernel_engine.specs.Listen.{RunsOut}
 use Rattle.kernel_engine.specs.Server.{Answering, Serving, Treats, GoesOn, AnswersAll, IsLast, Converses, marked, begins}

@@ -1,4 +1,4 @@
-use Rattle.std.proofs.Common.{arith, ◌≡◌, ◌++◌, [], None, length, drop, length-append, ap, ◌∙◌, refl, subst, sym}
+use Rattle.std.proofs.Common.{arith, ◌≡◌, ◌++◌, length, drop, length-append, ap, ◌∙◌, refl, subst, sym}
 use Rattle.std.proofs.lemmas.List.{length-take-le}
 use Rattle.zmtp_wire.specs.declared.traffic.decoder.Fed.{Fed}
 use Rattle.kernel_engine.specs.Steps.{IsFed}

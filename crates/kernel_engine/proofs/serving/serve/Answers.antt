@@ -1,8 +1,6 @@
-use Rattle.std.proofs.Common.{◌≡◌, ℕ, Bool, true, false, refl, sym, ap}
-use Rattle.kernel_engine.specs.declared.end.SessionEnd.{SessionEnd}
-use Rattle.kernel_engine.specs.Server.{ServesPeer, told}
+use Rattle.std.proofs.Common.{false, refl, sym, ap}
+use Rattle.kernel_engine.specs.Server.{told}
 use Rattle.kernel_engine.proofs.ServeLemmas.{serve_met, serve_away}
-use Rattle.kernel_engine.proofs.serving.serve.Given.{Over}
 use Rattle.kernel_engine.proofs.serving.serve.Goals as goal
 
 pub returns-in-Err-clause-serves : goal.returns-in-Err-clause-serves
