@@ -92,22 +92,22 @@ cut_short now new opening items rest replies written end same last = record {
   comes = last.comes;
   harmless = last.harmless;
   how = elim last.how [
-    inl (is, ends, wrote) ↦
-      let (memory, none) = gave_up now.server new.server last.last last.reply last.answered end last.step is in
-      inl (
-        memory,
-        ap (λ o. opening ++ o)
-            (wrote ∙ ap (λ o. replies ++ o) none ∙ append-nil replies ∙ same),
-      )
-  | inr (is, (lost, split)) ↦
-      let (more, back) = back_front now.server new.server last.last last.reply last.answered last.step in
-      inr (
-        is,
-        (
-          lost ++ more,
-          cut_how opening (flat_map echo_of items) replies written last.reply more lost last.last same back split,
-        ),
-      )
+    | inl (is, ends, wrote) ↦
+        let (memory, none) = gave_up now.server new.server last.last last.reply last.answered end last.step is in
+        inl (
+          memory,
+          ap (λ o. opening ++ o)
+              (wrote ∙ ap (λ o. replies ++ o) none ∙ append-nil replies ∙ same),
+        )
+    | inr (is, (lost, split)) ↦
+        let (more, back) = back_front now.server new.server last.last last.reply last.answered last.step in
+        inr (
+          is,
+          (
+            lost ++ more,
+            cut_how opening (flat_map echo_of items) replies written last.reply more lost last.last same back split,
+          ),
+        )
   ];
 }
 
@@ -119,11 +119,11 @@ echoed_ends : {Server : Type 0} (dropped : Bool) (old new : Server) (octets writ
 echoed_ends dropped old new octets written opening end talk =
     let (back, kept) = came_back (begins old) talk.now talk.traffic talk.replies talk.answered in
     elim talk.ends [
-      inl (runs, wrote, is) ↦ (
+      | inl (runs, wrote, is) ↦ (
         inl (runs, ap (λ o. opening ++ o) (wrote ∙ back)),
         ap (λ (s : Serving _). s.dropped) (sym is) ∙ kept,
       )
-    | inr last ↦ (
+      | inr last ↦ (
         inr (cut_short talk.now (record { server = new; dropped = dropped }) opening talk.traffic talk.rest talk.replies
             written end back last),
         last_kept talk.now.server new last.last last.reply last.answered talk.now.dropped dropped last.step last.mark

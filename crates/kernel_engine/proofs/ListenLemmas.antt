@@ -237,8 +237,8 @@ listening_ends_first hears old new fed decoder inflow turns before after end (fe
     (piece_ends hears old old new fresh decoder [] before fed.traffic fed.fault end (heard_none hears old) feeds
     handed) in
     elim ends [
-      inl out ↦ inl (out_ends hears old new before [] inflow inflow turns turns after end (leg_none inflow turns) out)
-    | inr off ↦ inr (record {
+      | inl out ↦ inl (out_ends hears old new before [] inflow inflow turns turns after end (leg_none inflow turns) out)
+      | inr off ↦ inr (record {
         octets = [];
         leg = leg_none inflow turns;
         now = off.now;
@@ -265,8 +265,8 @@ piece_ends_it hears old now new decoder decoder' one two three turns between lef
     (piece_ends hears old now new decoder decoder' (before ++ so_far.read) piece.octets piece.traffic piece.fault end
     so_far.heard (piece.fed so_far.heard.alive) piece.hands) in
     elim ends [
-      inl out ↦ inl (out_ends hears old new before octets one three turns left after end leg out)
-    | inr off ↦ inr (record {
+      | inl out ↦ inl (out_ends hears old new before octets one three turns left after end leg out)
+      | inr off ↦ inr (record {
         octets = octets;
         leg = leg;
         now = off.now;

@@ -15,8 +15,12 @@ use Rattle.kernel_engine.proofs.Legs.{leg_on}
 pub front_inside : (one back front behind : List ℕ) → one ++ back ≡ front ++ behind → length back ≤ length behind
     → (more : List ℕ) × (one ≡ front ++ more)
 front_inside one back front behind same short =
-    let fits : length front ≤ length one = omega (arith, ap length same, length-append one back,
-    length-append front behind) in
+    let fits : length front ≤ length one = omega (
+      arith,
+      ap length same,
+      length-append one back,
+      length-append front behind,
+    ) in
     let begins : take (length front) one ≡ front = sym (take-append-le (length front) one back fits)
     ∙ ap (take (length front)) same ∙ take_at front behind (length front) refl in (
       drop (length front) one,
@@ -38,12 +42,12 @@ pub piece_needed : (kept piece rest : List ℕ) (front : List Traffic) (last : T
     → length comes.behind < length piece
 piece_needed kept piece rest front last none (read, is, reads) comes =
     elim (cases_lt (length comes.behind) (length piece)) [
-      inl enough ↦ enough
-    | inr short ↦
-        let grouped : kept ++ piece ≡ (read ++ comes.front) ++ comes.behind =
-        is ∙ ap (λ o. read ++ o) comes.split ∙ sym (append_assoc read comes.front comes.behind) in
-        let (more, inside) = front_inside kept piece (read ++ comes.front) comes.behind grouped short in
-        absurd (read_inside kept read comes.front more front last none reads comes.spelled inside)
+      | inl enough ↦ enough
+      | inr short ↦
+          let grouped : kept ++ piece ≡ (read ++ comes.front) ++ comes.behind =
+          is ∙ ap (λ o. read ++ o) comes.split ∙ sym (append_assoc read comes.front comes.behind) in
+          let (more, inside) = front_inside kept piece (read ++ comes.front) comes.behind grouped short in
+          absurd (read_inside kept read comes.front more front last none reads comes.spelled inside)
     ]
 
 -- one more read

@@ -113,10 +113,10 @@ how_behind : {Server : Type 0} (answers : Answering Server) (now : Seen Server) 
     → ((e.answered ≡ Err end) × IsServerEnd end × (replies ++ e.more ≡ replies ++ e.reply))
     ⊎ ((end ≡ Failed Write) × ((lost : List ℕ) × (replies ++ e.reply ≡ (replies ++ e.more) ++ lost)))
 how_behind answers now last new end replies e = elim e.how [
-    inl (is, ends, same) ↦ inl (is, ends, ap (λ o. replies ++ o) same)
+  | inl (is, ends, same) ↦ inl (is, ends, ap (λ o. replies ++ o) same)
   | inr (is, (lost, split)) ↦
       inr (is, (lost, ap (λ o. replies ++ o) split ∙ sym (append_assoc replies e.more lost)))
-  ]
+]
 
 -- no write failed where listening ended with what was heard
 out_writes : (rest : List ℕ) (end : SessionEnd) → RunsOut rest end → failed_writes end ≡ 0

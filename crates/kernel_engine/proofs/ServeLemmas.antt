@@ -64,14 +64,14 @@ prompt_all : {Server : Type 0} (answers : Answering Server) (now : Serving Serve
     → ReadsUpTo usual_limits (before ++ more) traffic rest
     → Leg one two turns between octets → IsPrompt one two turns between octets before
     → elim ends as (λ _. Type 0) [
-        inl ended ↦ ⊤
+      | inl ended ↦ ⊤
       | inr last ↦ ((more ≡ []) × Leg two three between left [])
-            ⊎ IsPrompt two three between left more last.comes.behind
-      ]
+          ⊎ IsPrompt two three between left more last.comes.behind
+    ]
     → elim ends as (λ _. Type 0) [
-        inl ended ↦ ⊤
+      | inl ended ↦ ⊤
       | inr last ↦ IsPrompt one three turns left (octets ++ more) last.comes.behind
-      ]
+    ]
 prompt_all answers now traffic rest replies written new end out one two three turns between left octets before more
     (inl ended) read leg first prompt = tt
 prompt_all answers now traffic rest replies written new end out one two three turns between left octets before more

@@ -105,9 +105,9 @@ left : {Server : Type 0} (answers : Answering Server) (now new : Serving Server)
     (end : SessionEnd) → IsSettled end → (last : IsLast answers now rest replies written new end)
     → (last.answered ≡ Err end) × (written ≡ replies ++ last.reply)
 left answers now new rest replies written end settled last = elim last.how [
-    inl (is, ends, wrote) ↦ (is, wrote)
+  | inl (is, ends, wrote) ↦ (is, wrote)
   | inr (is, lost) ↦ absurd (subst IsSettled is settled)
-  ]
+]
 
 -- nothing was dropped by then
 left_kept : {Server : Type 0} (answers : Answering Server) (now : Serving Server) (new : Server)
@@ -126,9 +126,9 @@ Talk answers old octets written new end = Converses false answers old octets wri
 talk_kept : {Server : Type 0} (answers : Answering Server) (old : Server) (octets written : List ℕ) (new : Server)
     (end : SessionEnd) → IsSettled end → (talk : Talk answers old octets written new end) → talk.now.dropped ≡ false
 talk_kept answers old octets written new end settled talk = elim talk.ends [
-    inl (runs, wrote, is) ↦ ap (λ (s : Serving _). s.dropped) is
+  | inl (runs, wrote, is) ↦ ap (λ (s : Serving _). s.dropped) is
   | inr last ↦ left_kept answers talk.now new talk.rest talk.replies written end settled last
-  ]
+]
 
 -- a server that ended a session at one traffic didn't go on behind it
 stuck : {Server : Type 0} (laws : Laws) (answers : Answering Server) → IsFunction answers → (old : Serving Server)
@@ -228,11 +228,11 @@ less_out laws answers once old one other octets written also ending end settled 
     let items : first.traffic ≡ second.traffic = sym (is ∙ ap (λ t. first.traffic ++ t) none
     ∙ append-nil first.traffic) in
     elim second.ends [
-      inl (out, wrote', same') ↦
-        both_out laws answers once old one other octets written also ending end settled quiet first second items rests
-            runs out wrote same wrote' same'
-    | inr last ↦ absurd (no_last laws second.rest ending last.last
-        (subst (λ r. EndsBehind r ending) rests (ends_settled first.rest ending settled runs)) last.comes last.harmless)
+      | inl (out, wrote', same') ↦
+          both_out laws answers once old one other octets written also ending end settled quiet first second items rests
+          runs out wrote same wrote' same'
+      | inr last ↦ absurd (no_last laws second.rest ending last.last
+          (subst (λ r. EndsBehind r ending) rests (ends_settled first.rest ending settled runs)) last.comes last.harmless)
     ]
 
 -- the server ended the first
@@ -248,11 +248,11 @@ less_last laws answers once old one other octets written also ending end settled
     let rests : first.rest ≡ second.rest = split ∙ ap (λ o. o ++ second.rest) none in
     let items : first.traffic ≡ second.traffic = sym (is ∙ append-nil first.traffic) in
     elim second.ends [
-      inl (out, wrote, same) ↦ absurd (no_last laws first.rest end last.last
-        (subst (λ r. EndsBehind r end) (sym rests) (ends_settled second.rest end quiet out)) last.comes last.harmless)
-    | inr final ↦
-        both_last laws answers once old one other octets written also ending end settled quiet first second items rests
-            last final
+      | inl (out, wrote, same) ↦ absurd (no_last laws first.rest end last.last
+          (subst (λ r. EndsBehind r end) (sym rests) (ends_settled second.rest end quiet out)) last.comes last.harmless)
+      | inr final ↦
+          both_last laws answers once old one other octets written also ending end settled quiet first second items rests
+          last final
     ]
 less_last laws answers once old one other octets written also ending end settled quiet first second (next ∷ more) is
     reads last =
@@ -271,12 +271,12 @@ talk_less : {Server : Type 0} (laws : Laws) (answers : Answering Server) → IsF
     → ReadsUpTo usual_limits first.rest more second.rest → Same written also one other ending end
 talk_less laws answers once old one other octets written also ending end settled quiet first second more is reads =
     elim first.ends [
-      inl (runs, wrote, same) ↦
-        less_out laws answers once old one other octets written also ending end settled quiet first second more is reads
-            runs wrote same
-    | inr last ↦
-        less_last laws answers once old one other octets written also ending end settled quiet first second more is
-            reads last
+      | inl (runs, wrote, same) ↦
+          less_out laws answers once old one other octets written also ending end settled quiet first second more is reads
+          runs wrote same
+      | inr last ↦
+          less_last laws answers once old one other octets written also ending end settled quiet first second more is
+          reads last
     ]
 
 talk_once : {Server : Type 0} (laws : Laws) (answers : Answering Server) → IsFunction answers
@@ -285,13 +285,13 @@ talk_once : {Server : Type 0} (laws : Laws) (answers : Answering Server) → IsF
     → Same written also one other ending end
 talk_once laws answers once old one other octets written also ending end settled quiet first second =
     elim (laws.goes_on usual_limits octets first.traffic second.traffic first.rest second.rest first.read second.read) [
-      inl (more, is, reads) ↦
-        talk_less laws answers once old one other octets written also ending end settled quiet first second more is
-            reads
-    | inr (more, is, reads) ↦
-        let same = talk_less laws answers once old other one octets also written end ending quiet settled second first
-        more is reads in
-        record { wrote = sym same.wrote; server = sym same.server; ends = sym same.ends }
+      | inl (more, is, reads) ↦
+          talk_less laws answers once old one other octets written also ending end settled quiet first second more is
+          reads
+      | inr (more, is, reads) ↦
+          let same = talk_less laws answers once old other one octets also written end ending quiet settled second first
+          more is reads in
+          record { wrote = sym same.wrote; server = sym same.server; ends = sym same.ends }
     ]
 
 -- a peer that was turned away with nothing wanting

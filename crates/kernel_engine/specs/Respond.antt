@@ -47,7 +47,7 @@ pub record ConversesOn {Server : Type 0} (dropped : Bool) (answers : Answering S
   pub exchange : Exchange (λ octets written new end. Converses dropped answers old (before ++ octets) written new end)
       inflow inflow' outflow outflow' turns left new end
   pub prompt : elim exchange.outcome.ends as (λ _. Type 0) [
-        inl out ↦ ⊤
-      | inr last ↦ ((exchange.read ≡ []) × Leg inflow inflow' turns left [])
-          ⊎ IsPrompt inflow inflow' turns left exchange.read last.comes.behind
-      ]
+    | inl out ↦ ⊤
+    | inr last ↦ ((exchange.read ≡ []) × Leg inflow inflow' turns left [])
+        ⊎ IsPrompt inflow inflow' turns left exchange.read last.comes.behind
+  ]

@@ -112,12 +112,12 @@ pub record ServesPeer {Server : Type 0} (dropped : Bool) (answers : Answering Se
     : Type 0 where
   pub exchange : Exchange (Serves dropped answers ours old) inflow inflow' outflow outflow' turns left new end
   pub prompt : elim exchange.outcome as (λ _. Type 0) [
-        inl away ↦ ⊤
-      | inr served ↦ elim served.converses.ends as (λ _. Type 0) [
-            inl out ↦ ⊤
-          | inr last ↦ IsPrompt inflow inflow' turns left exchange.read last.comes.behind
-          ]
-      ]
+    | inl away ↦ ⊤
+    | inr served ↦ elim served.converses.ends as (λ _. Type 0) [
+      | inl out ↦ ⊤
+      | inr last ↦ IsPrompt inflow inflow' turns left exchange.read last.comes.behind
+    ]
+  ]
 
 -- how a session ends that really ended so: want of memory where a message was dropped
 abbrev pub told : Bool → SessionEnd → SessionEnd

@@ -35,12 +35,12 @@ impl<W: Outlet, S: Server> Desk<'_, '_, '_, W, S> {
             × (self.new.reply.ghost_name ≡ self.old.reply.ghost_name)
             × (S.names self.new.server.now ≡ S.names self.old.server.now) }
         ensures responds { Responds S.answers (record {
-              outflow = W.outflow self.old.writer.now;
-              serving = record { server = self.old.server.now; dropped = self.old.dropped };
-            }) (Traffic.Message frames) (record {
-              outflow = W.outflow self.new.writer.now;
-              serving = record { server = self.new.server.now; dropped = self.new.dropped };
-            }) result }
+          outflow = W.outflow self.old.writer.now;
+          serving = record { server = self.old.server.now; dropped = self.old.dropped };
+        }) (Traffic.Message frames) (record {
+          outflow = W.outflow self.new.writer.now;
+          serving = record { server = self.new.server.now; dropped = self.new.dropped };
+        }) result }
     {
         self.reply.clear();
         let answered = self.server.answer(alloc, frames, self.reply);
@@ -56,12 +56,12 @@ impl<W: Outlet, S: Server> Desk<'_, '_, '_, W, S> {
             × (self.new.reply.ghost_name ≡ self.old.reply.ghost_name)
             × (S.names self.new.server.now ≡ S.names self.old.server.now) }
         ensures responds { Responds S.answers (record {
-              outflow = W.outflow self.old.writer.now;
-              serving = record { server = self.old.server.now; dropped = self.old.dropped };
-            }) (Traffic.Command _name _rest) (record {
-              outflow = W.outflow self.new.writer.now;
-              serving = record { server = self.new.server.now; dropped = self.new.dropped };
-            }) result }
+          outflow = W.outflow self.old.writer.now;
+          serving = record { server = self.old.server.now; dropped = self.old.dropped };
+        }) (Traffic.Command _name _rest) (record {
+          outflow = W.outflow self.new.writer.now;
+          serving = record { server = self.new.server.now; dropped = self.new.dropped };
+        }) result }
     {
         Ok(())
     }

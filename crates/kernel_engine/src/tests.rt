@@ -2,6 +2,7 @@
 
 mod echoing;
 mod fault;
+mod hearing;
 mod laws;
 mod serving;
 mod shaking;

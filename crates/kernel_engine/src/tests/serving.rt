@@ -117,8 +117,7 @@ fn clerked(
 }
 
 /// Messages with replies and without, and a command.
-const FOUR: &[u8] =
-    b"\x00\x01A\x04\x06\x05HELLO\x01\x00\x00\x01B\x00\x04hush\x00\x01C\x00\x01D";
+const FOUR: &[u8] = b"\x00\x01A\x04\x06\x05HELLO\x01\x00\x00\x01B\x00\x04hush\x00\x01C\x00\x01D";
 
 /// What a clerk replies to them.
 const REPLIES: &[u8] = b"\x00\x01\x00\x00\x01\x01\x00\x01\x02\x00\x01\x03";
@@ -137,12 +136,48 @@ fn a_server_answers_in_order_until_it_refuses(rt: HostRuntime) -> Result<(), Fai
         (FOUR, 2, Leave::Memory, 2, memory),
         (FOUR, 3, Leave::Worn, 3, worn),
         (&faulty, 1, Leave::Worn, 1, worn),
-        (&faulty, 9, Leave::Worn, 4, SessionEnd::Wire(WireFault::Flags)),
-        (&ended, 9, Leave::Worn, 4, SessionEnd::Wire(WireFault::PeerError)),
-        (FOUR, 0, Leave::Shutdown(true), 1, SessionEnd::Shutdown(true)),
-        (FOUR, 2, Leave::Shutdown(false), 3, SessionEnd::Shutdown(false)),
-        (&faulty, 3, Leave::Shutdown(true), 4, SessionEnd::Shutdown(true)),
-        (&ended, 3, Leave::Shutdown(false), 4, SessionEnd::Shutdown(false)),
+        (
+            &faulty,
+            9,
+            Leave::Worn,
+            4,
+            SessionEnd::Wire(WireFault::Flags),
+        ),
+        (
+            &ended,
+            9,
+            Leave::Worn,
+            4,
+            SessionEnd::Wire(WireFault::PeerError),
+        ),
+        (
+            FOUR,
+            0,
+            Leave::Shutdown(true),
+            1,
+            SessionEnd::Shutdown(true),
+        ),
+        (
+            FOUR,
+            2,
+            Leave::Shutdown(false),
+            3,
+            SessionEnd::Shutdown(false),
+        ),
+        (
+            &faulty,
+            3,
+            Leave::Shutdown(true),
+            4,
+            SessionEnd::Shutdown(true),
+        ),
+        (
+            &ended,
+            3,
+            Leave::Shutdown(false),
+            4,
+            SessionEnd::Shutdown(false),
+        ),
     ] {
         for width in [1, 7, 1_000_000] {
             let (replies, count, end, _) = clerked(alloc, sent, last, leave, width)?;
@@ -179,7 +214,11 @@ fn nothing_is_read_behind_a_shutdown(rt: HostRuntime) -> Result<(), Fail> {
             let router = SocketType::Router;
             let end = serve(alloc, &mut reader, &mut writer, &mut clerk, router, 1000);
             assert_eq!(rt; end, SessionEnd::Shutdown(true), "{width} octets a read");
-            assert_eq!(rt; reader.into_inner().reads, 2 + first, "{width} octets a read");
+            assert_eq!(rt;
+                reader.into_inner().reads,
+                2 + first,
+                "{width} octets a read"
+            );
             let replied = join(alloc, &[GREETING, READY_ROUTER, &REPLIES[..6]])?;
             assert_eq!(rt; writer.into_inner().octets.as_slice(), replied.as_slice());
         }
@@ -247,7 +286,11 @@ fn a_reply_that_cannot_be_written_ends_a_session(rt: HostRuntime) -> Result<(), 
         };
         let router = SocketType::Router;
         let end = serve(alloc, &mut reader, &mut writer, &mut clerk, router, 1000);
-        assert_eq!(rt; end, SessionEnd::Failed(EngineFault::Write), "room for {room}");
+        assert_eq!(rt;
+            end,
+            SessionEnd::Failed(EngineFault::Write),
+            "room for {room}"
+        );
         assert_eq!(rt; clerk.answered, answered, "room for {room}");
         let written = writer.into_inner().octets;
         assert_eq!(rt; Some(written.as_slice()), all.get(..opening + room));
