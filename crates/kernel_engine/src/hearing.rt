@@ -63,7 +63,8 @@ impl<I: Intake> Listener for Filling<'_, I> {
 /// Where the intake says no, hearing ends as `Eof`, and where it has no memory as `Failed` with `Memory`. At most
 /// `turns` reads are made.
 ///
-/// Where a read failed, memory was refused for reading, or no turn is left, hearing can go on with `shaken`.
+/// Where the peer's octets ended, a read failed, no turn was left or no memory to read into, hearing can go on with
+/// `shaken`: it keeps what was read of traffic that isn't whole.
 pub fn hear<R: Inlet, I: Intake>(
     alloc: Global,
     reader: &mut R,

@@ -41,7 +41,8 @@ pub trait Listener {
 /// peer's octets, where they are refused, where the listener ends it, or where a read fails, memory is refused or no
 /// turn is left. At most `turns` reads are made.
 ///
-/// Where a read failed, memory was refused or no turn was left, listening can go on with `shaken`.
+/// Where the peer's octets ended, a read failed, no turn was left or no memory to read into, listening can go on with
+/// `shaken`: it keeps what was read of traffic that isn't whole.
 pub fn listen<R: Inlet, L: Listener>(
     alloc: Global,
     reader: &mut R,

@@ -233,19 +233,11 @@ fn nothing_is_read_once_an_intake_said_no(rt: HostRuntime) -> Result<(), Fail> {
 #[test]
 fn hearing_goes_on_where_it_paused(rt: HostRuntime) -> Result<(), Fail> {
     let alloc = rt.alloc();
-    let octets = join(
-        alloc,
-        &[
-            PEER_GREETING,
-            READY_DEALER,
-            b"\x00\x01A\x01\x02BC\x00\x03DEF",
-            HELLO,
-            PING,
-        ],
-    )?;
-    let opening = PEER_GREETING.len() + READY_DEALER.len();
+    let opening = join(alloc, &[PEER_GREETING, READY_DEALER])?;
+    let messages = b"\x00\x01A\x01\x02BC\x00\x03DEF".as_slice();
+    let sent = join(alloc, &[messages, HELLO, PING])?;
     for turns in [1, 2, 3, 7] {
-        let mut peer = Peer::of(&octets[..opening], &octets[opening..]);
+        let mut peer = Peer::of(&opening, &sent);
         peer.pace = 1;
         let mut reader = Counted::new(peer);
         let mut writer = Counted::new(Sink::new(alloc));
@@ -267,7 +259,7 @@ fn hearing_goes_on_where_it_paused(rt: HostRuntime) -> Result<(), Fail> {
     }
     // A read that failed loses nothing either: of the 14 that give two octets each, and the last.
     for fails_at in 3..18 {
-        let mut peer = Peer::of(&octets[..opening], &octets[opening..]);
+        let mut peer = Peer::of(&opening, &sent);
         peer.pace = 2;
         peer.fails_at = fails_at;
         let mut reader = Counted::new(peer);

@@ -193,13 +193,12 @@ fn a_server_answers_in_order_until_it_refuses(rt: HostRuntime) -> Result<(), Fai
 #[test]
 fn nothing_is_read_behind_a_shutdown(rt: HostRuntime) -> Result<(), Fail> {
     let alloc = rt.alloc();
-    let opening = PEER_GREETING.len() + READY_DEALER.len();
+    let opening = join(alloc, &[PEER_GREETING, READY_DEALER])?;
     // The shutdown is the second message: 3 octets, 8 of HELLO, and 5.
     for (width, first) in [(1, 16), (2, 8), (3, 6), (5, 4), (7, 3), (16, 1)] {
-        let octets = join(alloc, &[PEER_GREETING, READY_DEALER, FOUR])?;
         // Greeting and READY come in two pieces, and the reads behind them so many octets each.
         for fails in [false, true] {
-            let mut peer = Peer::of(&octets[..opening], &octets[opening..]);
+            let mut peer = Peer::of(&opening, FOUR);
             peer.pace = width;
             if fails {
                 peer.fails_at = 3 + first;

@@ -13,7 +13,8 @@ returns-in-Err-clause-listens g c before fed =
     subst (λ (f : Fed). IsFed f shaken.decoder before) (sym c.replace-fed.ensures.value) fed in (
       c.args.turns,
       listening_ends_first g.L.Listener.hears c.args.listener.now c.hand_fed.new.listener c.replace-fed.result
-          shaken.decoder (g.R.Inlet.inflow c.args.reader.now) c.args.turns before _ c.in-Err.end came
+          shaken.decoder (g.R.Inlet.inflow c.args.reader.now) c.args.turns before
+          (record { peer = shaken.peer; fed = c.replace-fed.new.dest; decoder = shaken.decoder }) c.in-Err.end came
           c.in-Err.ensures.hands,
     )
 
@@ -27,7 +28,7 @@ returns-in_default-vec-clause-listens g c before fed =
     shaken.decoder inflow c.args.turns before came c.in_default.ensures.hands in (
       c.args.turns,
       listening_cut g.L.Listener.hears c.args.listener.now c.hand_fed.new.listener shaken.decoder inflow c.args.turns
-          before _ so_far
+          before (record { peer = shaken.peer; fed = c.replace-fed.new.dest; decoder = shaken.decoder }) so_far
           (ap (λ (f : Fed). f.traffic) c.replace-fed.ensures.after ∙ c.new-2.ensures ∙ c.new.ensures.items)
           (ap (λ (f : Fed). f.fault) c.replace-fed.ensures.after) refl,
     )
@@ -52,7 +53,12 @@ returns-in-Err-heard-clause-listens g c before fed =
       listening_ends g.L.Listener.hears c.args.listener.now c.loop-end.listener c.hand_piece-heard.new.listener
           c.loop-end.shaken.decoder c.hand_piece-heard.new.decoder (g.R.Inlet.inflow c.args.reader.now)
           (g.R.Inlet.inflow c.loop-end.reader) (g.R.Inlet.inflow c.hand_piece-heard.new.reader)
-          c.args.turns c.loop-end.left c.hand_piece-heard.new.turns before _ c.in-Err-heard.end
+          c.args.turns c.loop-end.left c.hand_piece-heard.new.turns before
+          (record {
+            peer = c.loop-end.shaken.peer;
+            fed = c.loop-end.shaken.fed;
+            decoder = c.hand_piece-heard.new.decoder;
+          }) c.in-Err-heard.end
           (so_far.so_far before fed) so_far.nothing so_far.calm refl c.in-Err-heard.ensures.err,
     )
 
