@@ -7,6 +7,7 @@ mod laws;
 mod serving;
 mod shaking;
 
+use crate::{EngineFault, SessionEnd};
 use std::alloc::Global;
 use std::io::{self, ErrorKind, Read, Write};
 use std::test::Fail;
@@ -137,6 +138,11 @@ impl Write for Sink {
     fn flush(&mut self) -> io::Result<()> {
         Ok(())
     }
+}
+
+/// The end of an exchange that wanted memory.
+fn memory() -> SessionEnd {
+    SessionEnd::Failed(EngineFault::Memory)
 }
 
 /// Some octets behind one another.

@@ -1,6 +1,6 @@
 //! Traffic that is put into an intake.
 
-use super::{ERROR, HELLO, PEER_GREETING, PING, Peer, READY_DEALER, READY_REQ, Sink, join};
+use super::{ERROR, HELLO, PEER_GREETING, PING, Peer, READY_DEALER, READY_REQ, Sink, join, memory};
 use crate::{EngineFault, Intake, SessionEnd, Shaken, hear, shake};
 use listed::Row;
 use std::alloc::{AllocError, Global};
@@ -186,14 +186,13 @@ fn every_cut_in_two_puts_the_same(rt: HostRuntime) -> Result<(), Fail> {
 fn an_intake_ends_hearing_at_each_place(rt: HostRuntime) -> Result<(), Fail> {
     let alloc = rt.alloc();
     let sent = b"\x00\x01A\x04\x06\x05HELLO\x01\x01B\x00\x01C\x00\x01D\x04\x06\x05ERROR".as_slice();
-    let memory = SessionEnd::Failed(EngineFault::Memory);
     for (places, put) in [
         (0, b"".as_slice()),
         (1, b"|A"),
         (2, b"|A/HELLO"),
         (3, b"|A/HELLO|B|C"),
     ] {
-        for (last, ending) in [(Answer::No, SessionEnd::Eof), (Answer::Refused, memory)] {
+        for (last, ending) in [(Answer::No, SessionEnd::Eof), (Answer::Refused, memory())] {
             for width in [1, 2, 5, 1_000_000] {
                 let (end, shelf) = heard(alloc, sent, places, last, width);
                 assert_eq!(rt; end, ending, "{places} places");

@@ -1,6 +1,6 @@
 //! A server's answers, and how it ends a session.
 
-use super::{ERROR, GREETING, PEER_GREETING, Peer, READY_DEALER, READY_ROUTER, Sink, join};
+use super::{ERROR, GREETING, PEER_GREETING, Peer, READY_DEALER, READY_ROUTER, Sink, join, memory};
 use crate::{Answered, EngineFault, Server, SessionEnd, serve};
 use listed::Frames;
 use std::alloc::{AllocError, Global};
@@ -71,6 +71,11 @@ impl Server for Clerk {
     }
 }
 
+/// The end of a session with a server that is worn.
+fn worn() -> SessionEnd {
+    SessionEnd::Failed(EngineFault::Worn)
+}
+
 /// Whether a message's first frame is this text.
 fn is_frame(frames: &Frames, text: &[u8]) -> bool {
     match frames.as_slice().first() {
@@ -127,15 +132,13 @@ fn a_server_answers_in_order_until_it_refuses(rt: HostRuntime) -> Result<(), Fai
     let alloc = rt.alloc();
     let faulty = join(alloc, &[FOUR, b"\x08", FOUR])?;
     let ended = join(alloc, &[FOUR, ERROR, FOUR])?;
-    let memory = SessionEnd::Failed(EngineFault::Memory);
-    let worn = SessionEnd::Failed(EngineFault::Worn);
     // What is sent, the message at which the clerk leaves and how, how many were answered, and the end.
     for (sent, last, leave, answered, wanted) in [
         (FOUR, 9, Leave::Memory, 4, SessionEnd::Eof),
-        (FOUR, 0, Leave::Memory, 0, memory),
-        (FOUR, 2, Leave::Memory, 2, memory),
-        (FOUR, 3, Leave::Worn, 3, worn),
-        (&faulty, 1, Leave::Worn, 1, worn),
+        (FOUR, 0, Leave::Memory, 0, memory()),
+        (FOUR, 2, Leave::Memory, 2, memory()),
+        (FOUR, 3, Leave::Worn, 3, worn()),
+        (&faulty, 1, Leave::Worn, 1, worn()),
         (
             &faulty,
             9,
@@ -240,7 +243,6 @@ fn a_shutdown_that_comes_with_ready_is_the_last_read(rt: HostRuntime) -> Result<
 #[test]
 fn a_session_of_which_a_message_was_dropped_goes_on(rt: HostRuntime) -> Result<(), Fail> {
     let alloc = rt.alloc();
-    let memory = SessionEnd::Failed(EngineFault::Memory);
     let dropping = b"\x00\x01A\x00\x04drop\x00\x01B\x01\x04drop\x00\x01x\x00\x01C".as_slice();
     let faulty = join(alloc, &[dropping, b"\x08"])?;
     let ended = join(alloc, &[dropping, ERROR])?;
@@ -256,7 +258,7 @@ fn a_session_of_which_a_message_was_dropped_goes_on(rt: HostRuntime) -> Result<(
             assert_eq!(rt; count, answered);
             let due = REPLIES.get(..3 * usize::from(answered));
             assert_eq!(rt; Some(replies.as_slice()), due);
-            assert_eq!(rt; end, memory);
+            assert_eq!(rt; end, memory());
         }
     }
     // One that is dropped behind the last that is answered is too late to change the end.
