@@ -9,7 +9,7 @@ use Rattle.kernel_engine.specs.Peer.{Message}
 use Rattle.kernel_engine.specs.Laws.{HearsOnce}
 use Rattle.jkernel.specs.Block.{starting, block, reply_of, reply_text, ids_of}
 use Rattle.jkernel.specs.Lines.{printed_lines}
-use Rattle.jkernel.specs.Session.{AnswersMessages, IsSession, SessionHasOneValue, LinesHaveOneValue}
+use Rattle.jkernel.specs.Session.{AnswersMessages, IsSession, SessionHasOneValue, LinesHaveOneValue, messages_of}
 
 -- the laws of the layers below
 pub record Laws : Type 0 where
@@ -48,13 +48,14 @@ serves_once laws key number (message ∷ messages) replies others published also
 -- a session has one value
 pub session_once : Laws → SessionHasOneValue
 session_once laws key number octets written others published also one other first second =
-    let (opening, messages, ends) = laws.hears Router octets first.opening second.opening first.messages second.messages
+    let (opening, traffic, ends) = laws.hears Router octets first.opening second.opening first.traffic second.traffic
     one other first.hears second.hears in
-    let served' = subst (λ ms. AnswersMessages key number ms second.replies also) (sym messages) second.serves in
-    let (replies, messages') = serves_once laws key number first.messages first.replies second.replies published also
-    first.serves served' in (
+    let served' = subst (λ t. AnswersMessages key number (messages_of t) second.replies also) (sym traffic)
+    second.serves in
+    let (replies, messages) = serves_once laws key number (messages_of first.traffic) first.replies second.replies
+    published also first.serves served' in (
       first.all ∙ ap (λ o. o ++ first.replies) opening ∙ ap (λ o. second.opening ++ o) replies ∙ sym second.all,
-      messages',
+      messages,
       ends,
     )
 

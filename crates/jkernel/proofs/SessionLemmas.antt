@@ -1,5 +1,5 @@
 -- What a session makes of the messages of a peer.
-use Rattle.std.proofs.Common.{◌≡◌, ◌≢◌, ◌⊎◌, inl, inr, ℕ, ◌+◌, ◌<◌, ◌^◌, List, [], ◌∷◌, ◌++◌, length}
+use Rattle.std.proofs.Common.{◌≡◌, ◌≢◌, ◌⊎◌, inl, inr, ℕ, ◌+◌, ◌<◌, List, [], ◌∷◌, ◌++◌, length, Bool, true, false}
 use Rattle.std.proofs.Common.{Option, Some, None}
 use Rattle.std.proofs.Common.{IfSome, Result, Ok, Err, IfOk, refl, sym, ◌∙◌, ap, subst, arith, append_assoc}
 use Rattle.std.proofs.Common.{length-append}
@@ -9,29 +9,33 @@ use Rattle.std.specs.List.{flat_map}
 use Rattle.std.specs.Io.KnownBytes.{Appends}
 use Rattle.listed.specs.Bodies.{bodies}
 use Rattle.zmtp_wire.specs.declared.handshake.socket_type.SocketType.TheVariants.{Router}
+use Rattle.zmtp_wire.specs.declared.traffic.Traffic.{Traffic}
+use Rattle.zmtp_wire.specs.declared.traffic.Traffic.TheVariants as traffic
 use Rattle.zmtp_wire.specs.Frame.{text}
 use Rattle.zmtp_wire.specs.Device.{Inflow, Outflow}
 use Rattle.jmsg_envelope.specs.declared.envelope.Envelope.{Envelope}
 use Rattle.jmsg_envelope.specs.declared.fault.EnvelopeFault.{EnvelopeFault}
 use Rattle.jmsg_envelope.specs.declared.fault.EnvelopeFault.TheVariants.{OutOfMemory as EnvelopeMemory}
 use Rattle.jmsg_envelope.specs.Envelope.{IsNoEnvelope}
+use Rattle.kernel_engine.specs.declared.server.Answered.{Answered}
+use Rattle.kernel_engine.specs.declared.server.Answered.TheVariants.{Done, Dropped}
 use Rattle.kernel_engine.specs.declared.end.SessionEnd.{SessionEnd}
 use Rattle.kernel_engine.specs.declared.end.SessionEnd.TheVariants.{Eof, Shutdown, Wire, Failed}
 use Rattle.kernel_engine.specs.declared.fault.EngineFault.{EngineFault}
-use Rattle.kernel_engine.specs.declared.fault.EngineFault.TheVariants.{Memory, Read, Write, Turns, Worn}
-use Rattle.kernel_engine.specs.Peer.{Message}
-use Rattle.kernel_engine.specs.Server.{AnswersAll, IsServed}
-use Rattle.kernel_engine.specs.Server.{Serves as ServesPeer}
-use Rattle.kernel_engine.specs.Exchange.{Exchange, IsCut}
-use Rattle.kernel_engine.specs.Laws.{EndStays}
+use Rattle.kernel_engine.specs.Peer.{Message, EndsAs, EndsBehind, IsTurnedAway}
+use Rattle.kernel_engine.specs.Listen.{RunsOut}
+use Rattle.kernel_engine.specs.Server.{Serving, Treats, GoesOn, AnswersAll, IsServed, Serves, ServesPeer, begins, marked}
+use Rattle.kernel_engine.specs.Server.{told}
+use Rattle.kernel_engine.specs.Steps.{TurnsAway}
+use Rattle.kernel_engine.specs.Laws.{EndStays, IsSettled}
 use Rattle.jmsg_types.specs.declared.reply.Reply.{Reply}
 use Rattle.jkernel.specs.declared.engine.Engine.{Engine}
 use Rattle.jkernel.specs.Block.{ids_between, reply_with, reply_of, reply_text, block, starting}
 use Rattle.jkernel.specs.Answer.{answer_of}
 use Rattle.jkernel.specs.Lines.{printed_lines}
-use Rattle.jkernel.specs.Session.{IsDropped, AnswersMessages, IsSession, IsPrinted}
-use Rattle.jkernel.specs.Served.{ServesOne, IsServedBy, Sessions}
-use Rattle.jkernel.specs.Replay.{PrintsPeer, IsPrintable}
+use Rattle.jkernel.specs.Session.{IsDropped, AnswersMessages, IsSession, IsPrinted, messages_of}
+use Rattle.jkernel.specs.Served.{ServesOne, DropsOne, AnswersOne, GivesUp, IsWorn}
+use Rattle.jkernel.specs.Replay.{PrintsPeer}
 
 -- a reply has frames
 reply_frames : (key : List ℕ) (number : ℕ) (request : Envelope) (content : Option Reply)
@@ -66,6 +70,18 @@ pub dropped_or : (key : List ℕ) (message frames : Message) (fault : EnvelopeFa
 dropped_or key message frames fault same other (inl memory) = absurd (other memory)
 dropped_or key message frames fault same other (inr refused) = dropped key message frames fault same refused
 
+-- nothing was dropped, and so it wasn't before
+unmarked : (before : Bool) (answered : Answered) (after : Bool) → after ≡ marked before (Ok answered) → after ≡ false
+    → (before ≡ false) × (answered ≡ Done)
+unmarked before Done after mark none = (sym mark ∙ none, refl)
+unmarked before Dropped after mark none = absurd (let e : true ≡ false = sym mark ∙ none in cc)
+
+undropped : (old new : Serving Engine) (items : List Traffic) (replies : List ℕ)
+    → AnswersAll (GoesOn ServesOne) old items replies new → new.dropped ≡ false → old.dropped ≡ false
+undropped old new [] replies (none, same) kept = ap (λ (s : Serving Engine). s.dropped) (sym same) ∙ kept
+undropped old new (first ∷ items) replies (middle, reply, later, (answered, step, mark), rest, is) kept =
+    (unmarked old.dropped answered middle.dropped mark (undropped middle new items later rest kept)).0
+
 -- messages that were served
 record ServedAll (old : Engine) (messages : List Message) (replies : List ℕ) (new : Engine) : Type 0 where
   published : List Message
@@ -73,99 +89,176 @@ record ServedAll (old : Engine) (messages : List Message) (replies : List ℕ) (
   signer : new.signer ≡ old.signer
   serves : AnswersMessages old.signer old.next messages replies published
 
-served_all : (old : Engine) (messages : List Message) (replies : List ℕ) (new : Engine)
-    → AnswersAll ServesOne old messages replies new → ServedAll old messages replies new
-served_all old [] replies new (none, same) = record {
+-- nothing was served
+served_none : (old new : Engine) (replies : List ℕ) → replies ≡ [] → new ≡ old → ServedAll old [] replies new
+served_none old new replies none same = record {
   published = [];
   added = ap (λ (e : Engine). e.published.items) same ∙ sym (append-nil old.published.items);
   signer = ap (λ (e : Engine). e.signer) same;
   serves = (none, refl);
 }
-served_all old (message ∷ messages) replies new (middle, reply, later, inl one, rest, is) =
-    let ih = served_all middle messages later new rest in
+
+-- one message in front of others
+served_more : (old middle new : Engine) (message : Message) (messages : List Message) (reply later replies : List ℕ)
+    → (DropsOne old message reply middle ⊎ AnswersOne old message reply middle) → ServedAll middle messages later new
+    → replies ≡ reply ++ later → ServedAll old (message ∷ messages) replies new
+served_more old middle new message messages reply later replies (inl one) rest is =
     let same : replies ≡ later = is ∙ ap (λ o. o ++ later) one.silent in
-    let serves = subst (λ n. AnswersMessages old.signer n messages later ih.published) one.next
-    (subst (λ k. AnswersMessages k middle.next messages later ih.published) one.signer ih.serves) in
+    let serves = subst (λ n. AnswersMessages old.signer n messages later rest.published) one.stays.next
+    (subst (λ k. AnswersMessages k middle.next messages later rest.published) one.stays.signer rest.serves) in
     record {
-      published = ih.published;
-      added = ih.added ∙ ap (λ o. o ++ ih.published) one.published;
-      signer = ih.signer ∙ one.signer;
+      published = rest.published;
+      added = rest.added ∙ ap (λ o. o ++ rest.published) one.stays.published;
+      signer = rest.signer ∙ one.stays.signer;
       serves = inl (
         one.dropped,
-        subst (λ r. AnswersMessages old.signer old.next messages r ih.published) (sym same) serves,
+        subst (λ r. AnswersMessages old.signer old.next messages r rest.published) (sym same) serves,
       );
     }
-served_all old (message ∷ messages) replies new (middle, reply, later, inr one, rest, is) =
-    let ih = served_all middle messages later new rest in
-    let serves = subst (λ n. AnswersMessages old.signer n messages later ih.published) one.next
-    (subst (λ k. AnswersMessages k middle.next messages later ih.published) one.signer ih.serves) in
+served_more old middle new message messages reply later replies (inr one) rest is =
+    let serves = subst (λ n. AnswersMessages old.signer n messages later rest.published) one.next
+    (subst (λ k. AnswersMessages k middle.next messages later rest.published) one.signer rest.serves) in
     record {
-      published = block old.signer old.next one.request ++ ih.published;
-      added = ih.added ∙ ap (λ o. o ++ ih.published) one.published
-          ∙ append_assoc old.published.items (block old.signer old.next one.request) ih.published;
-      signer = ih.signer ∙ one.signer;
-      serves = inr (one.request, later, ih.published, one.opened, serves, is ∙ ap (λ o. o ++ later) one.replies, refl);
+      published = block old.signer old.next one.request ++ rest.published;
+      added = rest.added ∙ ap (λ o. o ++ rest.published) one.published
+          ∙ append_assoc old.published.items (block old.signer old.next one.request) rest.published;
+      signer = rest.signer ∙ one.signer;
+      serves = inr (one.request, later, rest.published, one.opened, serves, is ∙ ap (λ o. o ++ later) one.replies, refl);
     }
 
--- a peer that is served is one with whom there is a session
-session_of : (old : Engine) (octets written : List ℕ) (new : Engine) (end : SessionEnd)
-    → IsServed ServesOne Router old octets written new end → IsServedBy old octets written new end
-session_of old octets written new end one =
-    let all = served_all old one.messages one.replies new one.answered in
-    record {
-      published = all.published;
-      added = all.added;
-      session = record {
-        opening = one.opening;
-        messages = one.messages;
-        replies = one.replies;
-        hears = one.hears;
-        serves = all.serves;
-        all = one.all;
-      };
-    }
+-- a command in front of others
+served_command : (old middle new : Engine) (messages : List Message) (reply later replies : List ℕ) → reply ≡ []
+    → middle ≡ old → ServedAll middle messages later new → replies ≡ reply ++ later → ServedAll old messages replies new
+served_command old middle new messages reply later replies none same rest is =
+    subst (λ r. ServedAll old messages r new) (sym (is ∙ ap (λ o. o ++ later) none))
+    (subst (λ e. ServedAll e messages later new) same rest)
 
-cut_of : (old : Engine) (octets written : List ℕ) (new : Engine)
-    → IsCut (IsServed ServesOne Router old) octets written new → IsCut (IsServedBy old) octets written new
-cut_of old octets written new cut = record {
-  front = cut.front;
-  behind = cut.behind;
-  split = cut.split;
-  so_far = session_of old cut.front written new Eof cut.so_far;
+served_one : (old middle new : Engine) (first : Traffic) (items : List Traffic) (reply later replies : List ℕ)
+    (answered : Answered) → answered ≡ Done → Treats ServesOne old first reply middle (Ok answered)
+    → ServedAll middle (messages_of items) later new → replies ≡ reply ++ later
+    → ServedAll old (messages_of (first ∷ items)) replies new
+served_one old middle new (traffic.Message message) items reply later replies Done done step rest is =
+    served_more old middle new message (messages_of items) reply later replies step rest is
+served_one old middle new (traffic.Message message) items reply later replies Dropped done step rest is =
+    absurd (let e = done in cc)
+served_one old middle new (traffic.Command name said) items reply later replies answered done (none, same, goes) rest is
+    = served_command old middle new (messages_of items) reply later replies none same rest is
+
+served_all : (old new : Serving Engine) (items : List Traffic) (replies : List ℕ)
+    → AnswersAll (GoesOn ServesOne) old items replies new → new.dropped ≡ false
+    → ServedAll old.server (messages_of items) replies new.server
+served_all old new [] replies (none, same) kept =
+    served_none old.server new.server replies none (ap (λ (s : Serving Engine). s.server) same)
+served_all old new (first ∷ items) replies (middle, reply, later, (answered, step, mark), rest, is) kept =
+    let calm = undropped middle new items later rest kept in
+    served_one old.server middle.server new.server first items reply later replies answered
+    (unmarked old.dropped answered middle.dropped mark calm).1 step (served_all middle new items later rest kept) is
+
+-- how octets end a connection that listening ended with, where nothing was wanting
+ends_settled : (rest : List ℕ) (end : SessionEnd) → IsSettled end → RunsOut rest end → EndsBehind rest end
+ends_settled rest end settled (inl (inl (inl is), unfinished)) = inr (subst (EndsAs rest) (sym is) unfinished)
+ends_settled rest end settled (inl (inl (inr (inl is)), unfinished)) = absurd (subst IsSettled is settled)
+ends_settled rest end settled (inl (inl (inr (inr is)), unfinished)) = absurd (subst IsSettled is settled)
+ends_settled rest end settled (inl (inr is, unfinished)) = absurd (subst IsSettled is settled)
+ends_settled rest end settled (inr (fault, is, inl memory)) = absurd (subst IsSettled is settled memory)
+ends_settled rest end settled (inr (fault, is, inr ends)) = ends
+
+-- a session, and the messages that the engine published in it
+record IsServedBy (old : Engine) (octets written : List ℕ) (new : Engine) (ending : SessionEnd) : Type 0 where
+  published : List Message
+  added : new.published.items ≡ old.published.items ++ published
+  session : IsSession old.signer old.next octets written published ending
+
+-- a peer that was turned away
+away_of : (old new : Engine) (octets written : List ℕ) (end : SessionEnd) → IsTurnedAway Router octets written end
+    → new ≡ old → IsServedBy old octets written new end
+away_of old new octets written end away same = record {
+  published = [];
+  added = ap (λ (e : Engine). e.published.items) same ∙ sym (append-nil old.published.items);
+  session = record {
+    opening = written;
+    traffic = [];
+    replies = [];
+    hears = inl (away, refl);
+    serves = (refl, refl);
+    all = sym (append-nil written);
+  };
 }
 
-outcome_of : (old : Engine) (octets written : List ℕ) (new : Engine) (end : SessionEnd)
-    → ServesPeer (λ engine. 2 ^ 62 < engine.next) ServesOne Router old octets written new end
-    → Sessions old octets written new end
-outcome_of old octets written new Eof one = session_of old octets written new Eof one
-outcome_of old octets written new (Shutdown restart) one = one
-outcome_of old octets written new (Wire fault) (inl (memory, cut)) = inl (memory, cut_of old octets written new cut)
-outcome_of old octets written new (Wire fault) (inr one) = inr (session_of old octets written new (Wire fault) one)
-outcome_of old octets written new (Failed Read) one = session_of old octets written new Eof one
-outcome_of old octets written new (Failed Turns) one = session_of old octets written new Eof one
-outcome_of old octets written new (Failed Write) (lost, cut) = (lost, cut_of old octets (written ++ lost) new cut)
-outcome_of old octets written new (Failed Memory) (state, cut) = (state, cut_of old octets written state cut)
-outcome_of old octets written new (Failed Worn) (state, worn, cut) = (state, worn, cut_of old octets written state cut)
+away_settled : (octets written : List ℕ) (end : SessionEnd) → IsSettled end → TurnsAway Router octets written tt end
+    → IsTurnedAway Router octets written end
+away_settled octets written Eof settled away = away
+away_settled octets written (Shutdown restart) settled away = absurd away
+away_settled octets written (Wire fault) settled (inl (memory, cut)) = absurd (settled memory)
+away_settled octets written (Wire fault) settled (inr away) = away
+away_settled octets written (Failed fault) settled away = absurd settled
 
-pub exchange_of : (old new : Engine) (one two : Inflow) (out last : Outflow) (turns left : ℕ) (end : SessionEnd)
-    → Exchange (ServesPeer (λ engine. 2 ^ 62 < engine.next) ServesOne Router old) one two out last turns left new end
-    → Exchange (Sessions old) one two out last turns left new end
-exchange_of old new one two out last turns left end e = record {
-  read = e.read;
-  written = e.written;
-  reading = e.reading;
-  puts = e.puts;
-  outcome = outcome_of old e.read e.written new end e.outcome;
-}
+-- the engine ends no session that is settled
+never_ends : (old new : Engine) (request : Envelope) (end : SessionEnd) → IsSettled end
+    → (GivesUp old request new end ⊎ IsWorn old new end) → ⊥
+never_ends old new request end settled (inl gives) = subst IsSettled gives.ends settled
+never_ends old new request end settled (inr worn) = subst IsSettled worn.ends settled
 
--- a session that its peer's octets ended
-ended_by : (old new : Engine) (octets written : List ℕ) (end : SessionEnd) → Sessions old octets written new end
-    → IsPrintable end → IsServedBy old octets written new end
-ended_by old new octets written Eof one printable = one
-ended_by old new octets written (Shutdown restart) one printable = absurd one
-ended_by old new octets written (Wire fault) (inl (memory, cut)) enough = absurd (enough memory)
-ended_by old new octets written (Wire fault) (inr one) enough = one
-ended_by old new octets written (Failed fault) one never = absurd never
+never_last : (old new : Engine) (last : Traffic) (reply : List ℕ) (answered : Result Answered SessionEnd)
+    (end : SessionEnd) → IsSettled end → Treats ServesOne old last reply new answered → answered ≡ Err end → ⊥
+never_last old new (traffic.Message message) reply (Ok answered) end settled step is = let e = is in cc
+never_last old new (traffic.Message message) reply (Err found) end settled step is =
+    let same : found ≡ end = let e = is in cc in
+    never_ends old new step.request found (subst IsSettled (sym same) settled) step.why
+never_last old new (traffic.Command name rest) reply answered end settled (none, same, goes) is =
+    let e = sym goes ∙ is in cc
+
+-- a peer that was met
+met_of : (old new : Engine) (octets written : List ℕ) (end : SessionEnd) → IsSettled end
+    → (served : IsServed false ServesOne Router old octets written new end) → IsServedBy old octets written new end
+met_of old new octets written end settled served =
+    let talk = served.converses in
+    elim talk.ends [
+      inl (runs, wrote, is) ↦
+        let all = served_all (begins old) talk.now talk.traffic talk.replies talk.answered
+        (ap (λ (s : Serving Engine). s.dropped) is) in
+        let became : talk.now.server ≡ new = ap (λ (s : Serving Engine). s.server) is in
+        record {
+          published = all.published;
+          added = ap (λ (e : Engine). e.published.items) (sym became) ∙ all.added;
+          session = record {
+            opening = served.opening;
+            traffic = talk.traffic;
+            replies = talk.replies;
+            hears = inr (record {
+              peer = served.peer;
+              behind = served.behind;
+              met = served.met;
+              says = record {
+                rest = talk.rest;
+                read = talk.read;
+                calm = talk.calm;
+                ends = ends_settled talk.rest end settled runs;
+              };
+            });
+            serves = all.serves;
+            all = served.all ∙ ap (λ o. served.opening ++ o) wrote;
+          };
+        }
+    | inr last ↦ elim last.how [
+        inl (is, ends, wrote) ↦
+          absurd (never_last talk.now.server new last.last last.reply last.answered end settled last.step is)
+      | inr (is, lost) ↦ absurd (subst IsSettled is settled)
+      ]
+    ]
+
+-- a session that its peer ended
+ended_by : (old new : Engine) (octets written : List ℕ) (end : SessionEnd) → IsSettled end
+    → Serves false ServesOne Router old octets written new end → IsServedBy old octets written new end
+ended_by old new octets written end settled (inl (away, same, none)) =
+    away_of old new octets written end (away_settled octets written end settled away) same
+ended_by old new octets written end settled (inr served) = met_of old new octets written end settled served
+
+-- a session that is settled ended so, and nothing was dropped
+told_settled : (dropped : Bool) (ended end : SessionEnd) → end ≡ told dropped ended → IsSettled end
+    → (dropped ≡ false) × (end ≡ ended)
+told_settled true ended end is settled = absurd (subst IsSettled is settled)
+told_settled false ended end is settled = (refl, is)
 
 -- what was added to nothing is all that is there
 added_all : (octets written : List ℕ) → Appends (Some []) (Some octets) written → octets ≡ written
@@ -173,15 +266,20 @@ added_all octets written is = is
 
 -- the lines of the session with a peer whose octets were read
 pub prints_peer : (key : List ℕ) (old new : Engine) (one two : Inflow) (out last : Outflow) (turns left : ℕ)
-    (shell output : List ℕ) (end : SessionEnd)
+    (shell output : List ℕ) (dropped : Bool) (ended end : SessionEnd)
     → old.signer ≡ key → old.next ≡ 2 → old.published.items ≡ starting key ∷ [] → out.written ≡ Some [] → last.written
     ≡ Some shell
-    → Exchange (Sessions old) one two out last turns left new end → IsPrintable end → output
-    ≡ printed_lines shell (flat_map text new.published.items) end
+    → ServesPeer dropped ServesOne Router old one two out last turns left new ended → end ≡ told dropped ended
+    → IsSettled end → output ≡ printed_lines shell (flat_map text new.published.items) end
     → PrintsPeer key one.left two.left output
-prints_peer key old new one two out last turns left shell output end signed begins started fresh stands e printable
-    printed =
-    let served = ended_by old new e.read e.written end e.outcome printable in
+prints_peer key old new one two out last turns left shell output dropped ended end signed begins started fresh stands
+    peer is settled printed =
+    let (none, same) = told_settled dropped ended end is settled in
+    let e = peer.exchange in
+    let outcome : Serves false ServesOne Router old e.read e.written new end =
+    subst (λ d. Serves d ServesOne Router old e.read e.written new end) none
+    (subst (Serves dropped ServesOne Router old e.read e.written new) (sym same) e.outcome) in
+    let served = ended_by old new e.read e.written end settled outcome in
     let wrote : shell ≡ e.written = added_all shell e.written
     (subst (λ w. Appends (Some []) w e.written) stands
     (subst (λ w. Appends w last.written e.written) fresh e.puts.added)) in
@@ -200,7 +298,7 @@ prints_peer key old new one two out last turns left shell output end signed begi
         printed = printed ∙ ap (λ w. printed_lines w (flat_map text new.published.items) end) wrote
             ∙ ap (λ p. printed_lines e.written (flat_map text p) end) published;
       };
-      read_out = e.reading.read_out;
+      read_out = λ eof. e.reading.read_out (sym same ∙ eof);
     }
 
 -- a session that ended holds of all that its peer sends
@@ -209,9 +307,9 @@ session_stays : EndStays → (key : List ℕ) (octets after written : List ℕ) 
     → IsSession key 2 (octets ++ after) written published end
 session_stays stays key octets after written published end ended s = record {
   opening = s.opening;
-  messages = s.messages;
+  traffic = s.traffic;
   replies = s.replies;
-  hears = stays Router octets after s.opening s.messages end ended s.hears;
+  hears = stays Router octets after s.opening s.traffic end ended s.hears;
   serves = s.serves;
   all = s.all;
 }

@@ -1,6 +1,6 @@
 -- What the kernel makes of one request ('Messaging in Jupyter' 5.3, "Kernel status" and "Request-Reply"): the
 -- messages that it publishes, and its reply.
-use Rattle.std.specs.Prelude.{ℕ, ◌+◌, List, [], ◌∷◌, ◌++◌, Option, Some, None, codes, decimal}
+use Rattle.std.specs.Prelude.{◌≡◌, ℕ, ◌+◌, List, [], ◌∷◌, ◌++◌, Option, Some, None, codes, decimal}
 use Rattle.serde_json.specs.Written.{compact_text}
 use Rattle.zmtp_wire.specs.Frame.{text}
 use Rattle.jmsg_envelope.specs.declared.envelope.Envelope.{Envelope}
@@ -59,6 +59,13 @@ block key number request =
     published key request.header number (Status Busy)
     ∷ (between key request.header (number + 2) (answer_of request).publication
     ++ published key request.header (number + 1) (Status Idle) ∷ [])
+
+-- some messages were published in front of others of a block, and these weren't
+pub record IsBegun (before after messages : List Message) : Type 0 where
+  pub front : List Message
+  pub behind : List Message
+  pub split : messages ≡ front ++ behind
+  pub added : after ≡ before ++ front
 
 -- how many ids what is published of an answer takes
 abbrev pub ids_between : Option Publication → ℕ

@@ -1,21 +1,12 @@
 -- What a replay says of its input and output by its status.
-use Rattle.std.specs.Prelude.{◌≡◌, ◌≢◌, ℕ, List, [], Option, Some, None, IfSome, ⊤}
+use Rattle.std.specs.Prelude.{◌≡◌, ℕ, List, [], Option, Some, None, IfSome, ⊤}
 use Rattle.std.specs.Io.KnownBytes.{Appends, Consumes, IsAtEnd}
-use Rattle.zmtp_wire.specs.declared.fault.WireFault.TheVariants.{OutOfMemory}
-use Rattle.kernel_engine.specs.declared.end.SessionEnd.{SessionEnd}
-use Rattle.kernel_engine.specs.declared.end.SessionEnd.TheVariants.{Eof, Shutdown, Wire, Failed}
+use Rattle.kernel_engine.specs.declared.end.SessionEnd.TheVariants.{Eof}
 use Rattle.jkernel.specs.declared.status.Status.{Status}
 use Rattle.jkernel.specs.declared.status.Status.TheVariants.{Done, Failed, WordsRefused, FileUnreadable, FileRefused}
 use Rattle.jkernel.specs.declared.status.Status.TheVariants.{InputRefused}
 use Rattle.jkernel.specs.Lines.{hex_octets}
 use Rattle.jkernel.specs.Session.{IsPrinted, IsLines}
-
--- the peer's octets ended the session, and neither memory nor a device did
-abbrev pub IsPrintable : SessionEnd → Type 0
-IsPrintable Eof = ⊤
-IsPrintable (Shutdown restart) = ⊤
-IsPrintable (Wire fault) = fault ≢ OutOfMemory
-IsPrintable (Failed fault) = ⊥
 
 -- The lines of the session with a peer whose octets were read, all of them where it ended with the last.
 pub record PrintsPeer (key : List ℕ) (left left' : Option (List ℕ)) (output : List ℕ) : Type 0 where

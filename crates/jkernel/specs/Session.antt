@@ -3,6 +3,8 @@
 use Rattle.std.specs.Prelude.{◌≡◌, ◌⊎◌, ℕ, ◌+◌, List, [], ◌∷◌, ◌++◌, Some}
 use Rattle.std.specs.List.{flat_map}
 use Rattle.zmtp_wire.specs.declared.handshake.socket_type.SocketType.TheVariants.{Router}
+use Rattle.zmtp_wire.specs.declared.traffic.Traffic.{Traffic}
+use Rattle.zmtp_wire.specs.declared.traffic.Traffic.TheVariants as traffic
 use Rattle.zmtp_wire.specs.Frame.{text}
 use Rattle.jmsg_envelope.specs.declared.envelope.Envelope.{Envelope}
 use Rattle.jmsg_envelope.specs.declared.fault.EnvelopeFault.{EnvelopeFault}
@@ -15,6 +17,12 @@ use Rattle.jkernel.specs.Lines.{hex_octets, printed_lines}
 -- a message that the envelope refuses is dropped
 abbrev pub IsDropped : List ℕ → Message → Type 0
 IsDropped key message = (fault : EnvelopeFault) × IsNoEnvelope key message fault
+
+-- the messages among traffic
+abbrev pub messages_of : List Traffic → List Message
+messages_of [] = []
+messages_of (traffic.Message message ∷ others) = message ∷ messages_of others
+messages_of (traffic.Command name rest ∷ others) = messages_of others
 
 -- The texts of the replies to these messages in turn, and the messages that are published for them, with ids
 -- from this number on.
@@ -32,10 +40,10 @@ AnswersMessages key number (message ∷ messages) replies published =
 pub record IsSession (key : List ℕ) (number : ℕ) (octets written : List ℕ) (published : List Message)
     (ending : SessionEnd) : Type 0 where
   pub opening : List ℕ
-  pub messages : List Message
+  pub traffic : List Traffic
   pub replies : List ℕ
-  pub hears : Hears Router octets opening messages ending
-  pub serves : AnswersMessages key number messages replies published
+  pub hears : Hears Router octets opening traffic ending
+  pub serves : AnswersMessages key number (messages_of traffic) replies published
   pub all : written ≡ opening ++ replies
 
 -- the lines that are printed for all the octets that a peer sends: those of the session with it, behind the message

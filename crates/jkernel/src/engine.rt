@@ -1,12 +1,11 @@
 //! The engine: what a request makes it publish and reply.
 
-ghost use Rattle.std.specs.Prelude.{◌≡◌, ◌+◌, ◌++◌, ◌∷◌, ◌<◌, ◌^◌, [], IfOk, IfErr, OnOk, option_map};
+ghost use Rattle.std.specs.Prelude.{◌≡◌, ◌⊎◌, ◌+◌, ◌++◌, ◌∷◌, ◌<◌, ◌^◌, [], IfOk, IfErr, OnOk, OnErr};
 ghost use Rattle.listed.specs.Bodies.{bodies};
 ghost use Rattle.jmsg_types.specs.declared.publication.Publication.TheVariants.{Status};
-ghost use Rattle.kernel_engine.specs.Fault.{IsAnswerFault};
 ghost use Rattle.jkernel.specs.Answer.{answer_of};
 ghost use Rattle.jkernel.specs.Block.{block, ids_between, ids_of, message_of, published, replay_date, reply_of};
-ghost use Rattle.jkernel.specs.Block.{reply_with, starting, between};
+ghost use Rattle.jkernel.specs.Block.{reply_with, starting, between, IsBegun};
 
 use crate::answer::answer_of;
 use crate::stamp::ReplayStamp;
@@ -54,6 +53,7 @@ impl Engine {
         ensures same { self.new.signer ≡ self.old.signer }
         ensures started { OnOk result
             ((self.new.published.items ≡ starting self.old.signer ∷ []) × (self.new.next ≡ 2)) }
+        ensures refused { OnErr result ((self.new.published.items ≡ []) × (self.new.next ≡ 1)) }
     {
         let date = self.stamp.date(alloc)?;
         let message = self.status(alloc, date.as_str(), b"{}", self.next, State::Starting)?;
@@ -74,7 +74,14 @@ impl Engine {
             ++ block self.old.signer self.old.next request) }
         ensures reply { IfOk result (λ reply. reply ≡ reply_of self.old.signer self.old.next request) }
         ensures next { OnOk result (self.new.next ≡ self.old.next + ids_of request) }
-        ensures fault { IfErr result (IsAnswerFault (2 ^ 62 < self.old.next)) }
+
+
+        // A request that is refused leaves the number as it was, and what was published is the front of its block.
+        ensures begun { OnErr result (IsBegun self.old.published.items self.new.published.items
+            (block self.old.signer self.old.next request)) }
+        ensures number { OnErr result (self.new.next ≡ self.old.next) }
+        ensures fault { IfErr result (λ fault. (fault ≡ EngineFault.Memory) ⊎ ((fault ≡ EngineFault.Worn)
+            × (2 ^ 62 < self.old.next) × (self.new.published.items ≡ self.old.published.items))) }
     {
         if self.next > LAST_ID {
             return Err(EngineFault::Worn);
@@ -108,6 +115,7 @@ impl Engine {
         ensures published { OnOk result (self.new.published.items ≡ self.old.published.items
             ++ between self.old.signer parent.now number publication) }
         ensures next { IfOk result (λ next. next ≡ number + ids_between publication) }
+        ensures kept { OnErr result (self.new.published.items ≡ self.old.published.items) }
         ensures fault { IfErr result (λ fault. fault ≡ EngineFault.Memory) }
     {
         let Some(publication) = publication else {

@@ -6,7 +6,8 @@ ghost use Rattle.std.specs.List.{flat_map};
 ghost use Rattle.zmtp_wire.specs.Frame.{text};
 ghost use Rattle.jkernel.specs.Lines.{hex_octets};
 ghost use Rattle.jkernel.specs.Session.{IsPrinted};
-ghost use Rattle.jkernel.specs.Replay.{PrintsPeer, IsPrintable, Replays, IsReplayed, IsNotHex};
+ghost use Rattle.kernel_engine.specs.Laws.{IsSettled};
+ghost use Rattle.jkernel.specs.Replay.{PrintsPeer, Replays, IsReplayed, IsNotHex};
 
 use crate::engine::Engine;
 use crate::input::{HexFault, octets_of, read_all};
@@ -107,16 +108,16 @@ pub(crate) fn answer_peer<R: Inlet>(
     let mut engine = Engine::new(alloc, Signer::new(key));
     engine.start(alloc)?;
     let mut writer = Counted::new(Vec::new(alloc));
-    let end = printable(session(alloc, reader, &mut writer, &mut engine, TURNS))?;
+    let end = settled(session(alloc, reader, &mut writer, &mut engine, TURNS))?;
     let shell = writer.into_inner();
     let iopub = published_text(alloc, &engine.published)?;
     let lines = lines_text(alloc, &shell, &iopub, end)?;
     Ok(lines)
 }
 
-/// How a session ended that its peer's octets ended: its lines are printed.
-fn printable(end: SessionEnd) -> Result<SessionEnd, EngineFault>
-    ensures { IfOk result (λ kept. (kept ≡ end) × IsPrintable end) }
+/// How a session ended that its peer ended: its lines are printed.
+fn settled(end: SessionEnd) -> Result<SessionEnd, EngineFault>
+    ensures { IfOk result (λ kept. (kept ≡ end) × IsSettled end) }
 {
     match end {
         SessionEnd::Failed(fault) => Err(fault),

@@ -1,51 +1,58 @@
 //! A session with one peer on the shell channel.
 
-ghost use Rattle.std.specs.Prelude.{ℕ};
-ghost use Rattle.kernel_engine.specs.Exchange.{Exchange};
-ghost use Rattle.jkernel.specs.Served.{Sessions};
+ghost use Rattle.std.specs.Prelude.{◌≡◌, ℕ, Bool};
+ghost use Rattle.zmtp_wire.specs.declared.handshake.socket_type.SocketType.TheVariants.{Router};
+ghost use Rattle.kernel_engine.specs.declared.end.SessionEnd.{SessionEnd};
+ghost use Rattle.kernel_engine.specs.Server.{ServesPeer, told};
+ghost use Rattle.jkernel.specs.Served.{ServesOne};
 
 use crate::engine::Engine;
 use jmsg_envelope::{EnvelopeFault, open_envelope};
-use kernel_engine::{EngineFault, Server, SessionEnd, serve};
+use kernel_engine::{Answered, EngineFault, Server, SessionEnd, serve};
 use listed::Frames;
 use std::alloc::Global;
 use zmtp_wire::{Inlet, Outlet, SocketType, write_message};
 
 impl Server for Engine {
-    ghost use Rattle.std.specs.Prelude.{◌<◌, ◌^◌};
+    ghost use Rattle.std.specs.Prelude.{[]};
     ghost use Rattle.jkernel.specs.Served.{ServesOne};
 
     ghost answers = { ServesOne };
 
-    ghost is_worn = { λ engine. 2 ^ 62 < engine.next };
+    ghost names = { λ _. [] };
 
     fn answer(
         &mut self,
         alloc: Global,
         frames: Frames,
         reply: &mut Vec<u8>,
-    ) -> Result<(), EngineFault> {
+    ) -> Result<Answered, SessionEnd> {
         let request = match open_envelope(alloc, &self.signer, frames.into_vec()) {
             Ok(request) => request,
-            Err(EnvelopeFault::OutOfMemory) => return Err(EngineFault::Memory),
+            Err(EnvelopeFault::OutOfMemory) => return Ok(Answered::Dropped),
             Err(
                 EnvelopeFault::NoDelimiter
                 | EnvelopeFault::TooFewParts
                 | EnvelopeFault::BadSignature
                 | EnvelopeFault::BadHeader,
-            ) => return Ok(()),
+            ) => return Ok(Answered::Done),
         };
-        if let Some(message) = self.handle(alloc, request)? {
+        let message = match self.handle(alloc, request) {
+            Ok(message) => message,
+            Err(fault) => return Err(SessionEnd::Failed(fault)),
+        };
+        if let Some(message) = message {
             let Ok(()) = write_message(message.as_slice(), reply) else {
-                return Err(EngineFault::Memory);
+                return Err(SessionEnd::Failed(EngineFault::Memory));
             };
         }
-        Ok(())
+        Ok(Answered::Done)
     }
 }
 
 /// A session with a peer of the shell channel, as a ROUTER: greeting out, greeting in, READY out, READY in, then
-/// each message opened, done and its reply written. At most `turns` reads are made.
+/// each message opened, done and its reply written. One that no memory was left to open is dropped, and the session
+/// goes on and ends `Failed` with `Memory`. At most `turns` reads are made.
 pub(crate) fn session<R: Inlet, W: Outlet>(
     alloc: Global,
     reader: &mut R,
@@ -53,8 +60,10 @@ pub(crate) fn session<R: Inlet, W: Outlet>(
     engine: &mut Engine,
     turns: u64,
 ) -> SessionEnd
-    ensures { (left : ℕ) × Exchange (Sessions engine.old) (R.inflow reader.old) (R.inflow reader.new)
-        (W.outflow writer.old) (W.outflow writer.new) turns left engine.new result }
+    ensures { (left : ℕ) × (dropped : Bool) × (ended : SessionEnd)
+        × ServesPeer dropped ServesOne Router engine.old (R.inflow reader.old) (R.inflow reader.new)
+        (W.outflow writer.old) (W.outflow writer.new) turns left engine.new ended
+        × (result ≡ told dropped ended) }
 {
     serve(alloc, reader, writer, engine, SocketType::Router, turns)
 }

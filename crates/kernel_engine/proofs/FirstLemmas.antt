@@ -1,5 +1,5 @@
 -- What comes first behind a peer's greeting.
-use Rattle.std.proofs.Common.{◌≡◌, ◌⊎◌, inl, inr, ℕ, List, [], ◌++◌, false, Option, Some, None, refl, sym, ◌∙◌, ap}
+use Rattle.std.proofs.Common.{◌≡◌, ◌⊎◌, inl, inr, ℕ, ◌+◌, List, [], ◌++◌, false, Option, Some, None, refl, sym, ◌∙◌, ap}
 use Rattle.std.proofs.Common.{subst}
 use Rattle.zmtp_wire.specs.declared.fault.WireFault.{WireFault}
 use Rattle.zmtp_wire.specs.declared.fault.WireFault.TheVariants.{OutOfMemory}
@@ -11,8 +11,9 @@ use Rattle.zmtp_wire.specs.Device.{Inflow}
 use Rattle.kernel_engine.specs.declared.end.SessionEnd.{SessionEnd}
 use Rattle.kernel_engine.specs.declared.end.SessionEnd.TheVariants.{Wire}
 use Rattle.kernel_engine.specs.Exchange.{Reading}
-use Rattle.kernel_engine.specs.Steps.{Leg, IsStop, BringsNothing, fresh}
+use Rattle.kernel_engine.specs.Steps.{Leg, IsStop, BringsNothing, ComesLate, fresh}
 use Rattle.kernel_engine.proofs.Legs.{leg_none, leg_on, stop_on, decided, wire_decided}
+use Rattle.kernel_engine.proofs.PromptLemmas.{last_read}
 use Rattle.kernel_engine.proofs.Unfinished.{nothing_unfinished}
 
 -- no traffic came yet, and all that was read is kept
@@ -43,7 +44,7 @@ stopped_first one two three turns middle left decoder end so_far stop reading = 
 )
 
 -- a feed of what was kept is a feed of all
-fed_all : (old new : Decoding) (piece : List ℕ) (traffic : List Traffic) (fault : Option WireFault) → old.limits
+pub fed_all : (old new : Decoding) (piece : List ℕ) (traffic : List Traffic) (fault : Option WireFault) → old.limits
     ≡ usual_limits → Feeds old piece traffic fault new → Feeds fresh (old.kept ++ piece) traffic fault new
 fed_all old new piece traffic None limits (read, unfinished, alive) = (
   subst (λ l. ReadsUpTo l (old.kept ++ piece) traffic new.kept) limits read,
@@ -62,13 +63,17 @@ fed_all old new piece traffic (Some found) limits ((rest, read, refused), spent)
 pub came_first : (one two three : Inflow) (turns middle left : ℕ) (old new : Decoding) (piece : List ℕ)
     (traffic : List Traffic) (fault : Option WireFault)
     → NothingFirst one two turns middle old → Leg two three middle left piece → Feeds old piece traffic fault new
-    → new.limits ≡ old.limits
+    → new.limits ≡ old.limits → middle ≡ left + 1
     → (octets : List ℕ) × (Feeds fresh octets traffic fault new × (new.limits ≡ usual_limits))
-    × Leg one three turns left octets
-came_first one two three turns middle left old new piece traffic fault so_far leg feeds same = (
+    × Leg one three turns left octets × ComesLate one three turns left octets
+came_first one two three turns middle left old new piece traffic fault so_far leg feeds same is = (
   old.kept ++ piece,
   (fed_all old new piece traffic fault so_far.limits feeds, same ∙ so_far.limits),
   leg_on one two three turns middle left old.kept piece so_far.leg leg,
+  record {
+    last = last_read one two three turns middle left old.kept piece so_far.leg leg is;
+    nothing = so_far.unfinished.no_traffic;
+  },
 )
 
 -- what is read of octets as no traffic is all of them

@@ -1,8 +1,7 @@
 -- What is heard of a peer has one value.
-use Rattle.std.proofs.Common.{◌≡◌, ◌≢◌, ◌⊎◌, inl, inr, ℕ, ◌<◌, ◌≤◌, List, [], ◌∷◌, ◌++◌, length, take, drop, Bool}
+use Rattle.std.proofs.Common.{◌≡◌, ◌≢◌, ◌⊎◌, inl, inr, ℕ, ◌<◌, List, [], ◌∷◌, ◌++◌, take, drop}
 use Rattle.std.proofs.Common.{true, false, Ok, Err, refl, sym, ◌∙◌, ap, subst, arith, append_assoc, length-append}
-use Rattle.std.specs.Prelude.{MatchBool}
-use Rattle.std.proofs.lemmas.List.{append-nil, take-append-le, drop-append-le}
+use Rattle.std.proofs.lemmas.List.{append-nil}
 use Rattle.zmtp_wire.specs.declared.fault.WireFault.{WireFault}
 use Rattle.zmtp_wire.specs.declared.fault.WireFault.TheVariants as faults
 use Rattle.zmtp_wire.specs.declared.handshake.socket_type.SocketType.{SocketType}
@@ -13,12 +12,12 @@ use Rattle.zmtp_wire.specs.Laws.{FrontHasOneReading, ReadingGoesOn, HasOneFault,
 use Rattle.zmtp_wire.specs.Greeting.{IsGreeting, IsRefusedGreeting, HasSignature, HasVersion, HasNullMechanism}
 use Rattle.zmtp_wire.specs.Greeting.{major_version}
 use Rattle.zmtp_wire.specs.Ready.{IsReady, ReadyHasOneOutcome}
+use Rattle.zmtp_wire.specs.Traffic.{is_error}
 use Rattle.kernel_engine.specs.declared.end.SessionEnd.{SessionEnd}
 use Rattle.kernel_engine.specs.declared.end.SessionEnd.TheVariants.{Eof, Shutdown, Wire, Failed}
-use Rattle.kernel_engine.specs.Peer.{Message, messages_in, has_error, EndsAs, EndsBehind, Says, IsGreeted, ComesFirst}
-use Rattle.kernel_engine.specs.Peer.{IsTurnedAway}
+use Rattle.kernel_engine.specs.Peer.{IsCalm, BeginsWithError, EndsAs, EndsBehind, Says, ComesFirst, IsTurnedAway}
 use Rattle.kernel_engine.specs.Laws.{HearsOnce, MetOrTurnedAway, EndStays}
-use Rattle.kernel_engine.proofs.TrafficLemmas.{messages_to_error, error_stays}
+use Rattle.kernel_engine.proofs.MetLemmas.{take_more, drop_more, greeted_more, first_more, met_more}
 
 -- the laws of the layer below
 pub record Laws : Type 0 where
@@ -43,61 +42,77 @@ ends_once laws rest Eof (Failed fault) first second = absurd second
 ends_once laws rest (Wire fault) (Shutdown restart) first second = absurd second
 ends_once laws rest (Wire fault) (Failed other) first second = absurd second
 
-ends_without : (laws : Laws) (rest : List ℕ) (end : SessionEnd) → EndsAs rest end → HasNoTraffic usual_limits rest
+pub ends_without : (laws : Laws) (rest : List ℕ) (end : SessionEnd) → EndsAs rest end → HasNoTraffic usual_limits rest
 ends_without laws rest Eof h = h.no_traffic
 ends_without laws rest (Wire fault) h = laws.no_traffic usual_limits rest fault h
 ends_without laws rest (Shutdown restart) h = absurd h
 ends_without laws rest (Failed fault) h = absurd h
 
 -- octets that begin with no whole traffic are read as none
-none_behind : (rest last : List ℕ) (more : List Traffic) → HasNoTraffic usual_limits rest
+pub none_behind : (rest last : List ℕ) (more : List Traffic) → HasNoTraffic usual_limits rest
     → ReadsUpTo usual_limits rest more last → (more ≡ []) × (rest ≡ last)
 none_behind rest last [] none (read, is, nothing) = (refl, is ∙ ap (λ o. o ++ last) nothing)
 none_behind rest last (first ∷ more) none (read, is, (head, tail, split, spelled, reads)) =
     absurd (none first head (tail ++ last) (is ∙ ap (λ o. o ++ last) split ∙ append_assoc head tail last) spelled)
 
-says_by : (laws : Laws) (one more : List Traffic) (rest last : List ℕ) (ending end : SessionEnd) (error : Bool)
-    → has_error one ≡ error → ReadsUpTo usual_limits rest more last
-    → MatchBool error (ending ≡ Wire faults.PeerError) (EndsAs rest ending) → EndsBehind (one ++ more) last end
-    → (messages_in one ≡ messages_in (one ++ more)) × (ending ≡ end)
-says_by laws one more rest last ending end true error reads first second =
-    let still : has_error (one ++ more) ≡ true = error_stays one more error in
-    let ends : end ≡ Wire faults.PeerError = rw still at second in
-    (sym (messages_to_error one more error), first ∙ sym ends)
-says_by laws one more rest last ending end false calm reads first second =
-    let (none, same) = none_behind rest last more (ends_without laws rest ending first) reads in
-    let whole : one ++ more ≡ one = ap (λ t. one ++ t) none ∙ append-nil one in
-    let ends : EndsBehind one last end = subst (λ t. EndsBehind t last end) whole second in
-    let ends' : EndsAs last end = rw calm at ends in
-    (ap messages_in (sym whole), ends_once laws rest ending end first (subst (λ r. EndsAs r end) (sym same) ends'))
+-- how octets end a connection is one: octets that begin with a command ERROR begin with whole traffic
+pub error_ends : (laws : Laws) (rest : List ℕ) (end : SessionEnd) → BeginsWithError rest → EndsAs rest end → ⊥
+error_ends laws rest end (last, comes, error) ends =
+    ends_without laws rest end ends last comes.front comes.behind comes.split comes.spelled
+
+pub behind_once : (laws : Laws) (rest : List ℕ) (one other : SessionEnd) → EndsBehind rest one → EndsBehind rest other
+    → one ≡ other
+behind_once laws rest one other (inl (is, error)) (inl (same, also)) = is ∙ sym same
+behind_once laws rest one other (inl (is, error)) (inr ends) = absurd (error_ends laws rest other error ends)
+behind_once laws rest one other (inr ends) (inl (is, error)) = absurd (error_ends laws rest one error ends)
+behind_once laws rest one other (inr first) (inr second) = ends_once laws rest one other first second
+
+-- behind traffic that ends a connection no more is read without a command ERROR
+pub no_more : (laws : Laws) (rest last : List ℕ) (end : SessionEnd) (more : List Traffic) → EndsBehind rest end
+    → ReadsUpTo usual_limits rest more last → IsCalm more → (more ≡ []) × (rest ≡ last)
+no_more laws rest last end more (inr ends) reads calm = none_behind rest last more (ends_without laws rest end ends)
+    reads
+no_more laws rest last end [] (inl (is, error)) (read, split, none) calm = (refl, split ∙ ap (λ o. o ++ last) none)
+no_more laws rest last end (first ∷ more) (inl (is, (head, comes, error)))
+    (read, split, (front, tail, parts, spelled, reads)) (harmless, calm) =
+    let (same, behind) = laws.front usual_limits rest comes.front front head first comes.behind (tail ++ last)
+    comes.split comes.spelled (split ∙ ap (λ o. o ++ last) parts ∙ append_assoc front tail last) spelled in
+    absurd (let e : true ≡ false = sym error ∙ ap is_error same ∙ harmless in cc)
+
+-- the later part of traffic without a command ERROR has none either
+pub calm_behind : (front more : List Traffic) → IsCalm (front ++ more) → IsCalm more
+calm_behind [] more calm = calm
+calm_behind (first ∷ front) more (harmless, calm) = calm_behind front more calm
 
 -- what two readings say, of which one goes on
 says_on : (laws : Laws) (one more : List Traffic) (rest last : List ℕ) (ending end : SessionEnd)
-    → ReadsUpTo usual_limits rest more last → EndsBehind one rest ending → EndsBehind (one ++ more) last end
-    → (messages_in one ≡ messages_in (one ++ more)) × (ending ≡ end)
-says_on laws one more rest last ending end reads first second =
-    says_by laws one more rest last ending end (has_error one) refl reads first second
+    → ReadsUpTo usual_limits rest more last → IsCalm (one ++ more) → EndsBehind rest ending → EndsBehind last end
+    → (one ≡ one ++ more) × (ending ≡ end)
+says_on laws one more rest last ending end reads calm first second =
+    let (none, same) = no_more laws rest last ending more first reads (calm_behind one more calm) in (
+      sym (ap (λ t. one ++ t) none ∙ append-nil one),
+      behind_once laws rest ending end first (subst (λ r. EndsBehind r end) (sym same) second),
+    )
 
-says_either : (laws : Laws) (octets : List ℕ) (messages others : List Message) (ending end : SessionEnd)
-    (first : Says octets messages ending) (second : Says octets others end)
-    → ((more : List Traffic) × (second.traffic ≡ first.traffic ++ more)
-    × ReadsUpTo usual_limits first.rest more second.rest)
-    ⊎ ((more : List Traffic) × (first.traffic ≡ second.traffic ++ more)
-    × ReadsUpTo usual_limits second.rest more first.rest) → (messages ≡ others) × (ending ≡ end)
-says_either laws octets messages others ending end first second (inl (more, is, reads)) =
-    let (same, ends) = says_on laws first.traffic more first.rest second.rest ending end reads first.ends
-    (subst (λ t. EndsBehind t second.rest end) is second.ends) in
-    (first.said ∙ same ∙ ap messages_in (sym is) ∙ sym second.said, ends)
-says_either laws octets messages others ending end first second (inr (more, is, reads)) =
-    let (same, ends) = says_on laws second.traffic more second.rest first.rest end ending reads second.ends
-    (subst (λ t. EndsBehind t first.rest ending) is first.ends) in
-    (first.said ∙ ap messages_in is ∙ sym same ∙ sym second.said, sym ends)
+says_either : (laws : Laws) (octets : List ℕ) (traffic others : List Traffic) (ending end : SessionEnd)
+    (first : Says octets traffic ending) (second : Says octets others end)
+    → ((more : List Traffic) × (others ≡ traffic ++ more) × ReadsUpTo usual_limits first.rest more second.rest)
+    ⊎ ((more : List Traffic) × (traffic ≡ others ++ more) × ReadsUpTo usual_limits second.rest more first.rest)
+    → (traffic ≡ others) × (ending ≡ end)
+says_either laws octets traffic others ending end first second (inl (more, is, reads)) =
+    let (same, ends) = says_on laws traffic more first.rest second.rest ending end reads
+    (subst IsCalm is second.calm) first.ends second.ends in
+    (same ∙ sym is, ends)
+says_either laws octets traffic others ending end first second (inr (more, is, reads)) =
+    let (same, ends) = says_on laws others more second.rest first.rest end ending reads
+    (subst IsCalm is first.calm) second.ends first.ends in
+    (is ∙ sym same, sym ends)
 
-says_once : (laws : Laws) (octets : List ℕ) (messages others : List Message) (ending end : SessionEnd)
-    → Says octets messages ending → Says octets others end → (messages ≡ others) × (ending ≡ end)
-says_once laws octets messages others ending end first second =
-    says_either laws octets messages others ending end first second
-    (laws.goes_on usual_limits octets first.traffic second.traffic first.rest second.rest first.read second.read)
+says_once : (laws : Laws) (octets : List ℕ) (traffic others : List Traffic) (ending end : SessionEnd)
+    → Says octets traffic ending → Says octets others end → (traffic ≡ others) × (ending ≡ end)
+says_once laws octets traffic others ending end first second =
+    says_either laws octets traffic others ending end first second
+    (laws.goes_on usual_limits octets traffic others first.rest second.rest first.read second.read)
 
 -- a greeting that is refused isn't accepted, and is refused for one fault
 refused_greeting : (octets : List ℕ) (fault : WireFault) → IsRefusedGreeting octets fault → IsGreeting octets → ⊥
@@ -137,7 +152,7 @@ greeting_fault_once octets faults.Mechanism other first second =
 greeting_fault_once octets _ other first second = absurd first
 
 -- what comes first is one traffic
-first_once : (laws : Laws) (octets : List ℕ) (one other : Traffic) (rest after : List ℕ) → ComesFirst octets one rest
+pub first_once : (laws : Laws) (octets : List ℕ) (one other : Traffic) (rest after : List ℕ) → ComesFirst octets one rest
     → ComesFirst octets other after → (one ≡ other) × (rest ≡ after)
 first_once laws octets one other rest after first second =
     laws.front usual_limits (drop 64 octets) first.front second.front one other rest after first.split first.spelled
@@ -149,7 +164,7 @@ no_first laws octets first rest end comes ends = ends_without laws (drop 64 octe
     comes.split comes.spelled
 
 -- a peer that is turned away, in one way
-away_once : (laws : Laws) (ours : SocketType) (octets opening other : List ℕ) (ending end : SessionEnd)
+pub away_once : (laws : Laws) (ours : SocketType) (octets opening other : List ℕ) (ending end : SessionEnd)
     → IsTurnedAway ours octets opening ending → IsTurnedAway ours octets other end → (opening ≡ other) × (ending ≡ end)
 away_once laws ours octets opening other ending end (inl first) (inl second) =
     (first.greets ∙ sym second.greets, first.ends ∙ sym second.ends)
@@ -212,42 +227,19 @@ met_away laws ours octets opening other peer behind end met (inr (inr (inr away)
     absurd cc
 
 pub hears_once : Laws → HearsOnce
-hears_once laws ours octets opening other messages others ending end (inl (first, none)) (inl (second, nothing)) =
+hears_once laws ours octets opening other traffic others ending end (inl (first, none)) (inl (second, nothing)) =
     let (same, ends) = away_once laws ours octets opening other ending end first second in
     (same, none ∙ sym nothing, ends)
-hears_once laws ours octets opening other messages others ending end (inl (first, none)) (inr second) =
+hears_once laws ours octets opening other traffic others ending end (inl (first, none)) (inr second) =
     absurd (met_away laws ours octets other opening second.peer second.behind ending second.met first)
-hears_once laws ours octets opening other messages others ending end (inr first) (inl (second, none)) =
+hears_once laws ours octets opening other traffic others ending end (inr first) (inl (second, none)) =
     absurd (met_away laws ours octets opening other first.peer first.behind end first.met second)
-hears_once laws ours octets opening other messages others ending end (inr first) (inr second) =
+hears_once laws ours octets opening other traffic others ending end (inr first) (inr second) =
     let (same, rest) = first_once laws octets first.met.first second.met.first first.behind second.behind
     first.met.comes second.met.comes in
-    let (said, ends) = says_once laws first.behind messages others ending end first.says
+    let (said, ends) = says_once laws first.behind traffic others ending end first.says
     (subst (λ o. Says o others end) (sym rest) second.says) in
     (first.met.greeted.greets ∙ sym second.met.greeted.greets, said, ends)
-
--- more octets behind a peer's greeting
-take_more : (octets after : List ℕ) → 64 ≤ length octets → take 64 (octets ++ after) ≡ take 64 octets
-take_more octets after whole = take-append-le 64 octets after whole
-
-drop_more : (octets after : List ℕ) → 64 ≤ length octets → drop 64 (octets ++ after) ≡ drop 64 octets ++ after
-drop_more octets after whole = drop-append-le 64 octets after whole
-
-greeted_more : (ours : SocketType) (octets after opening : List ℕ) → IsGreeted ours octets opening
-    → IsGreeted ours (octets ++ after) opening
-greeted_more ours octets after opening h = record {
-  whole = let w = h.whole in omega (arith, w, length-append octets after);
-  accepted = subst IsGreeting (sym (take_more octets after h.whole)) h.accepted;
-  greets = h.greets;
-}
-
-first_more : (octets after : List ℕ) (first : Traffic) (behind : List ℕ) → 64 ≤ length octets
-    → ComesFirst octets first behind → ComesFirst (octets ++ after) first (behind ++ after)
-first_more octets after first behind whole h = record {
-  front = h.front;
-  split = drop_more octets after whole ∙ ap (λ o. o ++ after) h.split ∙ append_assoc h.front behind after;
-  spelled = h.spelled;
-}
 
 -- traffic and its rest, with more behind
 reads_more : (octets after : List ℕ) (traffic : List Traffic) (rest : List ℕ)
@@ -262,15 +254,27 @@ rest_more laws rest after (Shutdown restart) ended ends = ends
 rest_more laws rest after (Wire fault) ended ends = laws.stays usual_limits rest after fault ends
 rest_more laws rest after (Failed fault) ended ends = ends
 
-ends_more : (laws : Laws) (rest after : List ℕ) (ending : SessionEnd) (error : Bool) → ending ≢ Eof
-    → MatchBool error (ending ≡ Wire faults.PeerError) (EndsAs rest ending)
-    → MatchBool error (ending ≡ Wire faults.PeerError) (EndsAs (rest ++ after) ending)
-ends_more laws rest after ending true ended is = is
-ends_more laws rest after ending false ended ends = rest_more laws rest after ending ended ends
+-- how octets behind the last whole traffic end a connection, with more behind
+ends_more : (laws : Laws) (rest after : List ℕ) (ending : SessionEnd) → ending ≢ Eof → EndsBehind rest ending
+    → EndsBehind (rest ++ after) ending
+ends_more laws rest after ending ended (inl (is, (last, comes, error))) = inl (
+  is,
+  (
+    last,
+    record {
+      front = comes.front;
+      behind = comes.behind ++ after;
+      split = ap (λ o. o ++ after) comes.split ∙ append_assoc comes.front comes.behind after;
+      spelled = comes.spelled;
+    },
+    error,
+  ),
+)
+ends_more laws rest after ending ended (inr ends) = inr (rest_more laws rest after ending ended ends)
 
 pub end_stays : Laws → EndStays
-end_stays laws ours octets after opening messages ending ended (inl (inl away, none)) = absurd (ended away.ends)
-end_stays laws ours octets after opening messages ending ended (inl (inr (inl away), none)) = inl (
+end_stays laws ours octets after opening traffic ending ended (inl (inl away, none)) = absurd (ended away.ends)
+end_stays laws ours octets after opening traffic ending ended (inl (inr (inl away), none)) = inl (
   inr (inl (record {
     fault = away.fault;
     whole = let w = away.whole in omega (arith, w, length-append octets after);
@@ -280,7 +284,7 @@ end_stays laws ours octets after opening messages ending ended (inl (inr (inl aw
   })),
   none,
 )
-end_stays laws ours octets after opening messages ending ended (inl (inr (inr (inl away)), none)) = inl (
+end_stays laws ours octets after opening traffic ending ended (inl (inr (inr (inl away)), none)) = inl (
   inr (inr (inl (record {
     greeted = greeted_more ours octets after opening away.greeted;
     ends = subst (λ o. EndsAs o ending) (sym (drop_more octets after away.greeted.whole))
@@ -288,7 +292,7 @@ end_stays laws ours octets after opening messages ending ended (inl (inr (inr (i
   }))),
   none,
 )
-end_stays laws ours octets after opening messages ending ended (inl (inr (inr (inr away)), none)) = inl (
+end_stays laws ours octets after opening traffic ending ended (inl (inr (inr (inr away)), none)) = inl (
   inr (inr (inr (record {
     greeted = greeted_more ours octets after opening away.greeted;
     first = away.first;
@@ -300,20 +304,14 @@ end_stays laws ours octets after opening messages ending ended (inl (inr (inr (i
   }))),
   none,
 )
-end_stays laws ours octets after opening messages ending ended (inr heard) = inr (record {
+end_stays laws ours octets after opening traffic ending ended (inr heard) = inr (record {
   peer = heard.peer;
   behind = heard.behind ++ after;
-  met = record {
-    greeted = greeted_more ours octets after opening heard.met.greeted;
-    first = heard.met.first;
-    comes = first_more octets after heard.met.first heard.behind heard.met.greeted.whole heard.met.comes;
-    accepted = heard.met.accepted;
-  };
+  met = met_more ours octets after opening heard.peer heard.behind heard.met;
   says = record {
-    traffic = heard.says.traffic;
     rest = heard.says.rest ++ after;
-    read = reads_more heard.behind after heard.says.traffic heard.says.rest heard.says.read;
-    said = heard.says.said;
-    ends = ends_more laws heard.says.rest after ending (has_error heard.says.traffic) ended heard.says.ends;
+    read = reads_more heard.behind after traffic heard.says.rest heard.says.read;
+    calm = heard.says.calm;
+    ends = ends_more laws heard.says.rest after ending ended heard.says.ends;
   };
 })

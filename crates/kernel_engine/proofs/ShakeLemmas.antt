@@ -2,7 +2,6 @@
 use Rattle.std.proofs.Common.{◌≡◌, inl, inr, ℕ, ◌<◌, List, [], ◌∷◌, ◌++◌, length, take, drop, Option, Some, None}
 use Rattle.std.proofs.Common.{Result, Ok, Err, IfOk, IfErr, refl, sym, ◌∙◌, ap, subst, arith, append_assoc}
 use Rattle.std.proofs.Common.{length-append}
-use Rattle.std.specs.Prelude.{⊤}
 use Rattle.std.proofs.lemmas.List.{append-nil, take_at, drop_at}
 use Rattle.zmtp_wire.specs.declared.fault.WireFault.{WireFault}
 use Rattle.zmtp_wire.specs.declared.traffic.Traffic.{Traffic}
@@ -20,20 +19,21 @@ use Rattle.kernel_engine.specs.declared.end.SessionEnd.TheVariants.{Eof, Wire, F
 use Rattle.kernel_engine.specs.declared.fault.EngineFault.TheVariants.{Memory, Write}
 use Rattle.kernel_engine.specs.Peer.{IsGreeted, IsTurnedAway}
 use Rattle.kernel_engine.specs.Exchange.{Reading, Exchange, ComesToByEnd, failed_writes}
-use Rattle.kernel_engine.specs.Steps.{Leg, IsStop, IsFed, Meets, TurnsAway, BringsNothing, PutsAll, fresh}
+use Rattle.kernel_engine.specs.Steps.{Leg, IsStop, IsFed, Meets, TurnsAway, BringsNothing, ComesLate, IsPrompt}
+use Rattle.kernel_engine.specs.Steps.{PutsAll, fresh}
 use Rattle.kernel_engine.proofs.Legs.{leg_none, leg_on, reading_on, decided, wire_decided, memory_decided}
 use Rattle.kernel_engine.proofs.Legs.{write_decided, puts_on}
+use Rattle.kernel_engine.proofs.PromptLemmas.{piece_needed, prompt_on}
 use Rattle.kernel_engine.proofs.Unfinished.{nothing_unfinished}
 
 -- reading that stopped leaves what was due
-pub stop_outcome : {State : Type 0} (IsWorn : State → Type 0) (Comes : List ℕ → List ℕ → State → SessionEnd → Type 0)
-    (octets written : List ℕ) (new : State) (end : SessionEnd) → IsStop end
-    → Comes octets written new Eof → ComesToByEnd IsWorn Comes octets written new end
-stop_outcome IsWorn Comes octets written new end (inl is) comes = rw is comes
-stop_outcome IsWorn Comes octets written new end (inr (inl is)) comes = rw is comes
-stop_outcome IsWorn Comes octets written new end (inr (inr is)) comes = rw is comes
+stop_outcome : (Comes : List ℕ → List ℕ → SessionEnd → Type 0) (octets written : List ℕ) (end : SessionEnd)
+    → IsStop end → Comes octets written Eof → ComesToByEnd Comes octets written end
+stop_outcome Comes octets written end (inl is) comes = rw is comes
+stop_outcome Comes octets written end (inr (inl is)) comes = rw is comes
+stop_outcome Comes octets written end (inr (inr is)) comes = rw is comes
 
-pub stop_puts : (before after : Outflow) (octets : List ℕ) (end : SessionEnd) → IsStop end → Puts before after octets 0
+stop_puts : (before after : Outflow) (octets : List ℕ) (end : SessionEnd) → IsStop end → Puts before after octets 0
     → Puts before after octets (failed_writes end)
 stop_puts before after octets end (inl is) puts = rw is puts
 stop_puts before after octets end (inr (inl is)) puts = rw is puts
@@ -74,8 +74,7 @@ greeting_stopped ours inflow inflow' before after turns left octets end puts sto
   written = greeting_octets;
   reading = reading;
   puts = stop_puts before after greeting_octets end stop puts;
-  outcome = stop_outcome (λ (state : ⊤). ⊥) (λ octets written (state : ⊤) ending.
-      IsTurnedAway ours octets written ending) octets greeting_octets tt end stop
+  outcome = stop_outcome (IsTurnedAway ours) octets greeting_octets end stop
       (silent ours octets greeting_octets short refl);
 }
 
@@ -117,15 +116,12 @@ ready_refused ours inflow inflow' before after turns left opening puts leg = rec
   written = greeting_octets;
   reading = decided inflow inflow' turns left opening (Failed Memory) memory_decided leg;
   puts = puts;
-  outcome = (
-    tt,
-    record {
-      front = [];
-      behind = opening;
-      split = refl;
-      so_far = silent ours [] greeting_octets (omega arith) refl;
-    },
-  );
+  outcome = record {
+    front = [];
+    behind = opening;
+    split = refl;
+    so_far = silent ours [] greeting_octets (omega arith) refl;
+  };
 }
 
 -- a peer whose greeting is accepted, and what stands behind it
@@ -199,8 +195,7 @@ brings_outcome : (ours : SocketType) (opening octets : List ℕ) (end : SessionE
     → IsGreeting opening → BringsNothing octets end
     → TurnsAway ours (opening ++ octets) (greeting_octets ++ ready_octets ours) tt end
 brings_outcome ours opening octets end whole accepted (inl (stop, unfinished)) =
-    stop_outcome (λ (state : ⊤). ⊥) (λ octets written (state : ⊤) ending. IsTurnedAway ours octets written ending)
-    (opening ++ octets) (greeting_octets ++ ready_octets ours) tt end stop
+    stop_outcome (IsTurnedAway ours) (opening ++ octets) (greeting_octets ++ ready_octets ours) end stop
     (not_ready ours opening octets (greeting_octets ++ ready_octets ours) whole accepted refl unfinished)
 brings_outcome ours opening octets end whole accepted (inr (fault, is, inl memory)) = rw is (inl (
   memory,
@@ -262,13 +257,25 @@ split_first octets first others (Some fault) decoder (
   feeds = ((rest, (tail, refl, reads), refused), spent);
 }
 
+-- nothing was read behind what comes first
+ready_prompt : (old new : Inflow) (turns left : ℕ) (octets : List ℕ) (first : Traffic) (front behind : List ℕ)
+    → ComesLate old new turns left octets → octets ≡ front ++ behind → Spells usual_limits front first
+    → IsPrompt old new turns left octets behind
+ready_prompt old new turns left octets first front behind late split spelled = record {
+  last = late.last;
+  needed = piece_needed late.last.front late.last.piece (late.last.front ++ late.last.piece) [] first late.nothing
+      ([], refl, refl)
+      (record { front = front; behind = behind; split = sym late.last.split ∙ split; spelled = spelled });
+}
+
 -- the peer was met
 peer_met : (ours : SocketType) (one two three : Inflow) (before after : Outflow) (turns middle left : ℕ)
     (opening octets : List ℕ) (fed fed' : Fed) (decoder : Decoding) (first : Traffic) (peer : SocketType)
     → Opened ours one two before after turns middle opening → Leg two three middle left octets
-    → IsFed fed decoder octets → fed.traffic ≡ first ∷ fed'.traffic → fed'.fault ≡ fed.fault
+    → ComesLate two three middle left octets → IsFed fed decoder octets → fed.traffic ≡ first ∷ fed'.traffic
+    → fed'.fault ≡ fed.fault
     → IsReady first ours (Ok (record { peer = peer })) → Meets ours one three before after turns left peer fed' decoder
-peer_met ours one two three before after turns middle left opening octets fed fed' decoder first peer o leg
+peer_met ours one two three before after turns middle left opening octets fed fed' decoder first peer o leg late
     (feeds, limits) traffic_is fault_is accepted =
     let feeds' : Feeds fresh octets (first ∷ fed'.traffic) fed'.fault decoder =
     subst (λ t. Feeds fresh octets t fed'.fault decoder) traffic_is
@@ -287,6 +294,8 @@ peer_met ours one two three before after turns middle left opening octets fed fe
         accepted = accepted;
       };
       keeps = (s.feeds, limits);
+      prompt = prompt_on one two three turns middle left opening octets s.behind o.leg
+          (ready_prompt two three middle left octets first s.front s.behind late s.split s.spelled);
     }
 
 -- the peer's first traffic was refused
@@ -321,16 +330,17 @@ peer_refused ours one two three before after turns middle left opening octets fe
 pub judged_met : (result : Result Shaken SessionEnd) (ours : SocketType) (one two three : Inflow)
     (before after : Outflow) (turns middle left : ℕ) (opening octets : List ℕ) (fed : Fed) (decoder : Decoding)
     → Opened ours one two before after turns middle opening → Leg two three middle left octets
-    → IsFed fed decoder octets
+    → ComesLate two three middle left octets → IsFed fed decoder octets
     → IfOk result (λ shaken. (first : Traffic) × (fed.traffic ≡ first ∷ shaken.fed.traffic)
     × (shaken.fed.fault ≡ fed.fault) × (shaken.decoder ≡ decoder)
     × IsReady first ours (Ok (record { peer = shaken.peer })))
     → IfOk result (λ shaken. Meets ours one three before after turns left shaken.peer shaken.fed shaken.decoder)
-judged_met (Err end) ours one two three before after turns middle left opening octets fed decoder o leg is judged = tt
-judged_met (Ok shaken) ours one two three before after turns middle left opening octets fed decoder o leg is
+judged_met (Err end) ours one two three before after turns middle left opening octets fed decoder o leg late is judged
+    = tt
+judged_met (Ok shaken) ours one two three before after turns middle left opening octets fed decoder o leg late is
     (first, traffic_is, fault_is, decoder_is, accepted) = rw decoder_is
     (peer_met ours one two three before after turns middle left opening octets fed shaken.fed decoder first shaken.peer
-    o leg is traffic_is fault_is accepted)
+    o leg late is traffic_is fault_is accepted)
 
 -- a peer whose READY was refused was turned away
 pub judged_refused : (result : Result Shaken SessionEnd) (ours : SocketType) (one two three : Inflow)

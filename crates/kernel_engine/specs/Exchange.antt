@@ -59,31 +59,26 @@ pub record Reading (old new : Inflow) (turns left : ℕ) (octets : List ℕ) (en
   pub spent : IsOutOfTurns left end
   pub read_out : IsReadOut new.left end
 
--- These octets were written: all that a beginning of the octets read comes to, in this state.
-pub record IsCut {State : Type 0} (Comes : List ℕ → List ℕ → State → SessionEnd → Type 0) (octets written : List ℕ)
-    (state : State) : Type 0 where
+-- These octets were written: all that a beginning of the octets read comes to.
+pub record IsCut (Comes : List ℕ → List ℕ → SessionEnd → Type 0) (octets written : List ℕ) : Type 0 where
   pub front : List ℕ
   pub behind : List ℕ
   pub split : octets ≡ front ++ behind
-  pub so_far : Comes front written state Eof
+  pub so_far : Comes front written Eof
 
 -- What the octets that were read come to, by the way the exchange ended. Where the peer's octets ended it, it is
 -- what all of them come to. A read that failed and a want of turns leave it as it was so far. Where memory was
--- refused, or the state is worn, all was written of what a beginning of the octets comes
--- to; where a write failed, a beginning of that.
-abbrev pub ComesToByEnd : {State : Type 0} → (State → Type 0) → (List ℕ → List ℕ → State → SessionEnd → Type 0)
-    → List ℕ → List ℕ → State → SessionEnd → Type 0
-ComesToByEnd IsWorn Comes octets written new Eof = Comes octets written new Eof
-ComesToByEnd IsWorn Comes octets written new (Shutdown restart) = ⊥
-ComesToByEnd IsWorn Comes octets written new (Wire fault) =
-    ((fault ≡ OutOfMemory) × IsCut Comes octets written new) ⊎ Comes octets written new (Wire fault)
-ComesToByEnd IsWorn Comes octets written new (Failed Read) = Comes octets written new Eof
-ComesToByEnd IsWorn Comes octets written new (Failed Turns) = Comes octets written new Eof
-ComesToByEnd IsWorn Comes octets written new (Failed Write) = (lost : List ℕ) × IsCut Comes octets (written ++ lost) new
-ComesToByEnd {State} IsWorn Comes octets written new (Failed Memory) = (state : State)
-    × IsCut Comes octets written state
-ComesToByEnd {State} IsWorn Comes octets written new (Failed Worn) = (state : State) × IsWorn state
-    × IsCut Comes octets written state
+-- refused, all was written of what a beginning of the octets comes to; where a write failed, a beginning of that.
+abbrev pub ComesToByEnd : (List ℕ → List ℕ → SessionEnd → Type 0) → List ℕ → List ℕ → SessionEnd → Type 0
+ComesToByEnd Comes octets written Eof = Comes octets written Eof
+ComesToByEnd Comes octets written (Shutdown restart) = ⊥
+ComesToByEnd Comes octets written (Wire fault) =
+    ((fault ≡ OutOfMemory) × IsCut Comes octets written) ⊎ Comes octets written (Wire fault)
+ComesToByEnd Comes octets written (Failed Read) = Comes octets written Eof
+ComesToByEnd Comes octets written (Failed Turns) = Comes octets written Eof
+ComesToByEnd Comes octets written (Failed Write) = (lost : List ℕ) × IsCut Comes octets (written ++ lost)
+ComesToByEnd Comes octets written (Failed Memory) = IsCut Comes octets written
+ComesToByEnd Comes octets written (Failed Worn) = ⊥
 
 -- A whole exchange: what was read, what was written, and what the one comes to as the other. Any read may fail and
 -- any write may, and no end has both; so what is due is written before a read, and nothing behind one that failed.

@@ -1,7 +1,9 @@
--- The numbers of the faults of an engine and of its connections.
+-- The numbers of the faults of an engine and of its connections, and how a server may end a session.
 use Rattle.std.specs.Prelude.{ℕ, ⊤}
 use Rattle.kernel_engine.specs.declared.fault.EngineFault.{EngineFault}
 use Rattle.kernel_engine.specs.declared.fault.EngineFault.TheVariants.{Memory, Read, Write, Turns, Worn}
+use Rattle.kernel_engine.specs.declared.end.SessionEnd.{SessionEnd}
+use Rattle.kernel_engine.specs.declared.end.SessionEnd.TheVariants.{Eof, Shutdown, Wire, Failed}
 
 -- the number of a fault
 abbrev pub engine_fault_number : EngineFault → ℕ
@@ -11,10 +13,13 @@ engine_fault_number Write = 73
 engine_fault_number Turns = 74
 engine_fault_number Worn = 75
 
--- a fault that a server may answer: memory was refused, or it is worn, where it is
-abbrev pub IsAnswerFault : Type 0 → EngineFault → Type 0
-IsAnswerFault IsWorn Memory = ⊤
-IsAnswerFault IsWorn Worn = IsWorn
-IsAnswerFault IsWorn Read = ⊥
-IsAnswerFault IsWorn Write = ⊥
-IsAnswerFault IsWorn Turns = ⊥
+-- a server may end a session so: a message asked for a shutdown, memory was refused, or no id is left
+abbrev pub IsServerEnd : SessionEnd → Type 0
+IsServerEnd Eof = ⊥
+IsServerEnd (Shutdown restart) = ⊤
+IsServerEnd (Wire fault) = ⊥
+IsServerEnd (Failed Memory) = ⊤
+IsServerEnd (Failed Read) = ⊥
+IsServerEnd (Failed Write) = ⊥
+IsServerEnd (Failed Turns) = ⊥
+IsServerEnd (Failed Worn) = ⊤

@@ -1,6 +1,11 @@
+pub mod Echo
 pub mod Exchange
 pub mod Fault
+pub mod Handing
+pub mod Intake
 pub mod Laws
+pub mod Listen
 pub mod Peer
+pub mod Respond
 pub mod Server
 pub mod Steps

@@ -1,11 +1,10 @@
--- What is heard of a peer: whether it is met, which messages it sends, and how its octets end the connection.
-use Rattle.std.specs.Prelude.{◌≡◌, ◌⊎◌, ℕ, ◌<◌, ◌≤◌, List, [], ◌∷◌, ◌++◌, length, take, drop, Bool, true, false, Ok}
-use Rattle.std.specs.Prelude.{Err, if◌then◌else◌, MatchBool}
+-- What is heard of a peer: whether it is met, which traffic it sends, and how its octets end the connection.
+use Rattle.std.specs.Prelude.{◌≡◌, ◌⊎◌, ℕ, ◌<◌, ◌≤◌, List, [], ◌∷◌, ◌++◌, length, take, drop, true, false, Ok}
+use Rattle.std.specs.Prelude.{Err, ⊤}
 use Rattle.zmtp_wire.specs.declared.fault.WireFault.{WireFault}
 use Rattle.zmtp_wire.specs.declared.fault.WireFault.TheVariants.{PeerError}
 use Rattle.zmtp_wire.specs.declared.handshake.socket_type.SocketType.{SocketType}
 use Rattle.zmtp_wire.specs.declared.traffic.Traffic.{Traffic}
-use Rattle.zmtp_wire.specs.declared.traffic.Traffic.TheVariants as traffic
 use Rattle.zmtp_wire.specs.Limits.{usual_limits}
 use Rattle.zmtp_wire.specs.Grammar.{Spells, ReadsUpTo, IsFaulty, IsUnfinished}
 use Rattle.zmtp_wire.specs.Greeting.{greeting_octets, IsGreeting, IsRefusedGreeting}
@@ -18,20 +17,17 @@ use Rattle.kernel_engine.specs.declared.end.SessionEnd.TheVariants.{Eof, Shutdow
 abbrev pub Message : Type 0
 Message = List (List ℕ)
 
--- a message's frames stand before these messages, and a command is ignored
-abbrev pub with_message : Traffic → List Message → List Message
-with_message (traffic.Message message) messages = message ∷ messages
-with_message (traffic.Command name rest) messages = messages
+-- none of the traffic is the command ERROR
+abbrev pub IsCalm : List Traffic → Type 0
+IsCalm [] = ⊤
+IsCalm (first ∷ others) = (is_error first ≡ false) × IsCalm others
 
--- the messages up to a command ERROR; other commands are ignored
-abbrev pub messages_in : List Traffic → List Message
-messages_in [] = []
-messages_in (first ∷ others) = if is_error first then [] else with_message first (messages_in others)
-
--- whether a command ERROR is among them
-abbrev pub has_error : List Traffic → Bool
-has_error [] = false
-has_error (first ∷ others) = if is_error first then true else has_error others
+-- The octets begin with a spelling of this traffic.
+pub record BeginsWith (octets : List ℕ) (first : Traffic) : Type 0 where
+  pub front : List ℕ
+  pub behind : List ℕ
+  pub split : octets ≡ front ++ behind
+  pub spelled : Spells usual_limits front first
 
 -- how the octets behind the last whole traffic end a connection: they aren't finished when the peer has sent its
 -- last octet, or a fault is in them
@@ -41,17 +37,20 @@ EndsAs rest (Wire fault) = IsFaulty usual_limits rest fault
 EndsAs rest (Shutdown restart) = ⊥
 EndsAs rest (Failed fault) = ⊥
 
--- how a connection ends behind this traffic: by a command ERROR in it, whatever follows, or as the rest does
-abbrev pub EndsBehind : List Traffic → List ℕ → SessionEnd → Type 0
-EndsBehind others rest ending = MatchBool (has_error others) (ending ≡ Wire PeerError) (EndsAs rest ending)
+-- the octets begin with the command ERROR, whatever it says and whatever follows
+abbrev pub BeginsWithError : List ℕ → Type 0
+BeginsWithError octets = (last : Traffic) × BeginsWith octets last × (is_error last ≡ true)
 
--- What octets behind a peer's READY say: these messages, and how they end the connection.
-pub record Says (octets : List ℕ) (messages : List Message) (ending : SessionEnd) : Type 0 where
-  pub traffic : List Traffic
+-- how the octets behind traffic without the command ERROR end a connection: by that command, or else as above
+abbrev pub EndsBehind : List ℕ → SessionEnd → Type 0
+EndsBehind rest ending = ((ending ≡ Wire PeerError) × BeginsWithError rest) ⊎ EndsAs rest ending
+
+-- What octets behind a peer's READY say: this traffic, up to a command ERROR, and how they end the connection.
+pub record Says (octets : List ℕ) (traffic : List Traffic) (ending : SessionEnd) : Type 0 where
   pub rest : List ℕ
   pub read : ReadsUpTo usual_limits octets traffic rest
-  pub said : messages ≡ messages_in traffic
-  pub ends : EndsBehind traffic rest ending
+  pub calm : IsCalm traffic
+  pub ends : EndsBehind rest ending
 
 -- the peer's greeting doesn't come whole
 pub record IsSilent (octets opening : List ℕ) (ending : SessionEnd) : Type 0 where
@@ -107,16 +106,16 @@ pub record IsMet (ours : SocketType) (octets opening : List ℕ) (peer : SocketT
   pub comes : ComesFirst octets first behind
   pub accepted : IsReady first ours (Ok (record { peer = peer }))
 
--- a peer that is met says these messages
-pub record IsListenedTo (ours : SocketType) (octets opening : List ℕ) (messages : List Message) (ending : SessionEnd)
+-- a peer that is met says this traffic
+pub record IsListenedTo (ours : SocketType) (octets opening : List ℕ) (traffic : List Traffic) (ending : SessionEnd)
     : Type 0 where
   pub peer : SocketType
   pub behind : List ℕ
   pub met : IsMet ours octets opening peer behind
-  pub says : Says behind messages ending
+  pub says : Says behind traffic ending
 
--- What is heard of a peer that sends these octets: what opens the connection to it, which messages it sends, and
--- how it ends the connection.
-abbrev pub Hears : SocketType → List ℕ → List ℕ → List Message → SessionEnd → Type 0
-Hears ours octets opening messages ending =
-    (IsTurnedAway ours octets opening ending × (messages ≡ [])) ⊎ IsListenedTo ours octets opening messages ending
+-- What is heard of a peer that sends these octets: what opens the connection to it, which traffic it sends up to a
+-- command ERROR, and how it ends the connection.
+abbrev pub Hears : SocketType → List ℕ → List ℕ → List Traffic → SessionEnd → Type 0
+Hears ours octets opening traffic ending =
+    (IsTurnedAway ours octets opening ending × (traffic ≡ [])) ⊎ IsListenedTo ours octets opening traffic ending

@@ -1,12 +1,12 @@
 //! The heartbeat: a REP socket that writes each message back.
 
-ghost use Rattle.std.specs.Prelude.{◌≡◌, ℕ};
+ghost use Rattle.std.specs.Prelude.{ℕ};
 ghost use Rattle.kernel_engine.specs.Exchange.{Exchange};
-ghost use Rattle.kernel_engine.specs.Server.{Echoes};
+ghost use Rattle.kernel_engine.specs.Echo.{Echoes};
 
 use crate::end::SessionEnd;
 use crate::fault::EngineFault;
-use crate::server::Server;
+use crate::server::{Answered, Server};
 use crate::serving::serve;
 use listed::Frames;
 use std::alloc::Global;
@@ -17,24 +17,24 @@ use zmtp_wire::{Inlet, Outlet, SocketType, write_message};
 struct Heartbeat;
 
 impl Server for Heartbeat {
-    ghost use Rattle.std.specs.Prelude.{◌≡◌};
-    ghost use Rattle.zmtp_wire.specs.Frame.{text};
+    ghost use Rattle.std.specs.Prelude.{[]};
+    ghost use Rattle.kernel_engine.specs.Echo.{EchoesOne};
 
-    ghost answers = { λ _ message reply _. reply ≡ text message };
+    ghost answers = { λ _ message reply _ result. EchoesOne message reply result };
 
-    ghost is_worn = { λ _. ⊥ };
+    ghost names = { λ _. [] };
 
     fn answer(
         &mut self,
         _alloc: Global,
         frames: Frames,
         reply: &mut Vec<u8>,
-    ) -> Result<(), EngineFault> {
+    ) -> Result<Answered, SessionEnd> {
         // A message without frames has no text.
         if !frames.is_empty() && write_message(frames.as_slice(), reply).is_err() {
-            return Err(EngineFault::Memory);
+            return Err(SessionEnd::Failed(EngineFault::Memory));
         }
-        Ok(())
+        Ok(Answered::Done)
     }
 }
 

@@ -1,145 +1,83 @@
-//! Hearing what a peer says behind its READY, and having it answered.
+//! Hearing a peer: what it says behind its READY is put into an intake.
 
-ghost use Rattle.std.specs.Prelude.{◌<◌, ◌⊎◌, ℕ, List, length, IfOk, IfErr};
-ghost use Rattle.kernel_engine.specs.Exchange.{Exchange};
-ghost use Rattle.kernel_engine.specs.Steps.{IsFed, HearsOn, HearsPiece, HearsNone, PutsAnswer, AnswersFed};
+ghost use Rattle.std.specs.Prelude.{◌≡◌, ℕ, List, Option};
+ghost use Rattle.zmtp_wire.specs.declared.traffic.Traffic.{Traffic};
+ghost use Rattle.kernel_engine.specs.Steps.{IsFed};
+ghost use Rattle.kernel_engine.specs.Intake.{Taking, Grows, put_by, FillsAll};
 
 use crate::end::SessionEnd;
 use crate::fault::EngineFault;
-use crate::server::Server;
+use crate::listening::{Listener, listen};
 use crate::shaking::Shaken;
-use crate::turn::{put, read_turn};
-use listed::{Frames, Row};
-use std::alloc::Global;
-use zmtp_wire::{Decoder, Fed, Inlet, Outlet, Traffic, WireFault};
+use std::alloc::{AllocError, Global};
+use zmtp_wire::{Inlet, Traffic};
 
-/// How many octets one read asks for.
-const PIECE: usize = 65_536;
+/// What the traffic of a peer is put into.
+pub trait Intake {
+    /// One step: what the intake was, the traffic, what the intake is then, and whether the traffic was put.
+    ghost takes: { Taking Self };
 
-/// Hears what a peer says that was met, and has each message answered. Commands are ignored, up to ERROR, which
-/// ends it. At most `turns` reads are made.
-pub(crate) fn hear<R: Inlet, W: Outlet, S: Server>(
+    /// The traffic that was put so far, where the intake tells it.
+    ghost told: { Self → Option (List Traffic) };
+
+    /// The ghost names of the references that the intake holds, which no step changes.
+    ghost names: { Self → List ℕ };
+
+    /// Puts traffic, and answers whether it was put.
+    ///
+    /// # Errors
+    ///
+    /// Where memory was refused. The traffic wasn't put.
+    fn put(&mut self, traffic: Traffic) -> Result<bool, AllocError>
+        ensures names { names self.new ≡ names self.old }
+        ensures takes { takes self.old traffic self.new result }
+        ensures told { Grows (told self.old) (told self.new) (put_by traffic result) };
+}
+
+/// An intake as a listener.
+#[derive(Drop)]
+struct Filling<'i, I> {
+    /// What traffic is put into.
+    intake: &'i mut I,
+}
+
+impl<I: Intake> Listener for Filling<'_, I> {
+    ghost use Rattle.std.specs.Prelude.{◌∷◌};
+    ghost use Rattle.kernel_engine.specs.Intake.{FillsOne};
+
+    ghost hears = { λ old traffic new result. FillsOne I.takes I.told old.intake.now traffic new.intake.now result };
+
+    ghost names = { λ filling. filling.intake.ghost_name ∷ I.names filling.intake.now };
+
+    fn hear(&mut self, _alloc: Global, traffic: Traffic) -> Result<(), SessionEnd> {
+        match self.intake.put(traffic) {
+            Ok(true) => Ok(()),
+            Ok(false) => Err(SessionEnd::Eof),
+            Err(AllocError) => Err(SessionEnd::Failed(EngineFault::Memory)),
+        }
+    }
+}
+
+/// Hears a peer that was met: puts each traffic that it says behind its READY into the intake, whole and in order, up
+/// to a command ERROR, which isn't put and ends hearing as `Wire` with `PeerError`. What came with READY is put first.
+/// Where the intake says no, hearing ends as `Eof`, and where it has no memory as `Failed` with `Memory`. At most
+/// `turns` reads are made.
+///
+/// Where the peer's octets ended, a read failed, no turn was left or no memory to read into, hearing can go on with
+/// `shaken`: it keeps what was read of traffic that isn't whole.
+pub fn hear<R: Inlet, I: Intake>(
     alloc: Global,
     reader: &mut R,
-    writer: &mut W,
-    server: &mut S,
-    shaken: Shaken,
+    shaken: &mut Shaken,
+    intake: &mut I,
     turns: u64,
 ) -> SessionEnd
-    ensures { (before : List ℕ) → IsFed shaken.fed shaken.decoder before
-        → (left : ℕ) × Exchange (HearsOn S.is_worn S.answers server.old before) (R.inflow reader.old)
-        (R.inflow reader.new)
-        (W.outflow writer.old) (W.outflow writer.new) turns left server.new result }
+    ensures names { I.names intake.new ≡ I.names intake.old }
+    ensures peer { shaken.new.peer ≡ shaken.old.peer }
+    ensures fills { (before : List ℕ) → IsFed shaken.old.fed shaken.old.decoder before
+        → (left : ℕ) × FillsAll I.takes I.told intake.old before (R.inflow reader.old) (R.inflow reader.new)
+        turns left intake.new shaken.new result }
 {
-    let Shaken {
-        fed,
-        mut decoder,
-        ..
-    } = shaken;
-    if let Err(end) = answer_fed(alloc, writer, server, fed) {
-        return end;
-    }
-    let Ok(mut piece) = vec![in alloc; 0u8; PIECE] else {
-        return SessionEnd::Failed(EngineFault::Memory);
-    };
-    let mut left = turns;
-    loop {
-        let heard = hear_piece(
-            alloc,
-            reader,
-            writer,
-            server,
-            &mut decoder,
-            &mut piece,
-            &mut left,
-        );
-        if let Err(end) = heard {
-            return end;
-        }
-    }
-}
-
-/// Reads a piece, and has answered what it brings.
-fn hear_piece<R: Inlet, W: Outlet, S: Server>(
-    alloc: Global,
-    reader: &mut R,
-    writer: &mut W,
-    server: &mut S,
-    decoder: &mut Decoder,
-    piece: &mut [u8],
-    turns: &mut u64,
-) -> Result<(), SessionEnd>
-    requires { 0 < length piece.old }
-    ensures ok { IfOk result (λ _. (turns.new < turns.old)
-        × HearsPiece S.is_worn S.answers server.old server.new decoder.old decoder.new
-        (R.inflow reader.old) (R.inflow reader.new) (W.outflow writer.old) (W.outflow writer.new) turns.old turns.new
-        result) }
-    ensures err { IfErr result (λ end. HearsNone server.old server.new (R.inflow reader.old) (R.inflow reader.new)
-        (W.outflow writer.old) (W.outflow writer.new) turns.old turns.new end
-        ⊎ HearsPiece S.is_worn S.answers server.old server.new decoder.old decoder.new
-        (R.inflow reader.old) (R.inflow reader.new) (W.outflow writer.old) (W.outflow writer.new) turns.old turns.new
-        result) }
-{
-    let count = read_turn(reader, piece, turns)?;
-    let (octets, _) = piece.split_at(count);
-    answer_fed(alloc, writer, server, decoder.feed(octets))
-}
-
-/// Has answered what a piece brought.
-fn answer_fed<W: Outlet, S: Server>(
-    alloc: Global,
-    writer: &mut W,
-    server: &mut S,
-    fed: Fed,
-) -> Result<(), SessionEnd>
-    ensures { AnswersFed S.is_worn S.answers server.old fed.traffic fed.fault server.new (W.outflow writer.old)
-        (W.outflow writer.new) result }
-{
-    let Fed { traffic, fault } = fed;
-    answer_traffic(alloc, writer, server, traffic)?;
-    match fault {
-        None => Ok(()),
-        Some(fault) => Err(SessionEnd::Wire(fault)),
-    }
-}
-
-/// Has traffic answered, up to a command ERROR.
-fn answer_traffic<W: Outlet, S: Server>(
-    alloc: Global,
-    writer: &mut W,
-    server: &mut S,
-    traffic: Row<Traffic>,
-) -> Result<(), SessionEnd>
-    ensures { AnswersFed S.is_worn S.answers server.old traffic None server.new (W.outflow writer.old)
-        (W.outflow writer.new) result }
-{
-    let mut reply = Vec::new(alloc);
-    for item in traffic.into_vec() {
-        if item.is_error() {
-            return Err(SessionEnd::Wire(WireFault::PeerError));
-        }
-        match item {
-            Traffic::Message(frames) => answer_message(alloc, writer, server, frames, &mut reply)?,
-            Traffic::Command(_name, _rest) => {}
-        }
-    }
-    Ok(())
-}
-
-/// Has a message answered, and writes the answer. The room for it is used again.
-fn answer_message<W: Outlet, S: Server>(
-    alloc: Global,
-    writer: &mut W,
-    server: &mut S,
-    frames: Frames,
-    reply: &mut Vec<u8>,
-) -> Result<(), SessionEnd>
-    ensures { PutsAnswer S.is_worn S.answers server.old frames server.new (W.outflow writer.old)
-        (W.outflow writer.new) result }
-{
-    reply.clear();
-    match server.answer(alloc, frames, reply) {
-        Ok(()) => put(writer, reply),
-        Err(fault) => Err(SessionEnd::Failed(fault)),
-    }
+    let mut filling = Filling { intake };
+    listen(alloc, reader, &mut filling, shaken, turns)
 }

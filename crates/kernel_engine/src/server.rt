@@ -1,34 +1,45 @@
 //! What a peer is served by.
 
-ghost use Rattle.std.specs.Prelude.{◌≡◌, ◌++◌, ℕ, List, OnOk, IfErr};
-ghost use Rattle.kernel_engine.specs.Fault.{IsAnswerFault};
+ghost use Rattle.std.specs.Prelude.{◌≡◌, ◌++◌, ℕ, List, IfErr};
+ghost use Rattle.kernel_engine.specs.Fault.{IsServerEnd};
 ghost use Rattle.kernel_engine.specs.Server.{Answering};
 
-use crate::fault::EngineFault;
+use crate::end::SessionEnd;
 use listed::Frames;
 use std::alloc::Global;
 
+/// What became of a message, where the session goes on.
+#[derive(Clone, Copy, Debug, PartialEq, Eq)]
+pub enum Answered {
+    /// The message was done.
+    Done,
+    /// The message was dropped for want of memory.
+    Dropped,
+}
+
 /// What answers the messages of a peer.
 pub trait Server {
-    /// One step: what the server was, a message, the octets that answer it, what the server is then.
+    /// One step: what the server was, a message, the octets that answer it, what the server is then, and whether the
+    /// session goes on or how it ends.
     ghost answers: { Answering Self };
 
-    /// The server is worn: no id is left for a message.
-    ghost is_worn: { Self → Type 0 };
+    /// The ghost names of the references that the server holds, which no step changes.
+    ghost names: { Self → List ℕ };
 
     /// Answers the message of these frames: adds the octets that are to be written to the peer, none where the
-    /// message has no answer.
+    /// message has no answer. They are written also where the session ends then.
     ///
     /// # Errors
     ///
-    /// `Memory`, or `Worn` where the server is worn. What was added isn't written then.
+    /// How the session ends: `Shutdown` where the message asked for it, or `Failed` with `Memory`, or with `Worn`.
     fn answer(
         &mut self,
         alloc: Global,
         frames: Frames,
         reply: &mut Vec<u8>,
-    ) -> Result<(), EngineFault>
-        ensures answered { OnOk result ((octets : List ℕ) × (reply.new.items ≡ reply.old.items ++ octets)
-            × answers self.old frames octets self.new) }
-        ensures fault { IfErr result (IsAnswerFault (is_worn self.old)) };
+    ) -> Result<Answered, SessionEnd>
+        ensures names { names self.new ≡ names self.old }
+        ensures answered { (octets : List ℕ) × (reply.new.items ≡ reply.old.items ++ octets)
+            × answers self.old frames octets self.new result }
+        ensures end { IfErr result IsServerEnd };
 }

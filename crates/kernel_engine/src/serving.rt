@@ -1,18 +1,21 @@
 //! Serving a peer: shaking hands with it, and then answering what it says.
 
-ghost use Rattle.std.specs.Prelude.{ℕ};
-ghost use Rattle.kernel_engine.specs.Exchange.{Exchange};
-ghost use Rattle.kernel_engine.specs.Server.{Serves};
+ghost use Rattle.std.specs.Prelude.{◌≡◌, ℕ, Bool};
+ghost use Rattle.kernel_engine.specs.declared.end.SessionEnd.{SessionEnd};
+ghost use Rattle.kernel_engine.specs.Server.{ServesPeer, told};
 
 use crate::end::SessionEnd;
-use crate::hearing::hear;
+use crate::fault::EngineFault;
+use crate::responding::respond;
 use crate::server::Server;
 use crate::shaking::shake_within;
 use std::alloc::Global;
 use zmtp_wire::{Inlet, Outlet, SocketType};
 
 /// Serves a peer: greeting out, greeting in, READY out, READY in, and then each message answered, until the peer's
-/// octets end, are refused, or the kernel can't go on. At most `turns` reads are made.
+/// octets end, are refused, the server ends it, or the kernel can't go on. Nothing is read once the message came at
+/// which the server ends it. A session of which a message was dropped for want of memory goes on, and ends `Failed`
+/// with `Memory`. At most `turns` reads are made.
 pub fn serve<R: Inlet, W: Outlet, S: Server>(
     alloc: Global,
     reader: &mut R,
@@ -21,13 +24,20 @@ pub fn serve<R: Inlet, W: Outlet, S: Server>(
     ours: SocketType,
     turns: u64,
 ) -> SessionEnd
-    ensures { (left : ℕ) × Exchange (Serves S.is_worn S.answers ours server.old) (R.inflow reader.old)
-        (R.inflow reader.new)
-        (W.outflow writer.old) (W.outflow writer.new) turns left server.new result }
+    ensures names { S.names server.new ≡ S.names server.old }
+    ensures serves { (left : ℕ) × (dropped : Bool) × (ended : SessionEnd)
+        × ServesPeer dropped S.answers ours server.old (R.inflow reader.old) (R.inflow reader.new)
+        (W.outflow writer.old) (W.outflow writer.new) turns left server.new ended
+        × (result ≡ told dropped ended) }
 {
     let mut left = turns;
-    match shake_within(alloc, reader, writer, ours, &mut left) {
-        Ok(shaken) => hear(alloc, reader, writer, server, shaken, left),
-        Err(end) => end,
+    let mut shaken = match shake_within(alloc, reader, writer, ours, &mut left) {
+        Ok(shaken) => shaken,
+        Err(end) => return end,
+    };
+    let (end, dropped) = respond(alloc, reader, writer, server, &mut shaken, left);
+    if dropped {
+        return SessionEnd::Failed(EngineFault::Memory);
     }
+    end
 }

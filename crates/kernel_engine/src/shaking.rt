@@ -5,7 +5,7 @@ ghost use Rattle.zmtp_wire.specs.declared.fault.WireFault.{WireFault};
 ghost use Rattle.zmtp_wire.specs.declared.traffic.Traffic.{Traffic};
 ghost use Rattle.zmtp_wire.specs.Ready.{IsReady};
 ghost use Rattle.kernel_engine.specs.Exchange.{Reading, Exchange};
-ghost use Rattle.kernel_engine.specs.Steps.{Leg, IsStop, IsFed, Meets, TurnsAway, BringsNothing, fresh};
+ghost use Rattle.kernel_engine.specs.Steps.{Leg, IsStop, IsFed, Meets, TurnsAway, BringsNothing, ComesLate, fresh};
 
 use crate::end::SessionEnd;
 use crate::fault::EngineFault;
@@ -32,8 +32,8 @@ pub struct Shaken {
 }
 
 /// Shakes hands with a peer: writes our greeting whole before anything is read, reads the peer's, writes our READY
-/// where that is accepted, and reads the peer's READY. Nothing more is written to a peer that is refused. At most
-/// `turns` reads are made.
+/// where that is accepted, and reads the peer's READY, and nothing once that has come. Nothing more is written to a
+/// peer that is refused. At most `turns` reads are made.
 ///
 /// # Errors
 ///
@@ -106,7 +106,8 @@ fn read_first<R: Inlet>(
 ) -> Result<Fed, SessionEnd>
     requires { decoder.old ≡ fresh }
     ensures ok { IfOk result (λ fed. (fed.traffic ≢ []) × ((octets : List ℕ) × IsFed fed decoder.new octets
-        × Leg (R.inflow reader.old) (R.inflow reader.new) turns.old turns.new octets)) }
+        × Leg (R.inflow reader.old) (R.inflow reader.new) turns.old turns.new octets
+        × ComesLate (R.inflow reader.old) (R.inflow reader.new) turns.old turns.new octets)) }
     ensures err { IfErr result (λ end. (octets : List ℕ) × BringsNothing octets end
         × Reading (R.inflow reader.old) (R.inflow reader.new) turns.old turns.new octets end) }
 {

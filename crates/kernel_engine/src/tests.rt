@@ -2,10 +2,12 @@
 
 mod echoing;
 mod fault;
+mod hearing;
 mod laws;
 mod serving;
 mod shaking;
 
+use crate::{EngineFault, SessionEnd};
 use std::alloc::Global;
 use std::io::{self, ErrorKind, Read, Write};
 use std::test::Fail;
@@ -52,6 +54,8 @@ struct Peer<'a> {
     again: &'a [u8],
     /// How many octets a read gives at most.
     width: usize,
+    /// How many octets a read of the second run gives at most.
+    pace: usize,
     /// How often it was read.
     reads: u64,
     /// Which of the reads fails, from 1 on, or 0 where none does.
@@ -66,6 +70,7 @@ impl<'a> Peer<'a> {
             behind,
             again: b"",
             width: 1_000_000,
+            pace: 1_000_000,
             reads: 0,
             fails_at: 0,
         }
@@ -81,6 +86,7 @@ impl<'a> Read for Peer<'a> {
         if self.front.is_empty() {
             self.front = self.behind;
             self.behind = self.again;
+            self.width = self.width.min(self.pace);
         }
         let count = self.front.len().min(buf.len()).min(self.width);
         let (given, rest) = self.front.split_at(count);
@@ -132,6 +138,11 @@ impl Write for Sink {
     fn flush(&mut self) -> io::Result<()> {
         Ok(())
     }
+}
+
+/// The end of an exchange that wanted memory.
+fn memory() -> SessionEnd {
+    SessionEnd::Failed(EngineFault::Memory)
 }
 
 /// Some octets behind one another.

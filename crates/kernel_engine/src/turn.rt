@@ -1,6 +1,6 @@
 //! A read, and a write, of an exchange.
 
-ghost use Rattle.std.specs.Prelude.{◌<◌, ◌≤◌, [], length, take, IfOk, IfErr};
+ghost use Rattle.std.specs.Prelude.{◌≡◌, ◌+◌, ◌<◌, ◌≤◌, [], length, take, IfOk, IfErr};
 ghost use Rattle.kernel_engine.specs.Exchange.{Reading};
 ghost use Rattle.kernel_engine.specs.Steps.{Leg, IsStop, PutsAll};
 
@@ -21,6 +21,7 @@ pub(crate) fn read_turn<R: Inlet>(
     requires { 0 < length into.old }
     ensures ok { IfOk result (λ count. (0 < count) × (count ≤ length into.new) × (turns.new < turns.old)
         × Leg (R.inflow reader.old) (R.inflow reader.new) turns.old turns.new (take count into.new)) }
+    ensures one { IfOk result (λ _. turns.old ≡ turns.new + 1) }
     ensures err { IfErr result (λ end. IsStop end
         × Reading (R.inflow reader.old) (R.inflow reader.new) turns.old turns.new [] end) }
 {

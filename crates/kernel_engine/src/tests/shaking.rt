@@ -224,18 +224,22 @@ fn a_long_ready_comes_in_several_reads(rt: HostRuntime) -> Result<(), Fail> {
     Ok(())
 }
 
+/// How hands are shaken for want of turns.
+fn short() -> Result<SocketType, SessionEnd> {
+    Err(SessionEnd::Failed(EngineFault::Turns))
+}
+
 #[test]
 fn as_many_reads_as_there_are_turns(rt: HostRuntime) -> Result<(), Fail> {
     let alloc = rt.alloc();
     let octets = join(alloc, &[PEER_GREETING, READY_REQ])?;
     let both = join(alloc, &[GREETING, READY_REP])?;
-    let short = Err(SessionEnd::Failed(EngineFault::Turns));
     for (turns, wanted, whole) in [
-        (0, short, false),
-        (1, short, false),
-        (63, short, false),
-        (64, short, true),
-        (90, short, true),
+        (0, short(), false),
+        (1, short(), false),
+        (63, short(), false),
+        (64, short(), true),
+        (90, short(), true),
         (91, Ok(SocketType::Req), true),
     ] {
         let mut peer = Peer::of(&octets, b"");

@@ -8,7 +8,7 @@ use Rattle.jkernel.proofs.replay.answer_peer.Goals as goal
 
 pub returns : goal.returns
 returns g c =
-    let (left, exchange) = c.session.ensures in
+    let (left, dropped, ended, served, told) = c.session.ensures in
     let (kept, printable) = c.in_ok-end.ensures in
     let shell = c.into_inner-shell.result.items in
     let iopub : c.deref-3.result.now ≡ flat_map text c.session.new.engine.published.items = c.deref-3.ensures.value
@@ -22,8 +22,8 @@ returns g c =
     let signer = c.new-engine.ensures.0 ∙ c.new.ensures in
     prints_peer c.args.key.items c.start.new.self c.session.new.engine (g.R.Inlet.inflow c.args.reader.now)
     (g.R.Inlet.inflow c.session.new.reader) _ _ _ left
-    shell c.in_ok-lines.lines.items c.session.result
+    shell c.in_ok-lines.lines.items dropped ended c.session.result
     (c.start.ensures.same ∙ signer) c.in_ok-start.ensures.started.1
     (c.in_ok-start.ensures.started.0 ∙ ap (λ k. starting k ∷ []) signer)
-    (rw c.new-writer.ensures (ap Some c.new-2.ensures.items)) (rw c.into_inner-shell.ensures refl) exchange printable
+    (rw c.new-writer.ensures (ap Some c.new-2.ensures.items)) (rw c.into_inner-shell.ensures refl) served told printable
     printed

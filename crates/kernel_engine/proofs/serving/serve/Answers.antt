@@ -1,25 +1,48 @@
+use Rattle.std.proofs.Common.{false, refl, sym, ap}
+use Rattle.kernel_engine.specs.Server.{told}
 use Rattle.kernel_engine.proofs.ServeLemmas.{serve_met, serve_away}
 use Rattle.kernel_engine.proofs.serving.serve.Goals as goal
 
-pub returns-in-Ok : goal.returns-in-Ok
-returns-in-Ok g c =
-    let meets = c.in-Ok.ensures.met in
-    let (left, heard) = c.hear.ensures meets.behind meets.keeps in (
-      left,
-      serve_met g.S.Server.is_worn g.S.Server.answers c.args.ours c.args.server.now c.hear.new.server c.in-Ok.shaken.fed
-          c.in-Ok.shaken.decoder c.in-Ok.shaken.peer
-          (g.R.Inlet.inflow c.args.reader.now) (g.R.Inlet.inflow c.shake_within.new.reader)
-          (g.R.Inlet.inflow c.hear.new.reader)
-          (g.W.Outlet.outflow c.args.writer.now) (g.W.Outlet.outflow c.shake_within.new.writer)
-          (g.W.Outlet.outflow c.hear.new.writer)
-          c.args.turns c.shake_within.new.turns left c.hear.result meets heard,
-    )
-
-pub returns-in-Err : goal.returns-in-Err
-returns-in-Err g c = (
+pub returns-in-Err-clause-serves : goal.returns-in-Err-clause-serves
+returns-in-Err-clause-serves g c = (
   c.shake_within.new.turns,
-  serve_away g.S.Server.is_worn g.S.Server.answers c.args.ours c.args.server.now (g.R.Inlet.inflow c.args.reader.now)
+  false,
+  c.in-Err.end,
+  serve_away g.S.Server.answers c.args.ours c.args.server.now (g.R.Inlet.inflow c.args.reader.now)
       (g.R.Inlet.inflow c.shake_within.new.reader)
       (g.W.Outlet.outflow c.args.writer.now) (g.W.Outlet.outflow c.shake_within.new.writer) c.args.turns
       c.shake_within.new.turns c.in-Err.end c.in-Err.ensures.turned_away,
+  refl,
 )
+
+pub returns-then-dropped-clause-serves : goal.returns-then-dropped-clause-serves
+returns-then-dropped-clause-serves g c =
+    let meets = c.in-Ok.ensures.met in
+    let (left, said) = c.respond-end.ensures.responds meets.behind meets.keeps in (
+      left,
+      c.respond-end.result.1,
+      c.respond-end.result.0,
+      serve_met c.respond-end.result.1 g.S.Server.answers c.args.ours c.args.server.now c.respond-end.new.server
+          c.in-Ok.shaken.fed c.in-Ok.shaken.decoder c.in-Ok.shaken.peer (g.R.Inlet.inflow c.args.reader.now)
+          (g.R.Inlet.inflow c.shake_within.new.reader) (g.R.Inlet.inflow c.respond-end.new.reader)
+          (g.W.Outlet.outflow c.args.writer.now) (g.W.Outlet.outflow c.shake_within.new.writer)
+          (g.W.Outlet.outflow c.respond-end.new.writer) c.args.turns c.shake_within.new.turns left
+          c.respond-end.result.0 meets said,
+      ap (λ dropped. told dropped c.respond-end.result.0) (sym c.if-dropped.true),
+    )
+
+pub returns-clause-serves : goal.returns-clause-serves
+returns-clause-serves g c =
+    let meets = c.in-Ok.ensures.met in
+    let (left, said) = c.respond-end.ensures.responds meets.behind meets.keeps in (
+      left,
+      c.respond-end.result.1,
+      c.respond-end.result.0,
+      serve_met c.respond-end.result.1 g.S.Server.answers c.args.ours c.args.server.now c.respond-end.new.server
+          c.in-Ok.shaken.fed c.in-Ok.shaken.decoder c.in-Ok.shaken.peer (g.R.Inlet.inflow c.args.reader.now)
+          (g.R.Inlet.inflow c.shake_within.new.reader) (g.R.Inlet.inflow c.respond-end.new.reader)
+          (g.W.Outlet.outflow c.args.writer.now) (g.W.Outlet.outflow c.shake_within.new.writer)
+          (g.W.Outlet.outflow c.respond-end.new.writer) c.args.turns c.shake_within.new.turns left
+          c.respond-end.result.0 meets said,
+      ap (λ dropped. told dropped c.respond-end.result.0) (sym c.if-dropped.false),
+    )

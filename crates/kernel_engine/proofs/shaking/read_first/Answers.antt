@@ -25,7 +25,8 @@ returns-then-not-is_empty-clause-ok g c =
           (g.R.Inlet.inflow c.read_turn.new.reader)
           c.args.turns.now c.loop-count.turns c.read_turn.new.turns c.loop-count.decoder c.feed-fed.new.self
           (take c.in_ok-count.count c.read_turn.new.into) c.feed-fed.result.traffic c.feed-fed.result.fault
-          c.loop-count.invariant leg (c.feed-fed.ensures.fed c.loop-count.invariant.alive) c.feed-fed.ensures.limits,
+          c.loop-count.invariant leg (c.feed-fed.ensures.fed c.loop-count.invariant.alive) c.feed-fed.ensures.limits
+          c.in_ok-count.ensures.one,
     )
 
 pub returns-in-Some-clause-err : goal.returns-in-Some-clause-err

@@ -79,17 +79,17 @@ greeted g c =
 pub returns-clause-met : goal.returns-clause-met
 returns-clause-met g c =
     let o = greeted g c in
-    let (some, (octets, fed, leg)) = c.in_ok-fed.ensures.ok in
+    let (some, (octets, fed, leg, late)) = c.in_ok-fed.ensures.ok in
     judged_met c.meet.result c.args.ours (g.R.Inlet.inflow c.args.reader.now)
     (g.R.Inlet.inflow c.read_opening.new.reader) (g.R.Inlet.inflow c.read_first.new.reader)
     (g.W.Outlet.outflow c.args.writer.now) (g.W.Outlet.outflow c.put-2.new.writer)
     c.args.turns.now c.read_opening.new.turns c.read_first.new.turns
-    c.in_ok-opening.opening octets c.in_ok-fed.fed c.read_first.new.decoder o leg fed c.meet.ensures.ok
+    c.in_ok-opening.opening octets c.in_ok-fed.fed c.read_first.new.decoder o leg late fed c.meet.ensures.ok
 
 pub returns-clause-turned_away : goal.returns-clause-turned_away
 returns-clause-turned_away g c =
     let o = greeted g c in
-    let (some, (octets, fed, leg)) = c.in_ok-fed.ensures.ok in
+    let (some, (octets, fed, leg, late)) = c.in_ok-fed.ensures.ok in
     judged_refused c.meet.result c.args.ours (g.R.Inlet.inflow c.args.reader.now)
     (g.R.Inlet.inflow c.read_opening.new.reader) (g.R.Inlet.inflow c.read_first.new.reader)
     (g.W.Outlet.outflow c.args.writer.now) (g.W.Outlet.outflow c.put-2.new.writer)

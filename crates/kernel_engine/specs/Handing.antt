@@ -1,0 +1,64 @@
+-- The steps of listening, by what each of them handed on.
+use Rattle.std.specs.Prelude.{◌≡◌, ◌⊎◌, ℕ, ◌+◌, List, [], ◌∷◌, ◌++◌, true, false, Result, Ok, Err, Option, Some, None}
+use Rattle.zmtp_wire.specs.declared.fault.WireFault.{WireFault}
+use Rattle.zmtp_wire.specs.declared.fault.WireFault.TheVariants.{PeerError}
+use Rattle.zmtp_wire.specs.declared.traffic.Traffic.{Traffic}
+use Rattle.zmtp_wire.specs.Traffic.{is_error}
+use Rattle.zmtp_wire.specs.Decoding.{Decoding, Feeds}
+use Rattle.zmtp_wire.specs.Device.{Inflow}
+use Rattle.kernel_engine.specs.declared.end.SessionEnd.{SessionEnd}
+use Rattle.kernel_engine.specs.declared.end.SessionEnd.TheVariants.{Wire}
+use Rattle.kernel_engine.specs.Peer.{IsCalm}
+use Rattle.kernel_engine.specs.Exchange.{Reading}
+use Rattle.kernel_engine.specs.Steps.{Leg, IsStop}
+use Rattle.kernel_engine.specs.Listen.{Hearing, HearsAll}
+
+-- The traffic in front of one was handed on, and none of it ended listening.
+pub record HandsUpTo {Listener : Type 0} (hears : Hearing Listener) (old : Listener) (traffic : List Traffic)
+    (last : Traffic) (now : Listener) : Type 0 where
+  pub front : List Traffic
+  pub behind : List Traffic
+  pub split : traffic ≡ front ++ last ∷ behind
+  pub calm : IsCalm front
+  pub handed : HearsAll hears old front now
+
+-- traffic ended listening: by a command ERROR, or where the listener did so
+abbrev pub HandsFront : {Listener : Type 0} → Hearing Listener → Listener → List Traffic → Listener → SessionEnd
+    → Type 0
+HandsFront {Listener} hears old traffic new end =
+    ((last : Traffic) × (is_error last ≡ true) × (end ≡ Wire PeerError) × HandsUpTo hears old traffic last new)
+    ⊎ ((last : Traffic) × (now : Listener) × (is_error last ≡ false) × hears now last new (Err end)
+    × HandsUpTo hears old traffic last now)
+
+-- all of the traffic was handed on, or it ended listening
+abbrev pub HandsSome : {Listener : Type 0} → Hearing Listener → Listener → List Traffic → Listener
+    → Result Unit SessionEnd → Type 0
+HandsSome hears old traffic new (Ok done) = IsCalm traffic × HearsAll hears old traffic new
+HandsSome hears old traffic new (Err end) = HandsFront hears old traffic new end
+
+-- what a piece brought was handed on, and then its fault ended listening, if it has one
+abbrev pub HandsFed : {Listener : Type 0} → Hearing Listener → Listener → List Traffic → Option WireFault → Listener
+    → Result Unit SessionEnd → Type 0
+HandsFed hears old traffic fault new (Ok done) = (fault ≡ None) × HandsSome hears old traffic new (Ok done)
+HandsFed hears old traffic fault new (Err end) = HandsFront hears old traffic new end
+    ⊎ ((found : WireFault) × (fault ≡ Some found) × (end ≡ Wire found) × HandsSome hears old traffic new (Ok tt))
+
+-- A piece was read in one turn, and what it brought was handed on.
+pub record HandsPiece {Listener : Type 0} (hears : Hearing Listener) (old new : Listener) (decoder decoder' : Decoding)
+    (inflow inflow' : Inflow) (turns left : ℕ) (result : Result Unit SessionEnd) : Type 0 where
+  pub octets : List ℕ
+  pub traffic : List Traffic
+  pub fault : Option WireFault
+  pub leg : Leg inflow inflow' turns left octets
+  pub one : turns ≡ left + 1
+  pub fed : decoder.spent ≡ false → Feeds decoder octets traffic fault decoder'
+  pub same : decoder'.limits ≡ decoder.limits
+  pub hands : HandsFed hears old traffic fault new result
+
+-- no piece was read
+pub record HandsNone {Listener : Type 0} (old new : Listener) (decoder decoder' : Decoding) (inflow inflow' : Inflow)
+    (turns left : ℕ) (end : SessionEnd) : Type 0 where
+  pub stop : IsStop end
+  pub reading : Reading inflow inflow' turns left [] end
+  pub listener : new ≡ old
+  pub keeps : decoder' ≡ decoder

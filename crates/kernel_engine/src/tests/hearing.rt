@@ -1,0 +1,293 @@
+//! Traffic that is put into an intake.
+
+use super::{ERROR, HELLO, PEER_GREETING, PING, Peer, READY_DEALER, READY_REQ, Sink, join, memory};
+use crate::{EngineFault, Intake, SessionEnd, Shaken, hear, shake};
+use listed::Row;
+use std::alloc::{AllocError, Global};
+use std::test::Fail;
+use zmtp_wire::{Counted, Decoder, Fed, Limits, SocketType, Traffic, WireFault};
+
+/// How an intake answers at its last place.
+#[derive(Clone, Copy, Debug)]
+enum Answer {
+    /// It says no.
+    No,
+    /// It has no memory.
+    Refused,
+}
+
+/// Keeps what is put as text, up to so many places.
+#[derive(Drop)]
+struct Shelf {
+    /// What was put: a message's frames each behind `|`, a command's name behind `/`.
+    text: Vec<u8>,
+    /// How many places are left.
+    places: u64,
+    /// How it answers when none is left.
+    last: Answer,
+    /// How often it was asked.
+    asked: u64,
+}
+
+impl Shelf {
+    /// A shelf with so many places.
+    fn of(alloc: Global, places: u64, last: Answer) -> Shelf {
+        Shelf {
+            text: Vec::new(alloc),
+            places,
+            last,
+            asked: 0,
+        }
+    }
+}
+
+impl Intake for Shelf {
+    ghost use Rattle.std.specs.Prelude.{⊤, None, []};
+
+    ghost takes = { λ _ _ _ _. ⊤ };
+
+    ghost told = { λ _. None };
+
+    ghost names = { λ _. [] };
+
+    fn put(&mut self, traffic: Traffic) -> Result<bool, AllocError> {
+        self.asked = self.asked.saturating_add(1);
+        if self.places == 0 {
+            return match self.last {
+                Answer::No => Ok(false),
+                Answer::Refused => Err(AllocError),
+            };
+        }
+        self.places -= 1;
+        match traffic {
+            Traffic::Message(frames) => {
+                for frame in frames.as_slice() {
+                    self.text.extend_from_slice(b"|")?;
+                    self.text.extend_from_slice(frame.as_slice())?;
+                }
+            }
+            Traffic::Command(name, _rest) => {
+                self.text.extend_from_slice(b"/")?;
+                self.text.extend_from_slice(name.as_slice())?;
+            }
+        }
+        Ok(true)
+    }
+}
+
+/// A connection whose peer was met, and nothing came with its READY.
+fn met(alloc: Global) -> Shaken {
+    Shaken {
+        peer: SocketType::Dealer,
+        fed: Fed {
+            traffic: Row::new(Vec::new(alloc)),
+            fault: None,
+        },
+        decoder: Decoder::new(alloc, Limits::usual()),
+    }
+}
+
+/// What a peer that sends these octets behind READY puts into a shelf, and how hearing ended, by the octets a read.
+fn heard(
+    alloc: Global,
+    sent: &[u8],
+    places: u64,
+    last: Answer,
+    width: usize,
+) -> (SessionEnd, Shelf) {
+    let mut peer = Peer::of(sent, b"");
+    peer.width = width;
+    let mut shelf = Shelf::of(alloc, places, last);
+    let mut shaken = met(alloc);
+    let end = hear(
+        alloc,
+        &mut Counted::new(peer),
+        &mut shaken,
+        &mut shelf,
+        1_000_000,
+    );
+    (end, shelf)
+}
+
+#[test]
+fn traffic_is_put_whole_and_in_order(rt: HostRuntime) -> Result<(), Fail> {
+    let alloc = rt.alloc();
+    for (sent, put, ending) in [
+        (b"".as_slice(), b"".as_slice(), SessionEnd::Eof),
+        (PING, b"||ping", SessionEnd::Eof),
+        // Commands are put too, in their places, a second READY among them.
+        (
+            b"\x00\x01A\x04\x06\x05HELLO\x01\x01B\x00\x01C\x04\x06\x05READY",
+            b"|A/HELLO|B|C/READY",
+            SessionEnd::Eof,
+        ),
+        // What isn't whole isn't put.
+        (b"\x00\x01A\x01\x01B\x00\x02C", b"|A", SessionEnd::Eof),
+        // ERROR isn't put, and nothing behind it.
+        (
+            b"\x00\x01A\x04\x06\x05ERROR\x00\x01B",
+            b"|A",
+            SessionEnd::Wire(WireFault::PeerError),
+        ),
+        (
+            b"\x00\x05ERROR\x04\x0A\x05ERROR\x03bad\x08",
+            b"|ERROR",
+            SessionEnd::Wire(WireFault::PeerError),
+        ),
+        // What was whole before a fault is put.
+        (
+            b"\x00\x01A\x04\x06\x05HELLO\x08\x00\x01B",
+            b"|A/HELLO",
+            SessionEnd::Wire(WireFault::Flags),
+        ),
+    ] {
+        for width in [1, 2, 5, 1_000_000] {
+            let (end, shelf) = heard(alloc, sent, 100, Answer::No, width);
+            assert_eq!(rt; end, ending, "{sent:?}");
+            assert_eq!(rt; shelf.text.as_slice(), put, "{sent:?}");
+        }
+    }
+    Ok(())
+}
+
+#[test]
+fn every_cut_in_two_puts_the_same(rt: HostRuntime) -> Result<(), Fail> {
+    let alloc = rt.alloc();
+    let messages = b"\x01\x00\x03\0\0\0\0\0\0\0\x01A\x00\x02BC\x00\x01D".as_slice();
+    for (last, ending) in [
+        (b"".as_slice(), SessionEnd::Eof),
+        (b"\x01\x00\x01", SessionEnd::Eof),
+        (b"\x80", SessionEnd::Wire(WireFault::Flags)),
+        (ERROR, SessionEnd::Wire(WireFault::PeerError)),
+    ] {
+        let octets = join(
+            alloc,
+            &[PEER_GREETING, READY_REQ, PING, HELLO, messages, last],
+        )?;
+        for cut in 0..=octets.len() {
+            let (front, behind) = octets.split_at(cut);
+            let mut reader = Counted::new(Peer::of(front, behind));
+            let mut writer = Counted::new(Sink::new(alloc));
+            let Ok(mut shaken) = shake(alloc, &mut reader, &mut writer, SocketType::Rep, 5) else {
+                return Err(Fail::from("turned away"));
+            };
+            let mut shelf = Shelf::of(alloc, 100, Answer::No);
+            let end = hear(alloc, &mut reader, &mut shaken, &mut shelf, 5);
+            assert_eq!(rt; end, ending, "cut at {cut}");
+            let put = b"||ping/HELLO||A|BC|D".as_slice();
+            assert_eq!(rt; shelf.text.as_slice(), put, "cut at {cut}");
+            assert_eq!(rt; shaken.peer, SocketType::Req, "cut at {cut}");
+        }
+    }
+    Ok(())
+}
+
+#[test]
+fn an_intake_ends_hearing_at_each_place(rt: HostRuntime) -> Result<(), Fail> {
+    let alloc = rt.alloc();
+    let sent = b"\x00\x01A\x04\x06\x05HELLO\x01\x01B\x00\x01C\x00\x01D\x04\x06\x05ERROR".as_slice();
+    for (places, put) in [
+        (0, b"".as_slice()),
+        (1, b"|A"),
+        (2, b"|A/HELLO"),
+        (3, b"|A/HELLO|B|C"),
+    ] {
+        for (last, ending) in [(Answer::No, SessionEnd::Eof), (Answer::Refused, memory())] {
+            for width in [1, 2, 5, 1_000_000] {
+                let (end, shelf) = heard(alloc, sent, places, last, width);
+                assert_eq!(rt; end, ending, "{places} places");
+                assert_eq!(rt; shelf.text.as_slice(), put, "{places} places");
+                assert_eq!(rt; shelf.asked, places + 1, "{places} places");
+            }
+        }
+    }
+    // ERROR is no traffic that an intake could refuse.
+    for last in [Answer::No, Answer::Refused] {
+        let (end, shelf) = heard(alloc, sent, 4, last, 3);
+        assert_eq!(rt; end, SessionEnd::Wire(WireFault::PeerError));
+        assert_eq!(rt; shelf.asked, 4);
+    }
+    Ok(())
+}
+
+#[test]
+fn nothing_is_read_once_an_intake_said_no(rt: HostRuntime) -> Result<(), Fail> {
+    let alloc = rt.alloc();
+    let sent = b"\x00\x01A\x00\x01B\x00\x01C".as_slice();
+    // The second message is whole with the sixth octet.
+    for (width, reads) in [(1, 6), (2, 3), (3, 2), (4, 2), (5, 2), (6, 1), (9, 1)] {
+        let mut peer = Peer::of(sent, b"");
+        peer.width = width;
+        peer.fails_at = reads + 1;
+        let mut reader = Counted::new(peer);
+        let mut shelf = Shelf::of(alloc, 1, Answer::No);
+        let mut shaken = met(alloc);
+        let end = hear(alloc, &mut reader, &mut shaken, &mut shelf, 100);
+        assert_eq!(rt; end, SessionEnd::Eof, "{width} octets a read");
+        assert_eq!(rt; reader.into_inner().reads, reads, "{width} octets a read");
+    }
+    Ok(())
+}
+
+#[test]
+fn hearing_goes_on_where_it_paused(rt: HostRuntime) -> Result<(), Fail> {
+    let alloc = rt.alloc();
+    let opening = join(alloc, &[PEER_GREETING, READY_DEALER])?;
+    let messages = b"\x00\x01A\x01\x02BC\x00\x03DEF".as_slice();
+    let sent = join(alloc, &[messages, HELLO, PING])?;
+    for turns in [1, 2, 3, 7] {
+        let mut peer = Peer::of(&opening, &sent);
+        peer.pace = 1;
+        let mut reader = Counted::new(peer);
+        let mut writer = Counted::new(Sink::new(alloc));
+        let Ok(mut shaken) = shake(alloc, &mut reader, &mut writer, SocketType::Router, 5) else {
+            return Err(Fail::from("turned away"));
+        };
+        let mut shelf = Shelf::of(alloc, 100, Answer::No);
+        // So many octets at a time, and what isn't whole is kept from call to call.
+        let mut ended = SessionEnd::Failed(EngineFault::Turns);
+        for _ in 0..100u64 {
+            if ended != SessionEnd::Failed(EngineFault::Turns) {
+                break;
+            }
+            ended = hear(alloc, &mut reader, &mut shaken, &mut shelf, turns);
+        }
+        assert_eq!(rt; ended, SessionEnd::Eof, "{turns} turns");
+        let put = b"|A|BC|DEF/HELLO||ping".as_slice();
+        assert_eq!(rt; shelf.text.as_slice(), put, "{turns} turns");
+    }
+    // A read that failed loses nothing either: of the 14 that give two octets each, and the last.
+    for fails_at in 3..18 {
+        let mut peer = Peer::of(&opening, &sent);
+        peer.pace = 2;
+        peer.fails_at = fails_at;
+        let mut reader = Counted::new(peer);
+        let mut writer = Counted::new(Sink::new(alloc));
+        let Ok(mut shaken) = shake(alloc, &mut reader, &mut writer, SocketType::Router, 5) else {
+            return Err(Fail::from("turned away"));
+        };
+        let mut shelf = Shelf::of(alloc, 100, Answer::No);
+        let end = hear(alloc, &mut reader, &mut shaken, &mut shelf, 100);
+        assert_eq!(rt; end, SessionEnd::Failed(EngineFault::Read));
+        let end = hear(alloc, &mut reader, &mut shaken, &mut shelf, 100);
+        assert_eq!(rt; end, SessionEnd::Eof);
+        assert_eq!(rt; shelf.text.as_slice(), b"|A|BC|DEF/HELLO||ping".as_slice());
+    }
+    Ok(())
+}
+
+#[test]
+fn an_endless_peer_is_heard_as_often_as_there_are_turns(rt: HostRuntime) -> Result<(), Fail> {
+    let alloc = rt.alloc();
+    for turns in [0, 1, 9] {
+        let mut peer = Peer::of(PING, PING);
+        peer.again = PING;
+        let mut reader = Counted::new(peer);
+        let mut shelf = Shelf::of(alloc, 100, Answer::No);
+        let mut shaken = met(alloc);
+        let end = hear(alloc, &mut reader, &mut shaken, &mut shelf, turns);
+        assert_eq!(rt; end, SessionEnd::Failed(EngineFault::Turns));
+        assert_eq!(rt; reader.into_inner().reads, turns);
+    }
+    Ok(())
+}
