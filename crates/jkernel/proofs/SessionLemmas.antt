@@ -24,8 +24,8 @@ use Rattle.kernel_engine.specs.declared.end.SessionEnd.TheVariants.{Eof, Shutdow
 use Rattle.kernel_engine.specs.declared.fault.EngineFault.{EngineFault}
 use Rattle.kernel_engine.specs.Peer.{Message, EndsAs, EndsBehind, IsTurnedAway}
 use Rattle.kernel_engine.specs.Listen.{RunsOut}
-use Rattle.kernel_engine.specs.Server.{Serving, Treats, GoesOn, AnswersAll, IsServed, Serves, ServesPeer, begins, marked}
-use Rattle.kernel_engine.specs.Server.{told}
+use Rattle.kernel_engine.specs.Server.{Serving, Treats, GoesOn, AnswersAll, IsServed, Serves, ServesPeer}
+use Rattle.kernel_engine.specs.Server.{begins, marked, told}
 use Rattle.kernel_engine.specs.Steps.{TurnsAway}
 use Rattle.kernel_engine.specs.Laws.{EndStays, IsSettled}
 use Rattle.jmsg_types.specs.declared.reply.Reply.{Reply}
@@ -123,7 +123,8 @@ served_more old middle new message messages reply later replies (inr one) rest i
       added = rest.added ∙ ap (λ o. o ++ rest.published) one.published
           ∙ append_assoc old.published.items (block old.signer old.next one.request) rest.published;
       signer = rest.signer ∙ one.signer;
-      serves = inr (one.request, later, rest.published, one.opened, serves, is ∙ ap (λ o. o ++ later) one.replies, refl);
+      serves =
+          inr (one.request, later, rest.published, one.opened, serves, is ∙ ap (λ o. o ++ later) one.replies, refl);
     }
 
 -- a command in front of others
@@ -214,36 +215,36 @@ met_of : (old new : Engine) (octets written : List ℕ) (end : SessionEnd) → I
 met_of old new octets written end settled served =
     let talk = served.converses in
     elim talk.ends [
-      inl (runs, wrote, is) ↦
-        let all = served_all (begins old) talk.now talk.traffic talk.replies talk.answered
-        (ap (λ (s : Serving Engine). s.dropped) is) in
-        let became : talk.now.server ≡ new = ap (λ (s : Serving Engine). s.server) is in
-        record {
-          published = all.published;
-          added = ap (λ (e : Engine). e.published.items) (sym became) ∙ all.added;
-          session = record {
-            opening = served.opening;
-            traffic = talk.traffic;
-            replies = talk.replies;
-            hears = inr (record {
-              peer = served.peer;
-              behind = served.behind;
-              met = served.met;
-              says = record {
-                rest = talk.rest;
-                read = talk.read;
-                calm = talk.calm;
-                ends = ends_settled talk.rest end settled runs;
-              };
-            });
-            serves = all.serves;
-            all = served.all ∙ ap (λ o. served.opening ++ o) wrote;
-          };
-        }
-    | inr last ↦ elim last.how [
-        inl (is, ends, wrote) ↦
-          absurd (never_last talk.now.server new last.last last.reply last.answered end settled last.step is)
-      | inr (is, lost) ↦ absurd (subst IsSettled is settled)
+      | inl (runs, wrote, is) ↦
+          let all = served_all (begins old) talk.now talk.traffic talk.replies talk.answered
+          (ap (λ (s : Serving Engine). s.dropped) is) in
+          let became : talk.now.server ≡ new = ap (λ (s : Serving Engine). s.server) is in
+          record {
+            published = all.published;
+            added = ap (λ (e : Engine). e.published.items) (sym became) ∙ all.added;
+            session = record {
+              opening = served.opening;
+              traffic = talk.traffic;
+              replies = talk.replies;
+              hears = inr (record {
+                peer = served.peer;
+                behind = served.behind;
+                met = served.met;
+                says = record {
+                  rest = talk.rest;
+                  read = talk.read;
+                  calm = talk.calm;
+                  ends = ends_settled talk.rest end settled runs;
+                };
+              });
+              serves = all.serves;
+              all = served.all ∙ ap (λ o. served.opening ++ o) wrote;
+            };
+          }
+      | inr last ↦ elim last.how [
+        | inl (is, ends, wrote) ↦
+            absurd (never_last talk.now.server new last.last last.reply last.answered end settled last.step is)
+        | inr (is, lost) ↦ absurd (subst IsSettled is settled)
       ]
     ]
 

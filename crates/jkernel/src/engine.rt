@@ -75,7 +75,6 @@ impl Engine {
         ensures reply { IfOk result (λ reply. reply ≡ reply_of self.old.signer self.old.next request) }
         ensures next { OnOk result (self.new.next ≡ self.old.next + ids_of request) }
 
-
         // A request that is refused leaves the number as it was, and what was published is the front of its block.
         ensures begun { OnErr result (IsBegun self.old.published.items self.new.published.items
             (block self.old.signer self.old.next request)) }

@@ -152,8 +152,8 @@ greeting_fault_once octets faults.Mechanism other first second =
 greeting_fault_once octets _ other first second = absurd first
 
 -- what comes first is one traffic
-pub first_once : (laws : Laws) (octets : List ℕ) (one other : Traffic) (rest after : List ℕ) → ComesFirst octets one rest
-    → ComesFirst octets other after → (one ≡ other) × (rest ≡ after)
+pub first_once : (laws : Laws) (octets : List ℕ) (one other : Traffic) (rest after : List ℕ)
+    → ComesFirst octets one rest → ComesFirst octets other after → (one ≡ other) × (rest ≡ after)
 first_once laws octets one other rest after first second =
     laws.front usual_limits (drop 64 octets) first.front second.front one other rest after first.split first.spelled
     second.split second.spelled

@@ -51,7 +51,8 @@ piece_needed kept piece rest front last none (read, is, reads) comes =
     ]
 
 -- one more read
-abbrev pub last_read : (one two three : Inflow) (turns middle left : ℕ) (front piece : List ℕ) → Leg one two turns middle front
+abbrev pub last_read : (one two three : Inflow) (turns middle left : ℕ) (front piece : List ℕ)
+    → Leg one two turns middle front
     → Leg two three middle left piece → middle ≡ left + 1 → LastRead one three turns left (front ++ piece)
 last_read one two three turns middle left front piece before read is = record {
   front = front;

@@ -15,7 +15,8 @@ use Rattle.kernel_engine.specs.declared.end.SessionEnd.TheVariants.{Eof, Shutdow
 use Rattle.kernel_engine.specs.Peer.{BeginsWith, EndsAs, EndsBehind, IsCalm, IsTurnedAway}
 use Rattle.kernel_engine.specs.Laws.{IsSettled, IsDone, IsFunction, ServesOnce}
 use Rattle.kernel_engine.specs.Listen.{RunsOut}
-use Rattle.kernel_engine.specs.Server.{Answering, Serving, Treats, GoesOn, AnswersAll, IsLast, Converses, marked, begins}
+use Rattle.kernel_engine.specs.Server.{Answering, Serving, Treats, GoesOn, AnswersAll, IsLast, Converses, marked}
+use Rattle.kernel_engine.specs.Server.{begins}
 use Rattle.kernel_engine.specs.Steps.{TurnsAway}
 use Rattle.kernel_engine.proofs.HearOnce.{Laws, ends_without, no_more, calm_behind, behind_once, away_once, first_once}
 use Rattle.kernel_engine.proofs.HearOnce.{met_away}
@@ -56,7 +57,8 @@ all_once : {Server : Type 0} (answers : Answering Server) → IsFunction answers
     → (replies ≡ also) × (one ≡ other)
 all_once answers once old one other [] replies also (none, same) (nothing, keeps) kept stays =
     (none ∙ sym nothing, same ∙ sym keeps)
-all_once answers once old one other (first ∷ items) replies also (middle, reply, later, (answered, step, mark), rest, is)
+all_once answers once old one other (first ∷ items) replies also
+    (middle, reply, later, (answered, step, mark), rest, is)
     (between, back, others, (did, took, marks), more, same) kept stays =
     let calm = undropped answers middle one items later rest kept in
     let quiet = undropped answers between other items others more stays in
@@ -115,7 +117,8 @@ left_kept : {Server : Type 0} (answers : Answering Server) (now : Serving Server
     → (last : IsLast answers now rest replies written (record { server = new; dropped = false }) end)
     → now.dropped ≡ false
 left_kept answers now new rest replies written end settled last =
-    let (is, wrote) = left answers now (record { server = new; dropped = false }) rest replies written end settled last in
+    let (is, wrote) =
+    left answers now (record { server = new; dropped = false }) rest replies written end settled last in
     sym (last.mark ∙ ap (marked now.dropped) is)
 
 -- what a session came to, and nothing was dropped
@@ -185,7 +188,8 @@ both_out laws answers once old one other octets written also ending end settled 
 -- two sessions, which the server ended
 both_last : {Server : Type 0} (laws : Laws) (answers : Answering Server) → IsFunction answers
     → (old one other : Server) (octets written also : List ℕ) (ending end : SessionEnd) → IsSettled ending
-    → IsSettled end → (first : Talk answers old octets written one ending) (second : Talk answers old octets also other end)
+    → IsSettled end → (first : Talk answers old octets written one ending)
+    (second : Talk answers old octets also other end)
     → first.traffic ≡ second.traffic → first.rest ≡ second.rest
     → IsLast answers first.now first.rest first.replies written (record { server = one; dropped = false }) ending
     → IsLast answers second.now second.rest second.replies also (record { server = other; dropped = false }) end
@@ -232,13 +236,15 @@ less_out laws answers once old one other octets written also ending end settled 
           both_out laws answers once old one other octets written also ending end settled quiet first second items rests
           runs out wrote same wrote' same'
       | inr last ↦ absurd (no_last laws second.rest ending last.last
-          (subst (λ r. EndsBehind r ending) rests (ends_settled first.rest ending settled runs)) last.comes last.harmless)
+          (subst (λ r. EndsBehind r ending) rests (ends_settled first.rest ending settled runs)) last.comes
+          last.harmless)
     ]
 
 -- the server ended the first
 less_last : {Server : Type 0} (laws : Laws) (answers : Answering Server) → IsFunction answers
     → (old one other : Server) (octets written also : List ℕ) (ending end : SessionEnd) → IsSettled ending
-    → IsSettled end → (first : Talk answers old octets written one ending) (second : Talk answers old octets also other end)
+    → IsSettled end → (first : Talk answers old octets written one ending)
+    (second : Talk answers old octets also other end)
     (more : List Traffic) → second.traffic ≡ first.traffic ++ more
     → ReadsUpTo usual_limits first.rest more second.rest
     → IsLast answers first.now first.rest first.replies written (record { server = one; dropped = false }) ending
@@ -251,7 +257,8 @@ less_last laws answers once old one other octets written also ending end settled
       | inl (out, wrote, same) ↦ absurd (no_last laws first.rest end last.last
           (subst (λ r. EndsBehind r end) (sym rests) (ends_settled second.rest end quiet out)) last.comes last.harmless)
       | inr final ↦
-          both_last laws answers once old one other octets written also ending end settled quiet first second items rests
+          both_last laws answers once old one other octets written also ending end settled quiet first second items
+          rests
           last final
     ]
 less_last laws answers once old one other octets written also ending end settled quiet first second (next ∷ more) is
@@ -266,13 +273,15 @@ less_last laws answers once old one other octets written also ending end settled
 -- of two sessions, the second goes on where the first ended
 talk_less : {Server : Type 0} (laws : Laws) (answers : Answering Server) → IsFunction answers
     → (old one other : Server) (octets written also : List ℕ) (ending end : SessionEnd) → IsSettled ending
-    → IsSettled end → (first : Talk answers old octets written one ending) (second : Talk answers old octets also other end)
+    → IsSettled end → (first : Talk answers old octets written one ending)
+    (second : Talk answers old octets also other end)
     (more : List Traffic) → second.traffic ≡ first.traffic ++ more
     → ReadsUpTo usual_limits first.rest more second.rest → Same written also one other ending end
 talk_less laws answers once old one other octets written also ending end settled quiet first second more is reads =
     elim first.ends [
       | inl (runs, wrote, same) ↦
-          less_out laws answers once old one other octets written also ending end settled quiet first second more is reads
+          less_out laws answers once old one other octets written also ending end settled quiet first second more is
+          reads
           runs wrote same
       | inr last ↦
           less_last laws answers once old one other octets written also ending end settled quiet first second more is

@@ -49,7 +49,8 @@ marked dropped (Err end) = dropped
 -- traffic is treated, and the session goes on
 abbrev pub GoesOn : {Server : Type 0} → Answering Server → Serving Server → Traffic → List ℕ → Serving Server → Type 0
 GoesOn answers old traffic reply new = (answered : Answered)
-    × Treats answers old.server traffic reply new.server (Ok answered) × (new.dropped ≡ marked old.dropped (Ok answered))
+    × Treats answers old.server traffic reply new.server (Ok answered)
+    × (new.dropped ≡ marked old.dropped (Ok answered))
 
 -- traffic is answered in turn, by steps of this kind, and the octets that answer it, joined
 abbrev pub AnswersAll : {State : Type 0} → (State → Traffic → List ℕ → State → Type 0) → State → List Traffic → List ℕ

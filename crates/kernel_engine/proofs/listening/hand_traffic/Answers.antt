@@ -12,7 +12,8 @@ loop-item-preserved g c =
     let harmless : is_error c.in-Some.item ≡ false = sym c.is_error.ensures ∙ c.if-is_error.false in
     record {
       same = c.in_ok-hear.ensures.names ∙ c.loop-item.invariant.same;
-      so_far = handed_more g.L.Listener.hears c.args.listener.now c.args.traffic c.in-Some.item rest c.loop-item.listener
+      so_far = handed_more g.L.Listener.hears c.args.listener.now c.args.traffic c.in-Some.item rest
+          c.loop-item.listener
           c.hear.new.self
           (subst (λ (r : List Traffic). HandedSoFar g.L.Listener.hears c.args.listener.now c.args.traffic r
           c.loop-item.listener) first c.loop-item.invariant.so_far) harmless c.in_ok-hear.ensures.hears;

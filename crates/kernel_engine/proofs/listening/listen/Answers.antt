@@ -66,7 +66,8 @@ pub loop-end-preserved : goal.loop-end-preserved
 loop-end-preserved g c =
     let so_far = c.loop-end.invariant in
     record {
-      room = let long : length c.hand_piece-heard.new.piece ≡ length c.loop-end.piece.items = c.hand_piece-heard.auto.piece
+      room = let long : length c.hand_piece-heard.new.piece ≡ length c.loop-end.piece.items =
+          c.hand_piece-heard.auto.piece
           ∙ ap length c.deref_mut.ensures.value in
           let all = c.hand_piece-heard.new.piece
           ++ drop (length c.hand_piece-heard.new.piece) c.loop-end.piece.items in
