@@ -16,7 +16,7 @@ use Rattle.jmsg_types.specs.declared.publication.Publication.{Publication}
 use Rattle.kernel_block.specs.Course.{Course, own, interrupted, memory, Outcome, IsOutcome, outputs_of, Goes}
 use Rattle.kernel_block.specs.Course.{CellRuns, TextRuns, MayEnd}
 use Rattle.kernel_block.specs.Publications.{publication_of}
-use Rattle.kernel_block.specs.Growth.{InFront, told}
+use Rattle.kernel_block.specs.Growth.{InFront, unless_silent}
 use Rattle.kernel_block.specs.Runs.{RunsWhole, RunsCut, Underway}
 use Rattle.kernel_block.proofs.PuttingLemmas.{told_none}
 
@@ -142,13 +142,13 @@ module _ {State Cell : Type 0} (m : Meaning State Cell) where
         → ByMemory next ((outputs ≡ []) × m.breaks_off state cell after)
         (m.runs state cell (record { outputs = outputs; next = next }) after left)
         → MatchOption ended (next ≡ More) (λ outcome. IsOutcome next outcome)
-        → Grew (told silent (map publication_of outputs))
+        → Grew (unless_silent silent (map publication_of outputs))
         → MatchOption ended (Underway m state cell after left Grew silent)
         (λ outcome. RunsWhole (CellRuns m state cell) may outcome after Grew silent)
     step_whole next None more stepped is grew = record {
       steps = record { outputs = outputs; next = More } ∷ [];
       goes = (after, left, ran_on next is stepped, refl, (refl, refl));
-      grew = subst (λ o. Grew (told silent (map publication_of o))) (sym (append-nil outputs)) grew;
+      grew = subst (λ o. Grew (unless_silent silent (map publication_of o))) (sym (append-nil outputs)) grew;
     }
     step_whole next (Some outcome) more stepped is grew =
         let (course, runs, ending) = ran_to_end next outcome more stepped is in
@@ -216,14 +216,14 @@ module _ {State Cell : Type 0} (m : Meaning State Cell) where
 
   module _ (state : State) (cell : Cell) (at : State) (left : Cell) (after : State) (rest : Cell)
       (A B C : List Publication → Type 0) (silent : Bool)
-      (join : (xs ys : List Publication) → A (told silent xs) → B (told silent ys) → C (told silent (xs ++ ys))) where
+      (join : (xs ys : List Publication) → A (unless_silent silent xs) → B (unless_silent silent ys) → C (unless_silent silent (xs ++ ys))) where
     -- more steps ran
     pub underway_on : Underway m state cell at left A silent → Underway m at left after rest B silent
         → Underway m state cell after rest C silent
     underway_on first second = record {
       steps = first.steps ++ second.steps;
       goes = goes_on state cell first.steps at left second.steps after rest first.goes second.goes;
-      grew = subst (λ l. C (told silent l)) (sym (ap (map publication_of) (flat_map-append (λ step. step.outputs)
+      grew = subst (λ l. C (unless_silent silent l)) (sym (ap (map publication_of) (flat_map-append (λ step. step.outputs)
           first.steps second.steps) ∙ published_outputs _ _)) (join _ _ first.grew second.grew);
     }
 
@@ -255,7 +255,7 @@ module _ {State Cell : Type 0} (m : Meaning State Cell) where
       outputs = outputs_of first.steps ++ second.outputs;
       runs = joined first second.course second.outputs outcome second.runs;
       ending = second.ending;
-      grew = subst (λ l. C (told silent l)) (sym (published_outputs _ _)) (join _ _ first.grew second.grew);
+      grew = subst (λ l. C (unless_silent silent l)) (sym (published_outputs _ _)) (join _ _ first.grew second.grew);
     }
 
     -- only a beginning of what the cell wrote was published

@@ -8,7 +8,7 @@ use Rattle.interp_core.specs.declared.fault.InterpFault.{InterpFault}
 use Rattle.jmsg_types.specs.declared.publication.Publication.{Publication}
 use Rattle.kernel_block.specs.Answer.{EvaluatesFront, LeavesExpressions}
 use Rattle.kernel_block.specs.Course.{Course, Ending, own, interrupted, memory, Outcome, TextRuns}
-use Rattle.kernel_block.specs.Growth.{InFront, told}
+use Rattle.kernel_block.specs.Growth.{InFront, unless_silent}
 use Rattle.kernel_block.specs.Responds.{ExecutedCut}
 use Rattle.kernel_block.specs.Runs.{MayBeCut, TellsWhole, TellsCut, failure_of, cell_publications}
 use Rattle.kernel_block.proofs.TellLemmas.{may_be_cut}
@@ -73,7 +73,7 @@ module _ {State Cell : Type 0} (m : Meaning State Cell) (code : List ℕ) (expre
       (none_evaluated cut.outcome after)
 
   -- all of what is published of a cell is a beginning of it
-  all_in_front : (silent : Bool) (publications : List Publication) → Grew (told silent publications)
+  all_in_front : (silent : Bool) (publications : List Publication) → Grew (unless_silent silent publications)
       → InFront Grew silent publications
   all_in_front silent publications grew =
       record { front = publications; rest = []; whole = sym (append-nil publications); grew = grew }

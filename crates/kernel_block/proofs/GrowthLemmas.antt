@@ -8,7 +8,7 @@ use Rattle.jmsg_types.specs.declared.publication.Publication.{Publication}
 use Rattle.kernel_block.specs.declared.heading.Heading.{Heading}
 use Rattle.kernel_block.specs.declared.publishing.Publishing.{Publishing}
 use Rattle.kernel_block.specs.Block.{Sealing, published, published_all}
-use Rattle.kernel_block.specs.Growth.{Puts, sealing_of, item_of, told}
+use Rattle.kernel_block.specs.Growth.{Puts, sealing_of, item_of, unless_silent}
 
 -- what is published of two lists is what is published of the one, and then of the other with the numbers behind it
 pub published_all_append : (sealing : Sealing) (heading : Heading) (number : ℕ) (xs ys : List Publication)
@@ -64,8 +64,8 @@ module _ {P S W : Type 0} (items_of : P → List (Option (Event W))) (is_same : 
   -- the same where nothing of a silent cell is published
   pub puts_told : ((a b c : P) → is_same a b → is_same b c → is_same a c) → (silent : Bool)
       (old mid new : Publishing P S) (xs ys : List Publication)
-      → Puts items_of is_same meaning id_text heading old mid (told silent xs)
-      → Puts items_of is_same meaning id_text heading mid new (told silent ys)
-      → Puts items_of is_same meaning id_text heading old new (told silent (xs ++ ys))
+      → Puts items_of is_same meaning id_text heading old mid (unless_silent silent xs)
+      → Puts items_of is_same meaning id_text heading mid new (unless_silent silent ys)
+      → Puts items_of is_same meaning id_text heading old new (unless_silent silent (xs ++ ys))
   puts_told on true old mid new xs ys first second = puts_join on old mid new [] [] first second
   puts_told on false old mid new xs ys first second = puts_join on old mid new xs ys first second

@@ -2,16 +2,16 @@
 use Rattle.std.proofs.Common.{◌≡◌, List, [], ◌∷◌, ◌++◌, Bool, true, false, refl, sym, ◌∙◌, ap, subst, append_assoc}
 use Rattle.std.proofs.lemmas.List.{append-nil}
 use Rattle.jmsg_types.specs.declared.publication.Publication.{Publication}
-use Rattle.kernel_block.specs.Growth.{InFront, told}
+use Rattle.kernel_block.specs.Growth.{InFront, unless_silent}
 
 -- a front part of publications was published, and the rest waits
 pub record Putting (Grew : List Publication → Type 0) (silent : Bool) (all waiting : List Publication) : Type 0 where
   pub front : List Publication
   pub whole : all ≡ front ++ waiting
-  pub grew : Grew (told silent front)
+  pub grew : Grew (unless_silent silent front)
 
 -- nothing is told of nothing
-pub told_none : (silent : Bool) → told silent [] ≡ []
+pub told_none : (silent : Bool) → unless_silent silent [] ≡ []
 told_none true = refl
 told_none false = refl
 
@@ -25,10 +25,10 @@ putting_first Grew silent all waiting same none = record {
 }
 
 module _ (A B C : List Publication → Type 0) (silent : Bool)
-    (join : (xs ys : List Publication) → A (told silent xs) → B (told silent ys) → C (told silent (xs ++ ys))) where
+    (join : (xs ys : List Publication) → A (unless_silent silent xs) → B (unless_silent silent ys) → C (unless_silent silent (xs ++ ys))) where
   -- one more was published
   pub putting_on : (all waiting rest : List Publication) (one : Publication) → waiting ≡ one ∷ rest
-      → Putting A silent all waiting → B (told silent (one ∷ [])) → Putting C silent all rest
+      → Putting A silent all waiting → B (unless_silent silent (one ∷ [])) → Putting C silent all rest
   putting_on all waiting rest one next so_far grew = record {
     front = so_far.front ++ one ∷ [];
     whole = so_far.whole ∙ ap (λ l. so_far.front ++ l) next ∙ sym (append_assoc so_far.front (one ∷ []) rest);
@@ -37,11 +37,11 @@ module _ (A B C : List Publication → Type 0) (silent : Bool)
 
   -- all were published
   pub putting_done : (all waiting : List Publication) → waiting ≡ [] → Putting A silent all waiting → B []
-      → C (told silent all)
+      → C (unless_silent silent all)
   putting_done all waiting none so_far grew =
       let whole : all ≡ so_far.front = so_far.whole ∙ ap (λ l. so_far.front ++ l) none ∙ append-nil so_far.front in
-      subst (λ l. C (told silent l)) (append-nil all)
-      (join all [] (subst (λ l. A (told silent l)) (sym whole) so_far.grew) (subst B (sym (told_none silent)) grew))
+      subst (λ l. C (unless_silent silent l)) (append-nil all)
+      (join all [] (subst (λ l. A (unless_silent silent l)) (sym whole) so_far.grew) (subst B (sym (told_none silent)) grew))
 
   -- the next one wasn't published
   pub putting_cut : (all waiting : List Publication) → Putting A silent all waiting → B [] → InFront C silent all
@@ -49,6 +49,6 @@ module _ (A B C : List Publication → Type 0) (silent : Bool)
     front = so_far.front;
     rest = waiting;
     whole = so_far.whole;
-    grew = subst (λ l. C (told silent l)) (append-nil so_far.front)
+    grew = subst (λ l. C (unless_silent silent l)) (append-nil so_far.front)
         (join so_far.front [] so_far.grew (subst B (sym (told_none silent)) grew));
   }

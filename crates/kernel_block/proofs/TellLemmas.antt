@@ -11,7 +11,7 @@ use Rattle.jmsg_types.specs.declared.publication.Publication.{Publication}
 use Rattle.jmsg_types.specs.declared.publication.Publication.TheVariants.{ExecuteInput}
 use Rattle.kernel_block.specs.Course.{Course, Ending, own, interrupted, memory, Outcome, Ends, MayEnd, TextRuns}
 use Rattle.kernel_block.specs.Publications.{publication_of, last_of}
-use Rattle.kernel_block.specs.Growth.{told}
+use Rattle.kernel_block.specs.Growth.{unless_silent}
 use Rattle.kernel_block.specs.Runs.{MayBeCut, RunsWhole, RunsCut, TellsWhole, TellsCut, failure_of}
 use Rattle.kernel_block.specs.Runs.{cell_publications}
 use Rattle.kernel_block.proofs.PuttingLemmas.{told_none}
@@ -94,9 +94,9 @@ cut_before_last m state code may count course outputs outcome after publications
 
 module _ {State : Type 0} (Runs : Course State → List Output → Outcome → State → Type 0) (may : Type 0)
     (code : List ℕ) (count : ℕ) (after : State) (A B C : List Publication → Type 0) (silent : Bool)
-    (join : (xs ys : List Publication) → A (told silent xs) → B (told silent ys) → C (told silent (xs ++ ys))) where
+    (join : (xs ys : List Publication) → A (unless_silent silent xs) → B (unless_silent silent ys) → C (unless_silent silent (xs ++ ys))) where
   -- the cell was published, and a beginning of what it wrote
-  pub tells_cut : A (told silent (ExecuteInput code count ∷ [])) → (ran : RunsCut Runs after B silent)
+  pub tells_cut : A (unless_silent silent (ExecuteInput code count ∷ [])) → (ran : RunsCut Runs after B silent)
       → ((publications rest : List Publication)
       → MayBeCut may ran.course.ending publications (rest ++ last_of count ran.outcome))
       → TellsCut Runs may code count after C silent
@@ -116,12 +116,12 @@ module _ {State : Type 0} (Runs : Course State → List Output → Outcome → S
   }
 
   module _ (L F : List Publication → Type 0)
-      (behind : (xs ys : List Publication) → C (told silent xs) → L (told silent ys) → F (told silent (xs ++ ys)))
+      (behind : (xs ys : List Publication) → C (unless_silent silent xs) → L (unless_silent silent ys) → F (unless_silent silent (xs ++ ys)))
     where
       -- what came of the cell was published, or it wasn't
       pub tells_last : (outcome : Outcome) {E : Type 0} (result : Result (Option InterpFault) E)
-          → A (told silent (ExecuteInput code count ∷ [])) → RunsWhole Runs may outcome after B silent
-          → MatchResult result (λ failure. (failure ≡ failure_of outcome) × L (told silent (last_of count outcome)))
+          → A (unless_silent silent (ExecuteInput code count ∷ [])) → RunsWhole Runs may outcome after B silent
+          → MatchResult result (λ failure. (failure ≡ failure_of outcome) × L (unless_silent silent (last_of count outcome)))
           (λ _. L [])
           → MatchResult result (λ failure. TellsWhole Runs may code count failure after F silent)
           (λ _. TellsCut Runs may code count after F silent)
@@ -144,7 +144,7 @@ module _ {State : Type 0} (Runs : Course State → List Output → Outcome → S
           front = ExecuteInput code count ∷ map publication_of ran.outputs;
           rest = last_of count outcome;
           whole = refl;
-          grew = subst (λ l. F (told silent l)) (append-nil (ExecuteInput code count ∷ map publication_of ran.outputs))
+          grew = subst (λ l. F (unless_silent silent l)) (append-nil (ExecuteInput code count ∷ map publication_of ran.outputs))
               (behind (ExecuteInput code count ∷ map publication_of ran.outputs) []
               (join (ExecuteInput code count ∷ []) (map publication_of ran.outputs) input ran.grew)
               (subst L (sym (told_none silent)) last));

@@ -30,14 +30,14 @@ pub record Puts {P S W : Type 0} (items_of : P → List (Option (Event W))) (is_
   pub rest : new ≡ record old { sink = new.sink; next = old.next + length publications }
   pub same : is_same old.sink new.sink
 
--- what is published of publications: of a silent cell nothing
-abbrev pub told : Bool → List Publication → List Publication
-told true publications = []
-told false publications = publications
+-- the publications that are published, of a request that is silent or not: none where it is
+abbrev pub unless_silent : Bool → List Publication → List Publication
+unless_silent true publications = []
+unless_silent false publications = publications
 
 -- a beginning of publications was published
 pub record InFront (Grew : List Publication → Type 0) (silent : Bool) (publications : List Publication) : Type 0 where
   pub front : List Publication
   pub rest : List Publication
   pub whole : publications ≡ front ++ rest
-  pub grew : Grew (told silent front)
+  pub grew : Grew (unless_silent silent front)

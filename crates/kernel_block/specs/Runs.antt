@@ -8,7 +8,7 @@ use Rattle.jmsg_types.specs.declared.publication.Publication.{Publication}
 use Rattle.jmsg_types.specs.declared.publication.Publication.TheVariants.{ExecuteInput}
 use Rattle.kernel_block.specs.Course.{Course, Ending, own, interrupted, memory, Outcome, Goes, MayEnd, outputs_of}
 use Rattle.kernel_block.specs.Publications.{publication_of, last_of}
-use Rattle.kernel_block.specs.Growth.{InFront, told}
+use Rattle.kernel_block.specs.Growth.{InFront, unless_silent}
 
 -- It ran by a course, which ends by an interruption only where one may come, and all that it wrote was published.
 pub record RunsWhole {State : Type 0} (Runs : Course State → List Output → Outcome → State → Type 0) (may : Type 0)
@@ -17,7 +17,7 @@ pub record RunsWhole {State : Type 0} (Runs : Course State → List Output → O
   pub outputs : List Output
   pub runs : Runs course outputs outcome after
   pub ending : MayEnd may course.ending
-  pub grew : Grew (told silent (map publication_of outputs))
+  pub grew : Grew (unless_silent silent (map publication_of outputs))
 
 -- It ran by a course, and a beginning of what it wrote was published.
 pub record RunsCut {State : Type 0} (Runs : Course State → List Output → Outcome → State → Type 0) (after : State)
@@ -33,7 +33,7 @@ pub record Underway {State Cell : Type 0} (m : Meaning State Cell) (state : Stat
     (left : Cell) (Grew : List Publication → Type 0) (silent : Bool) : Type 0 where
   pub steps : List Stepped
   pub goes : Goes m state cell steps at left
-  pub grew : Grew (told silent (map publication_of (outputs_of steps)))
+  pub grew : Grew (unless_silent silent (map publication_of (outputs_of steps)))
 
 -- A course whose publications were cut may end so: by an interruption only where one may come, or where the error that
 -- tells of it wasn't published. Of all publications the rest wasn't.
@@ -62,7 +62,7 @@ pub record TellsWhole {State : Type 0} (Runs : Course State → List Output → 
   pub runs : Runs course outputs outcome after
   pub ending : MayEnd may course.ending
   pub failure_is : failure ≡ failure_of outcome
-  pub grew : Grew (told silent (cell_publications code count outputs outcome))
+  pub grew : Grew (unless_silent silent (cell_publications code count outputs outcome))
 
 -- It ran by a course, and a beginning of what is published of it was.
 pub record TellsCut {State : Type 0} (Runs : Course State → List Output → Outcome → State → Type 0) (may : Type 0)

@@ -4,7 +4,7 @@ ghost use Rattle.std.specs.Prelude.{◌≡◌, ◌+◌, ◌<◌, [], Some, None,
 ghost use Rattle.interp_core.specs.declared.answer.Next.TheVariants.{More};
 ghost use Rattle.jmsg_types.specs.declared.publication.Publication.TheVariants.{ExecuteInput};
 ghost use Rattle.kernel_block.specs.Course.{CellRuns, IsOutcome, TextRuns};
-ghost use Rattle.kernel_block.specs.Growth.{Puts, told};
+ghost use Rattle.kernel_block.specs.Growth.{Puts, unless_silent};
 ghost use Rattle.kernel_block.specs.Publications.{last_of};
 ghost use Rattle.kernel_block.specs.Runs.{RunsCut, RunsWhole, TellsCut, TellsWhole, Underway, failure_of};
 
@@ -127,7 +127,7 @@ where
     P: Publish<Item = Event<W>>,
     ensures { let grew = Puts P.items_of P.is_same S.meaning S.id_text heading.now publishing.old publishing.new in
         MatchResult result
-        (λ failure. (failure ≡ failure_of outcome) × grew (told silent (last_of count outcome)))
+        (λ failure. (failure ≡ failure_of outcome) × grew (unless_silent silent (last_of count outcome)))
         (λ _. grew []) }
 {
     match outcome {

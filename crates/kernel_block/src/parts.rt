@@ -65,8 +65,8 @@ where
         ensures { Closes P.items_of P.may_refuse P.is_same idle self.old self.new
             ⊎ LeavesOpen P.items_of P.may_refuse P.is_same idle self.old self.new }
     {
-        if let Err(refused) = self.publishing.sink.publish(Event::Message(idle)) {
-            self.owed = Some(refused.item);
+        if let Err(returned) = self.publishing.sink.publish(Event::Message(idle)) {
+            self.owed = Some(returned.item);
         }
     }
 }

@@ -3,7 +3,7 @@
 ghost use Rattle.std.specs.Prelude.{◌≡◌, [], ◌∷◌, IfOk, MatchResult, map};
 ghost use Rattle.listed.specs.Bodies.{bodies};
 ghost use Rattle.kernel_block.specs.Block.{message, published};
-ghost use Rattle.kernel_block.specs.Growth.{InFront, Puts, sealing_of, told};
+ghost use Rattle.kernel_block.specs.Growth.{InFront, Puts, sealing_of, unless_silent};
 ghost use Rattle.kernel_block.specs.Publications.{publication_of};
 
 use crate::heading::Heading;
@@ -48,7 +48,7 @@ impl<P, S: Stamp> Publishing<P, S> {
     where
         P: Publish<Item = Event<W>>,
         ensures { let grew = Puts P.items_of P.is_same S.meaning S.id_text heading.now self.old self.new in
-            MatchResult result (λ _. grew (told silent (publication ∷ []))) (λ _. grew []) }
+            MatchResult result (λ _. grew (unless_silent silent (publication ∷ []))) (λ _. grew []) }
     {
         if silent {
             return Ok(());
@@ -82,7 +82,7 @@ impl<P, S: Stamp> Publishing<P, S> {
     where
         P: Publish<Item = Event<W>>,
         ensures { let grew = Puts P.items_of P.is_same S.meaning S.id_text heading.now self.old self.new in
-            MatchResult result (λ _. grew (told silent (map publication_of outputs)))
+            MatchResult result (λ _. grew (unless_silent silent (map publication_of outputs)))
             (λ _. InFront grew silent (map publication_of outputs)) }
     {
         let mut waiting = VecDeque::from_vec(outputs.into_vec());

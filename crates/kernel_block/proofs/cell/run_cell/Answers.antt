@@ -2,7 +2,7 @@ use Rattle.std.proofs.Common.{[], ◌∷◌, subst}
 use Rattle.std.proofs.lemmas.Result.{err_from_is_err_and}
 use Rattle.jmsg_types.specs.declared.publication.Publication.{Publication}
 use Rattle.kernel_block.specs.Course.{TextRuns}
-use Rattle.kernel_block.specs.Growth.{Puts, told}
+use Rattle.kernel_block.specs.Growth.{Puts, unless_silent}
 use Rattle.kernel_block.proofs.GrowthLemmas.{puts_none, puts_told}
 use Rattle.kernel_block.proofs.TellLemmas.{cut_before_last, tells_nothing, tells_cut, tells_last}
 use Rattle.kernel_block.proofs.cell.run_cell.Goals as goal
@@ -30,7 +30,7 @@ returns-in_err-outcome g c =
     let p = err_from_is_err_and c.from_residual-in_err-outcome.result
     c.from_residual-in_err-outcome.ensures.1 in
     let puts = Puts g.P.Publish.items_of g.P.Publish.is_same g.S.Stamp.meaning g.S.Stamp.id_text c.args.heading.now in
-    let input = subst (λ (p : Publication). puts c.args.publishing.now c.put.new.self (told c.args.silent (p ∷ [])))
+    let input = subst (λ (p : Publication). puts c.args.publishing.now c.put.new.self (unless_silent c.args.silent (p ∷ [])))
     c.in_ok-input.ensures c.in_ok-put.ensures in
     rw (p.1) (tells_cut (TextRuns g.I.Interpreter.meaning c.args.interp.now c.args.code.now)
     (g.T.Stop.may_ask c.args.stop.now) c.args.code.now c.args.count c.run_text.new.interp
@@ -45,7 +45,7 @@ returns-in_err-outcome g c =
 pub returns : goal.returns
 returns g c =
     let puts = Puts g.P.Publish.items_of g.P.Publish.is_same g.S.Stamp.meaning g.S.Stamp.id_text c.args.heading.now in
-    let input = subst (λ (p : Publication). puts c.args.publishing.now c.put.new.self (told c.args.silent (p ∷ [])))
+    let input = subst (λ (p : Publication). puts c.args.publishing.now c.put.new.self (unless_silent c.args.silent (p ∷ [])))
     c.in_ok-input.ensures c.in_ok-put.ensures in
     tells_last (TextRuns g.I.Interpreter.meaning c.args.interp.now c.args.code.now)
     (g.T.Stop.may_ask c.args.stop.now) c.args.code.now c.args.count c.run_text.new.interp

@@ -1,0 +1,155 @@
+//! A language of a few lines.
+
+ghost use Rattle.std.specs.Prelude.{◌≡◌, ◌==◌, IfOk, length};
+ghost use Rattle.engine_examples.specs.Letters.{next_of, outputs_of};
+
+use interp_core::{
+    Completeness, Completion, Info, InterpFault, Interpreter, Next, Output, Stepped,
+};
+use listed::{Row, Text};
+use std::alloc::{AllocError, Global};
+use std::collections::VecDeque;
+use std::marker::Model;
+
+/// A language whose cells are letters, each of which is a step. `o`, `e` and `d` write what they are on standard output,
+/// on standard error and on display, `b` the first two, `x` fails, and `v` at the end is a value. `m` finds no memory,
+/// and no memory is found to read `!`. An expression is worth its own text. All else has a fault.
+#[derive(Clone, Copy, Debug)]
+pub struct Letters;
+
+/// The letters of a cell that haven't run yet: a contract sees the list of them.
+#[derive(Drop)]
+pub struct Waiting {
+    /// The letters, in their order.
+    letters: VecDeque<u8>,
+}
+
+impl Model for Waiting {
+    ghost use Rattle.std.specs.Prelude.{ℕ, List};
+
+    ghost Value = { List ℕ };
+
+    ghost view = { λ cell. cell.letters.items };
+}
+
+/// A text.
+fn text(alloc: Global, text: &str) -> Result<Text, AllocError>
+    ensures { IfOk result (λ owned. owned ≡ text.now) }
+{
+    Ok(Text::new(String::from_str(alloc, text)?))
+}
+
+/// What a letter writes.
+fn outputs(alloc: Global, letter: u8) -> Result<Vec<Output>, AllocError>
+    ensures { IfOk result (λ outputs. outputs.items ≡ outputs_of letter) }
+{
+    let mut outputs = Vec::new(alloc);
+    match letter {
+        b'o' => outputs.push(Output::Stdout(text(alloc, "o")?))?,
+        b'e' => outputs.push(Output::Stderr(text(alloc, "e")?))?,
+        b'b' => {
+            outputs.push(Output::Stdout(text(alloc, "o")?))?;
+            outputs.push(Output::Stderr(text(alloc, "e")?))?;
+        }
+        b'd' => outputs.push(Output::Display(text(alloc, "d")?))?,
+        _ => {}
+    }
+    Ok(outputs)
+}
+
+/// How a cell goes on behind a letter.
+fn next(alloc: Global, letter: u8, is_last: bool) -> Result<Next, AllocError>
+    ensures { IfOk result (λ next. next ≡ next_of letter is_last) }
+{
+    if letter == b'x' {
+        return Ok(Next::Failed(InterpFault::Overflow));
+    }
+    if !is_last {
+        return Ok(Next::More);
+    }
+    if letter == b'v' {
+        return Ok(Next::Done(Some(text(alloc, "v")?)));
+    }
+    Ok(Next::Done(None))
+}
+
+/// What the step of a letter comes to.
+fn stepped(alloc: Global, letter: u8, is_last: bool) -> Result<Stepped, AllocError>
+    ensures { IfOk result (λ step. step ≡ record { outputs = outputs_of letter; next = next_of letter is_last }) }
+{
+    if letter == b'm' {
+        return Err(AllocError);
+    }
+    let outputs = outputs(alloc, letter)?;
+    let next = next(alloc, letter, is_last)?;
+    Ok(Stepped {
+        outputs: Row::new(outputs),
+        next,
+    })
+}
+
+impl Interpreter for Letters {
+    type Cell = Waiting;
+
+    ghost use Rattle.engine_examples.specs.Letters.{letters_meaning, letters_laws};
+
+    ghost meaning = { letters_meaning };
+
+    fn info(&self, _alloc: Global) -> Result<Info, InterpFault> {
+        Err(InterpFault::Shift)
+    }
+
+    fn begin(&mut self, alloc: Global, code: &str) -> Result<Waiting, InterpFault> {
+        if code == "!" {
+            return Err(InterpFault::OutOfMemory);
+        }
+        Ok(Waiting {
+            letters: VecDeque::from_vec(Vec::from_slice(alloc, code.as_bytes())?),
+        })
+    }
+
+    fn steps_left(&self, cell: &Waiting) -> u64 {
+        cell.letters.len() as u64
+    }
+
+    fn step(&mut self, alloc: Global, cell: &mut Waiting) -> Stepped {
+        let Some(letter) = cell.letters.pop_front() else {
+            unreachable!();
+        };
+        match stepped(alloc, letter, cell.letters.is_empty()) {
+            Ok(stepped) => stepped,
+            Err(AllocError) => Stepped {
+                outputs: Row::new(Vec::new(alloc)),
+                next: Next::Failed(InterpFault::OutOfMemory),
+            },
+        }
+    }
+
+    fn complete(
+        &self,
+        _alloc: Global,
+        _code: &str,
+        _cursor: u64,
+    ) -> Result<Completion, InterpFault> {
+        Err(InterpFault::TooDeep)
+    }
+
+    fn inspect(
+        &self,
+        _alloc: Global,
+        _code: &str,
+        _cursor: u64,
+    ) -> Result<Option<Text>, InterpFault> {
+        Err(InterpFault::Syntax(3))
+    }
+
+    fn is_complete(&self, _alloc: Global, _code: &str) -> Result<Completeness, InterpFault> {
+        Err(InterpFault::ZeroDivision)
+    }
+
+    fn evaluate(&mut self, alloc: Global, text: &str) -> Result<Text, InterpFault> {
+        Ok(Text::new(String::from_str(alloc, text)?))
+    }
+
+    ghost laws = { letters_laws };
+}
