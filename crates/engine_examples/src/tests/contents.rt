@@ -34,7 +34,10 @@ fn answer(
     reply: Option<(&str, &str)>,
     marks: (bool, bool, bool),
 ) -> Result<(), Fail> {
-    let due = reply.map(|(reply_type, content)| ("", reply_type, 3, content));
+    let due = match reply {
+        Some((reply_type, content)) => Some(("", reply_type, 3, content)),
+        None => None,
+    };
     Trial::new(alloc, side, ShellArith::new(alloc))
         .ask_with(rt, alloc, &Never, asked, due, marks)?
         .published(rt, alloc, asked.0, published)
