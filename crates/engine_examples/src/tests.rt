@@ -150,7 +150,7 @@ fn request(alloc: Global, msg_type: &str, content: &str) -> Result<Envelope, Fai
     })
 }
 
-/// A message that is to come: its topic, or nothing where it is a reply, its type, the number of its id and its content.
+/// A message that is to come: its topic, or nothing where it is a reply, its type, the number of its id, its content.
 type Due<'a> = (&'a str, &'a str, u64, &'a str);
 
 /// The message as a text: its frames, each on a line of its own, behind the topic where there is one.

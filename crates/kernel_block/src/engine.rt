@@ -98,7 +98,7 @@ where
     ///
     /// # Errors
     ///
-    /// `Worn` where 2^62 ids were given, and `OwedIdle` with the request where the idle of the request before is owed and
+    /// `Worn` where 2^62 ids were given, and `OwedIdle` with the request where the idle of the one before is owed and
     /// the sink refused it again: then nothing changes. `Memory` where memory was refused, or the sink refused: then
     /// nothing was published of the request, or a cut block was, whose idle may be owed. The cells that ran stay.
     pub fn handle<T: Stop>(
