@@ -116,6 +116,13 @@ where
         self.parts.handle(alloc, request, stop)
     }
 
+    /// What its messages are signed with, and its requests verified.
+    pub fn signer(&self) -> &Signer
+        ensures { result.now ≡ self.now.publishing.signer }
+    {
+        &self.parts.publishing.signer
+    }
+
     /// Ends the engine. An idle that is owed is tried once more.
     pub fn close(self) -> EngineEnd<I, P, S, W>
         ensures { Pays P.items_of P.may_refuse P.is_same self result

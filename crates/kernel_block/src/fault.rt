@@ -4,7 +4,7 @@ ghost use Rattle.std.specs.Prelude.{◌≡◌};
 ghost use Rattle.kernel_block.specs.Fault.{engine_fault_number};
 
 use jmsg_envelope::Envelope;
-use std::alloc::AllocError;
+use std::alloc::{AllocError, AllocFailed};
 use thiserror::Error;
 
 /// Why a request couldn't be done, or a connection can't go on.
@@ -52,6 +52,16 @@ impl From<AllocError> for EngineFault {
     ghost from_gives = { λ _ fault. fault ≡ Memory };
 
     fn from(_error: AllocError) -> EngineFault {
+        EngineFault::Memory
+    }
+}
+
+impl<T: Drop> From<AllocFailed<T>> for EngineFault {
+    ghost use Rattle.kernel_block.specs.declared.fault.EngineFault.TheVariants.{Memory};
+
+    ghost from_gives = { λ _ fault. fault ≡ Memory };
+
+    fn from(_error: AllocFailed<T>) -> EngineFault {
         EngineFault::Memory
     }
 }

@@ -12,7 +12,7 @@ use Rattle.kernel_engine.specs.declared.server.Answered.{Answered}
 use Rattle.kernel_engine.specs.declared.server.Answered.TheVariants.{Done, Dropped}
 use Rattle.kernel_engine.specs.declared.end.SessionEnd.{SessionEnd}
 use Rattle.kernel_engine.specs.declared.end.SessionEnd.TheVariants.{Failed}
-use Rattle.kernel_engine.specs.declared.fault.EngineFault.TheVariants.{Memory}
+use Rattle.kernel_block.specs.declared.fault.EngineFault.TheVariants.{Memory}
 use Rattle.kernel_engine.specs.Echo.{EchoesOne, Echoes, IsCutShort, echo_of}
 use Rattle.kernel_engine.specs.Exchange.{Exchange}
 use Rattle.kernel_engine.specs.Listen.{RunsOut}

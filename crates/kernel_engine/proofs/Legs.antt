@@ -7,7 +7,7 @@ use Rattle.zmtp_wire.specs.Device.{Inflow, Outflow, Draws, Puts, risen, risen_by
 use Rattle.zmtp_wire.specs.declared.fault.WireFault.{WireFault}
 use Rattle.kernel_engine.specs.declared.end.SessionEnd.{SessionEnd}
 use Rattle.kernel_engine.specs.declared.end.SessionEnd.TheVariants.{Eof, Wire, Failed}
-use Rattle.kernel_engine.specs.declared.fault.EngineFault.TheVariants.{Memory, Write, Turns, Worn}
+use Rattle.kernel_block.specs.declared.fault.EngineFault.TheVariants.{Memory, Write, Turns}
 use Rattle.kernel_engine.specs.Exchange.{Reading, failed_reads}
 use Rattle.kernel_engine.specs.Steps.{Leg}
 
@@ -101,9 +101,6 @@ memory_decided = record { reads = refl; turns = λ is. cc; octets = λ is. cc }
 
 pub write_decided : IsDecided (Failed Write)
 write_decided = record { reads = refl; turns = λ is. cc; octets = λ is. cc }
-
-pub worn_decided : IsDecided (Failed Worn)
-worn_decided = record { reads = refl; turns = λ is. cc; octets = λ is. cc }
 
 -- what was read so far ends nothing
 pub decided : (inflow inflow' : Inflow) (turns left : ℕ) (octets : List ℕ) (end : SessionEnd) → IsDecided end

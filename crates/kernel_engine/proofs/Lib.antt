@@ -13,5 +13,6 @@ pub mod SeenLemmas
 pub mod ServeLemmas
 pub mod ServeOnce
 pub mod ShakeLemmas
+pub mod SightLemmas
 pub mod TrafficLemmas
 pub mod Unfinished

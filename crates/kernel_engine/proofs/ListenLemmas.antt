@@ -13,7 +13,7 @@ use Rattle.zmtp_wire.specs.Decoding.{Decoding, Feeds, IsFaultOf}
 use Rattle.zmtp_wire.specs.Device.{Inflow}
 use Rattle.kernel_engine.specs.declared.end.SessionEnd.{SessionEnd}
 use Rattle.kernel_engine.specs.declared.end.SessionEnd.TheVariants.{Wire, Failed}
-use Rattle.kernel_engine.specs.declared.fault.EngineFault.TheVariants.{Memory}
+use Rattle.kernel_block.specs.declared.fault.EngineFault.TheVariants.{Memory}
 use Rattle.kernel_engine.specs.declared.shaking.Shaken.{Shaken}
 use Rattle.kernel_engine.specs.Peer.{IsCalm, BeginsWith, EndsBehind, EndsAs}
 use Rattle.kernel_engine.specs.Listen.{Hearing, HearsAll, Heard, Listens, IsPause, IsHeardOut}

@@ -6,7 +6,7 @@ use Rattle.zmtp_wire.specs.Device.{Inflow, Outflow, Puts}
 use Rattle.kernel_engine.specs.declared.server.Answered.{Answered}
 use Rattle.kernel_engine.specs.declared.end.SessionEnd.{SessionEnd}
 use Rattle.kernel_engine.specs.declared.end.SessionEnd.TheVariants.{Eof, Shutdown, Wire, Failed}
-use Rattle.kernel_engine.specs.declared.fault.EngineFault.TheVariants.{Memory, Read, Write, Turns, Worn}
+use Rattle.kernel_block.specs.declared.fault.EngineFault.TheVariants.{OwedIdle, Memory, Read, Write, Turns, Worn}
 use Rattle.kernel_engine.specs.declared.shaking.Shaken.{Shaken}
 use Rattle.kernel_engine.specs.Exchange.{failed_writes}
 use Rattle.kernel_engine.specs.Fault.{IsServerEnd}
@@ -54,6 +54,8 @@ responded_all answers old new (first ∷ others) (middle, one, rest) =
 -- an end by a server is decided, and no write failed
 server_decided : (end : SessionEnd) → IsServerEnd end → IsDecided end × (failed_writes end ≡ 0)
 server_decided (Shutdown restart) ends = (record { reads = refl; turns = λ is. cc; octets = λ is. cc }, refl)
+server_decided (Failed (OwedIdle request)) ends =
+    (record { reads = refl; turns = λ is. cc; octets = λ is. cc }, refl)
 server_decided (Failed Memory) ends = (record { reads = refl; turns = λ is. cc; octets = λ is. cc }, refl)
 server_decided (Failed Worn) ends = (record { reads = refl; turns = λ is. cc; octets = λ is. cc }, refl)
 server_decided Eof ends = absurd ends

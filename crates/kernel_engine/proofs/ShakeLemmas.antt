@@ -16,7 +16,7 @@ use Rattle.zmtp_wire.specs.declared.traffic.decoder.Fed.{Fed}
 use Rattle.kernel_engine.specs.declared.end.SessionEnd.{SessionEnd}
 use Rattle.kernel_engine.specs.declared.shaking.Shaken.{Shaken}
 use Rattle.kernel_engine.specs.declared.end.SessionEnd.TheVariants.{Eof, Wire, Failed}
-use Rattle.kernel_engine.specs.declared.fault.EngineFault.TheVariants.{Memory, Write}
+use Rattle.kernel_block.specs.declared.fault.EngineFault.TheVariants.{Memory, Write}
 use Rattle.kernel_engine.specs.Peer.{IsGreeted, IsTurnedAway}
 use Rattle.kernel_engine.specs.Exchange.{Reading, Exchange, ComesToByEnd, failed_writes}
 use Rattle.kernel_engine.specs.Steps.{Leg, IsStop, IsFed, Meets, TurnsAway, BringsNothing, ComesLate, IsPrompt}

@@ -11,7 +11,7 @@ use Rattle.zmtp_wire.specs.Grammar.{ReadsUpTo}
 use Rattle.zmtp_wire.specs.Traffic.{is_error}
 use Rattle.kernel_engine.specs.declared.server.Answered.{Answered}
 use Rattle.kernel_engine.specs.declared.server.Answered.TheVariants.{Done, Dropped}
-use Rattle.kernel_engine.specs.declared.fault.EngineFault.TheVariants.{Memory, Write}
+use Rattle.kernel_block.specs.declared.fault.EngineFault.TheVariants.{Memory, Write}
 use Rattle.kernel_engine.specs.declared.end.SessionEnd.{SessionEnd}
 use Rattle.kernel_engine.specs.declared.end.SessionEnd.TheVariants.{Failed}
 use Rattle.kernel_engine.specs.Peer.{Message, IsCalm, BeginsWith, IsMet}

@@ -4,7 +4,7 @@ use Rattle.std.specs.Prelude.{◌≡◌, ◌⊎◌, ℕ, ◌+◌, ◌≤◌, Lis
 use Rattle.std.specs.Io.KnownBytes.{IsAtEnd}
 use Rattle.zmtp_wire.specs.declared.fault.WireFault.TheVariants.{OutOfMemory}
 use Rattle.zmtp_wire.specs.Device.{Inflow, Outflow, Draws, Puts}
-use Rattle.kernel_engine.specs.declared.fault.EngineFault.TheVariants.{Memory, Read, Write, Turns, Worn}
+use Rattle.kernel_block.specs.declared.fault.EngineFault.TheVariants.{OwedIdle, Memory, Read, Write, Turns, Worn}
 use Rattle.kernel_engine.specs.declared.end.SessionEnd.{SessionEnd}
 use Rattle.kernel_engine.specs.declared.end.SessionEnd.TheVariants.{Eof, Shutdown, Wire, Failed}
 
@@ -23,6 +23,7 @@ abbrev pub misses : SessionEnd → Misses
 misses Eof = record { failed_reads = 0; empty_reads = 1; failed_writes = 0 }
 misses (Shutdown restart) = no_misses
 misses (Wire fault) = no_misses
+misses (Failed (OwedIdle request)) = no_misses
 misses (Failed Memory) = no_misses
 misses (Failed Read) = record { failed_reads = 1; empty_reads = 1; failed_writes = 0 }
 misses (Failed Write) = record { failed_reads = 0; empty_reads = 0; failed_writes = 1 }
@@ -79,6 +80,7 @@ ComesToByEnd Comes octets written (Failed Turns) = Comes octets written Eof
 ComesToByEnd Comes octets written (Failed Write) = (lost : List ℕ) × IsCut Comes octets (written ++ lost)
 ComesToByEnd Comes octets written (Failed Memory) = IsCut Comes octets written
 ComesToByEnd Comes octets written (Failed Worn) = ⊥
+ComesToByEnd Comes octets written (Failed (OwedIdle request)) = ⊥
 
 -- A whole exchange: what was read, what was written, and what the one comes to as the other. Any read may fail and
 -- any write may, and no end has both; so what is due is written before a read, and nothing behind one that failed.

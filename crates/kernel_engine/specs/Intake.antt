@@ -5,7 +5,7 @@ use Rattle.std.specs.declared.alloc.AllocError.{AllocError}
 use Rattle.std.proofs.Common.{inl, inr}
 use Rattle.zmtp_wire.specs.declared.traffic.Traffic.{Traffic}
 use Rattle.zmtp_wire.specs.Device.{Inflow}
-use Rattle.kernel_engine.specs.declared.fault.EngineFault.TheVariants.{Memory}
+use Rattle.kernel_block.specs.declared.fault.EngineFault.TheVariants.{Memory}
 use Rattle.kernel_engine.specs.declared.end.SessionEnd.{SessionEnd}
 use Rattle.kernel_engine.specs.declared.end.SessionEnd.TheVariants.{Eof, Failed}
 use Rattle.kernel_engine.specs.declared.shaking.Shaken.{Shaken}

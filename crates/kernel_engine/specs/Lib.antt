@@ -8,4 +8,6 @@ pub mod Listen
 pub mod Peer
 pub mod Respond
 pub mod Server
+pub mod Session
 pub mod Steps
+pub mod Work

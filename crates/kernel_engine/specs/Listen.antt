@@ -7,7 +7,7 @@ use Rattle.zmtp_wire.specs.Limits.{usual_limits}
 use Rattle.zmtp_wire.specs.Grammar.{ReadsUpTo, IsUnfinished}
 use Rattle.zmtp_wire.specs.Traffic.{is_error}
 use Rattle.zmtp_wire.specs.Device.{Inflow}
-use Rattle.kernel_engine.specs.declared.fault.EngineFault.TheVariants.{Memory}
+use Rattle.kernel_block.specs.declared.fault.EngineFault.TheVariants.{Memory}
 use Rattle.kernel_engine.specs.declared.end.SessionEnd.{SessionEnd}
 use Rattle.kernel_engine.specs.declared.end.SessionEnd.TheVariants.{Wire, Failed}
 use Rattle.kernel_engine.specs.declared.shaking.Shaken.{Shaken}

@@ -4,7 +4,7 @@ use Rattle.std.proofs.Common.{inl, inr}
 use Rattle.zmtp_wire.specs.declared.traffic.Traffic.{Traffic}
 use Rattle.zmtp_wire.specs.Device.{Inflow, Outflow, Puts}
 use Rattle.kernel_engine.specs.declared.server.Answered.{Answered}
-use Rattle.kernel_engine.specs.declared.fault.EngineFault.TheVariants.{Write}
+use Rattle.kernel_block.specs.declared.fault.EngineFault.TheVariants.{Write}
 use Rattle.kernel_engine.specs.declared.end.SessionEnd.{SessionEnd}
 use Rattle.kernel_engine.specs.declared.end.SessionEnd.TheVariants.{Failed}
 use Rattle.kernel_engine.specs.Fault.{IsServerEnd}

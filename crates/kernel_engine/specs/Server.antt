@@ -10,7 +10,7 @@ use Rattle.zmtp_wire.specs.Traffic.{is_error}
 use Rattle.zmtp_wire.specs.Device.{Inflow, Outflow}
 use Rattle.kernel_engine.specs.declared.server.Answered.{Answered}
 use Rattle.kernel_engine.specs.declared.server.Answered.TheVariants.{Done, Dropped}
-use Rattle.kernel_engine.specs.declared.fault.EngineFault.TheVariants.{Memory, Write}
+use Rattle.kernel_block.specs.declared.fault.EngineFault.TheVariants.{Memory, Write}
 use Rattle.kernel_engine.specs.declared.end.SessionEnd.{SessionEnd}
 use Rattle.kernel_engine.specs.declared.end.SessionEnd.TheVariants.{Failed}
 use Rattle.kernel_engine.specs.Fault.{IsServerEnd}

@@ -8,7 +8,7 @@ use Rattle.zmtp_wire.specs.Limits.{usual_limits}
 use Rattle.zmtp_wire.specs.Grammar.{HasNoTraffic, IsFaulty, IsUnfinished}
 use Rattle.zmtp_wire.specs.Decoding.{Decoding, Feeds}
 use Rattle.zmtp_wire.specs.Device.{Inflow, Outflow, Draws, Puts}
-use Rattle.kernel_engine.specs.declared.fault.EngineFault.TheVariants.{Read, Write, Turns}
+use Rattle.kernel_block.specs.declared.fault.EngineFault.TheVariants.{Read, Write, Turns}
 use Rattle.kernel_engine.specs.declared.end.SessionEnd.{SessionEnd}
 use Rattle.kernel_engine.specs.declared.end.SessionEnd.TheVariants.{Eof, Wire, Failed}
 use Rattle.kernel_engine.specs.Peer.{IsTurnedAway, IsMet}

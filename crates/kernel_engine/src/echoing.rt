@@ -5,7 +5,7 @@ ghost use Rattle.kernel_engine.specs.Exchange.{Exchange};
 ghost use Rattle.kernel_engine.specs.Echo.{Echoes};
 
 use crate::end::SessionEnd;
-use crate::fault::EngineFault;
+use kernel_block::EngineFault;
 use crate::server::{Answered, Server};
 use crate::serving::serve;
 use listed::Frames;

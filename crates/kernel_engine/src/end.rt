@@ -1,10 +1,10 @@
 //! How an exchange ends.
 
-use crate::fault::EngineFault;
+use kernel_block::EngineFault;
 use zmtp_wire::WireFault;
 
 /// How an exchange with a peer ended.
-#[derive(Clone, Copy, Debug, PartialEq, Eq)]
+#[derive(Debug, Drop)]
 pub enum SessionEnd {
     /// The peer sent its last octet, also inside a greeting or a message.
     Eof,

@@ -6,7 +6,7 @@ ghost use Rattle.kernel_engine.specs.Steps.{IsFed};
 ghost use Rattle.kernel_engine.specs.Intake.{Taking, Grows, put_by, FillsAll};
 
 use crate::end::SessionEnd;
-use crate::fault::EngineFault;
+use kernel_block::EngineFault;
 use crate::listening::{Listener, listen};
 use crate::shaking::Shaken;
 use std::alloc::{AllocError, Global};

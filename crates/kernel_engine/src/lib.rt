@@ -4,7 +4,6 @@
 
 mod echoing;
 mod end;
-mod fault;
 mod hearing;
 mod laws;
 mod listening;
@@ -13,16 +12,18 @@ mod server;
 mod serving;
 mod shaking;
 mod turn;
+mod working;
 
 pub use echoing::echo;
 pub use end::SessionEnd;
-pub use fault::EngineFault;
 pub use hearing::{Intake, hear};
 pub use laws::{one_hearing, one_session};
 pub use listening::{Listener, listen};
 pub use server::{Answered, Server};
 pub use serving::serve;
+pub use kernel_block::{Engine, EngineEnd, EngineFault, Handled, Side, Stop};
 pub use shaking::{Shaken, shake};
+pub use working::session;
 
 #[cfg(test)]
 mod tests;

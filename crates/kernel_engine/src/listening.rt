@@ -7,7 +7,7 @@ ghost use Rattle.kernel_engine.specs.Steps.{IsFed};
 ghost use Rattle.kernel_engine.specs.Handing.{HandsSome, HandsFed, HandsPiece, HandsNone};
 
 use crate::end::SessionEnd;
-use crate::fault::EngineFault;
+use kernel_block::EngineFault;
 use crate::shaking::Shaken;
 use crate::turn::read_turn;
 use listed::Row;

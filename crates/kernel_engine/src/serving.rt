@@ -5,7 +5,7 @@ ghost use Rattle.kernel_engine.specs.declared.end.SessionEnd.{SessionEnd};
 ghost use Rattle.kernel_engine.specs.Server.{ServesPeer, told};
 
 use crate::end::SessionEnd;
-use crate::fault::EngineFault;
+use kernel_block::EngineFault;
 use crate::responding::respond;
 use crate::server::Server;
 use crate::shaking::shake_within;

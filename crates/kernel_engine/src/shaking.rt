@@ -8,7 +8,7 @@ ghost use Rattle.kernel_engine.specs.Exchange.{Reading, Exchange};
 ghost use Rattle.kernel_engine.specs.Steps.{Leg, IsStop, IsFed, Meets, TurnsAway, BringsNothing, ComesLate, fresh};
 
 use crate::end::SessionEnd;
-use crate::fault::EngineFault;
+use kernel_block::EngineFault;
 use crate::turn::{put, read_turn};
 use listed::Row;
 use std::alloc::Global;

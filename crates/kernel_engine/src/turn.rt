@@ -5,7 +5,7 @@ ghost use Rattle.kernel_engine.specs.Exchange.{Reading};
 ghost use Rattle.kernel_engine.specs.Steps.{Leg, IsStop, PutsAll};
 
 use crate::end::SessionEnd;
-use crate::fault::EngineFault;
+use kernel_block::EngineFault;
 use zmtp_wire::{Inlet, Outlet, ReadFailed, WriteFailed, write_all};
 
 /// Reads the next octets, one at least. One read is one turn.

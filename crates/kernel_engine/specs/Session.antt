@@ -1,0 +1,125 @@
+-- A session of an engine with one peer ('Messaging in Jupyter' 5.3, "Introduction", "The Wire Protocol" and "Kernel
+-- status"): what is written to the peer and what is published for the octets that it sends, and how the session ends.
+use Rattle.std.specs.Prelude.{◌≡◌, ◌≢◌, ◌⊎◌, ⊤, ℕ, ◌+◌, List, [], ◌∷◌, ◌++◌, length, Bool, true, false, Option, Some, None}
+use Rattle.std.specs.Prelude.{Result, Ok, Err}
+use Rattle.zmtp_wire.specs.declared.fault.WireFault.TheVariants.{OutOfMemory}
+use Rattle.zmtp_wire.specs.declared.handshake.socket_type.SocketType.TheVariants.{Router}
+use Rattle.zmtp_wire.specs.Frame.{text}
+use Rattle.interp_core.specs.Interpreter.{Meaning}
+use Rattle.jmsg_envelope.specs.declared.envelope.Envelope.{Envelope}
+use Rattle.jmsg_envelope.specs.declared.fault.EnvelopeFault.{EnvelopeFault}
+use Rattle.jmsg_envelope.specs.Envelope.{Opened, IsNoEnvelope}
+use Rattle.jmsg_types.specs.Request.{message_type}
+use Rattle.jmsg_types.specs.declared.publication.Publication.{Publication}
+use Rattle.kernel_block.specs.declared.fault.EngineFault.TheVariants.{OwedIdle, Memory, Read, Write, Turns, Worn}
+use Rattle.kernel_block.specs.declared.heading.Heading.{Heading}
+use Rattle.kernel_block.specs.declared.side.Side.{Side}
+use Rattle.kernel_block.specs.Answer.{Answer, AnswersAsked}
+use Rattle.kernel_block.specs.Block.{Sealing, block, reply_message}
+use Rattle.kernel_block.specs.Course.{Course, MayEnd}
+use Rattle.kernel_block.specs.Handles.{asked_by_message}
+use Rattle.kernel_block.specs.Opens.{ids_of_reply}
+use Rattle.kernel_block.specs.Publications.{PublishesAsked}
+use Rattle.kernel_engine.specs.declared.end.SessionEnd.{SessionEnd}
+use Rattle.kernel_engine.specs.declared.end.SessionEnd.TheVariants.{Eof, Shutdown, Wire, Failed}
+use Rattle.kernel_engine.specs.declared.server.Answered.{Answered}
+use Rattle.kernel_engine.specs.declared.server.Answered.TheVariants.{Done, Dropped}
+use Rattle.kernel_engine.specs.Peer.{Message}
+use Rattle.kernel_engine.specs.Server.{Answering, Serves}
+
+-- What stays in a session: the channel, what messages are sealed with, and which texts may be dates.
+pub record Setting : Type 0 where
+  pub side : Side
+  pub sealing : Sealing
+  pub is_date : List ℕ → Bool
+
+-- How one request is done, where nothing else settles it: the course of its cell, and the date of its messages.
+pub record Run (State : Type 0) : Type 0 where
+  pub course : Course State
+  pub date : List ℕ
+
+-- What an engine has come to between two requests: the interpreter's state, the execution count, the number of the next
+-- id, what was published, and how the requests to come are done.
+pub record Standing (State : Type 0) : Type 0 where
+  pub state : State
+  pub count : ℕ
+  pub next : ℕ
+  pub published : List Message
+  pub runs : List (Run State)
+
+-- what the messages of a request share that is done so
+abbrev pub heading_by : {State : Type 0} → Run State → Envelope → Heading
+heading_by run request = record { date = run.date; parent = request.header }
+
+-- the number behind those of a block: busy and idle have one each, and each publication between them
+abbrev pub number_behind : ℕ → List Publication → ℕ
+number_behind number publications = number + 2 + length publications
+
+-- the text of a reply on the wire, nothing where there is none
+abbrev pub reply_text : Option Message → List ℕ
+reply_text None = []
+reply_text (Some reply) = text reply
+
+-- the message is no envelope under a key
+abbrev pub IsNoRequest : List ℕ → Message → Type 0
+IsNoRequest key message = (fault : EnvelopeFault) × IsNoEnvelope key message fault
+
+module _ {State Cell : Type 0} (m : Meaning State Cell) (may : Type 0) (setting : Setting) where
+  -- A request is done as the next run says: its block is published, with the numbers from the next one on, the text of
+  -- its reply answers it, and this is what the engine has come to then.
+  pub record DoesRequest (old : Standing State) (request : Envelope) (answer : Answer State) (reply : List ℕ)
+      (new : Standing State) : Type 0 where
+    pub run : Run State
+    pub runs : old.runs ≡ run ∷ new.runs
+    pub dated : setting.is_date run.date ≡ true
+    pub ending : MayEnd may run.course.ending
+    pub publications : List Publication
+    pub publishes : PublishesAsked m (asked_by_message setting.side request) old.state old.count run.course publications
+    pub answers : AnswersAsked m setting.side (message_type request.msg_type) (asked_by_message setting.side request)
+        old.state old.count run.course answer
+    pub replied : reply ≡ reply_text (reply_message setting.sealing (heading_by run request) request.identities
+        (number_behind old.next publications) request.msg_type answer.reply)
+    pub became : new ≡ record {
+      state = answer.state;
+      count = answer.count;
+      next = number_behind old.next publications + ids_of_reply answer.reply;
+      published = old.published ++ block setting.sealing (heading_by run request) old.next publications;
+      runs = new.runs;
+    }
+
+  -- a message that is opened as a request, which is done
+  pub record DoesMessage (old : Standing State) (message : Message) (reply : List ℕ) (new : Standing State) : Type 0 where
+    pub request : Envelope
+    pub opened : Opened setting.sealing.key message request
+    pub answer : Answer State
+    pub does : DoesRequest old request answer reply new
+
+  -- a message that is no request is dropped, and nothing changes
+  abbrev pub DropsMessage : Standing State → Message → List ℕ → Standing State → Type 0
+  DropsMessage old message reply new = IsNoRequest setting.sealing.key message × (reply ≡ []) × (new ≡ old)
+
+  -- A message is dropped, or done as a request; and the session goes on, or a request for a shutdown ends it.
+  abbrev pub Performs : Answering (Standing State)
+  Performs old message reply new (Ok Done) = DropsMessage old message reply new
+      ⊎ ((done : DoesMessage old message reply new) × (done.answer.end ≡ false))
+  Performs old message reply new (Ok Dropped) = ⊥
+  Performs old message reply new (Err end) =
+      (done : DoesMessage old message reply new) × (done.answer.end ≡ true) × (end ≡ Shutdown done.answer.restart)
+
+  -- A session with a peer that sends these octets: what is written to it, what the engine has come to, and how the
+  -- session ends.
+  abbrev pub IsSession : Standing State → List ℕ → List ℕ → Standing State → SessionEnd → Type 0
+  IsSession old octets written new end = Serves false Performs Router old octets written new end
+
+-- A session that ended so came to an end by what was read alone, or reading did: no memory, no id and no write was
+-- wanting, and no idle is owed that had to be published first.
+abbrev pub IsTold : SessionEnd → Type 0
+IsTold Eof = ⊤
+IsTold (Shutdown restart) = ⊤
+IsTold (Wire fault) = fault ≢ OutOfMemory
+IsTold (Failed (OwedIdle request)) = ⊥
+IsTold (Failed Memory) = ⊥
+IsTold (Failed Read) = ⊤
+IsTold (Failed Write) = ⊥
+IsTold (Failed Turns) = ⊤
+IsTold (Failed Worn) = ⊥

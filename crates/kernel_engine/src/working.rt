@@ -1,0 +1,179 @@
+//! Sessions of an engine with a peer: each message is opened, handled as a request, and its reply written.
+
+ghost use Rattle.std.specs.Prelude.{◌≡◌, ◌<◌, ◌++◌, ℕ, List, Bool, length, IfErr, IfSome};
+ghost use Rattle.zmtp_wire.specs.declared.handshake.socket_type.SocketType.TheVariants.{Router};
+ghost use Rattle.kernel_engine.specs.declared.end.SessionEnd.{SessionEnd};
+ghost use Rattle.kernel_engine.specs.Exchange.{Exchange};
+ghost use Rattle.kernel_engine.specs.Fault.{IsServerEnd};
+ghost use Rattle.kernel_engine.specs.Server.{Answering, ServesPeer, told};
+ghost use Rattle.kernel_engine.specs.Session.{IsTold};
+ghost use Rattle.kernel_engine.specs.Work.{Finishes, TellsSession, WorksOne};
+
+use crate::end::SessionEnd;
+use crate::server::{Answered, Server};
+use crate::serving::serve;
+use interp_core::Interpreter;
+use iopub_queue::Publish;
+use iopub_relay::Event;
+use jmsg_envelope::{EnvelopeFault, Stamp, open_envelope};
+use kernel_block::{Engine, EngineFault, Handled, Stop};
+use listed::Frames;
+use std::alloc::Global;
+use zmtp_wire::{Inlet, Outlet, SocketType, write_message};
+
+/// What does the messages of a peer, where the cell that runs may be stopped.
+trait Worker {
+    /// One step, by whether a stop may come.
+    ghost works: { Type 0 → Answering Self };
+
+    /// Does the message of these frames: adds the octets that answer it.
+    ///
+    /// # Errors
+    ///
+    /// How the session ends: `Shutdown` where the message asked for it, or `Failed` where it couldn't be done.
+    fn work<T: Stop>(
+        &mut self,
+        alloc: Global,
+        frames: Frames,
+        stop: &T,
+        reply: &mut Vec<u8>,
+    ) -> Result<Answered, SessionEnd>
+        ensures worked { (octets : List ℕ) × (reply.new.items ≡ reply.old.items ++ octets)
+            × works (T.may_ask stop.now) self.old frames octets self.new result }
+        ensures end { IfErr result IsServerEnd };
+}
+
+impl<I: Interpreter, P, S: Stamp, X: Drop> Worker for Engine<I, P, S, X>
+where
+    P: Publish<Item = Event<X>>,
+{
+    ghost use Rattle.kernel_engine.specs.Work.{WorksOne};
+
+    ghost works = { WorksOne I.meaning P.items_of P.may_refuse P.is_same S.meaning S.id_text S.is_date };
+
+    fn work<T: Stop>(
+        &mut self,
+        alloc: Global,
+        frames: Frames,
+        stop: &T,
+        reply: &mut Vec<u8>,
+    ) -> Result<Answered, SessionEnd> {
+        let request = match open_envelope(alloc, self.signer(), frames.into_vec()) {
+            Ok(request) => request,
+            Err(EnvelopeFault::OutOfMemory) => return Ok(Answered::Dropped),
+            Err(
+                EnvelopeFault::NoDelimiter
+                | EnvelopeFault::TooFewParts
+                | EnvelopeFault::BadSignature
+                | EnvelopeFault::BadHeader,
+            ) => return Ok(Answered::Done),
+        };
+        match self.handle(alloc, request, stop) {
+            Ok(handled) => finish(handled, reply),
+            Err(fault) => Err(SessionEnd::Failed(fault)),
+        }
+    }
+}
+
+/// Adds the text of the reply to a request that was handled, where it has one, and ends the session where the request
+/// asked for a shutdown.
+fn finish(handled: Handled, reply: &mut Vec<u8>) -> Result<Answered, SessionEnd>
+    requires { IfSome handled.reply (λ frames. 0 < length frames) }
+    ensures finishes { (octets : List ℕ) × (reply.new.items ≡ reply.old.items ++ octets)
+        × Finishes handled octets result }
+    ensures end { IfErr result IsServerEnd }
+{
+    if let Some(message) = &handled.reply {
+        if write_message(message.as_slice(), reply).is_err() {
+            return Err(SessionEnd::Failed(EngineFault::Memory));
+        }
+    }
+    if handled.end {
+        return Err(SessionEnd::Shutdown(handled.restart));
+    }
+    Ok(Answered::Done)
+}
+
+/// A worker with what may stop it.
+#[derive(Drop)]
+struct Working<'e, 's, E, T> {
+    /// What does the messages.
+    worker: &'e mut E,
+    /// What may stop it.
+    stop: &'s T,
+}
+
+impl<E: Worker, T: Stop> Server for Working<'_, '_, E, T> {
+    ghost use Rattle.std.specs.Prelude.{[], ◌∷◌};
+
+    ghost answers = { λ old message reply new result.
+        E.works (T.may_ask old.stop.now) old.worker.now message reply new.worker.now result
+        × (new.stop ≡ old.stop) };
+
+    ghost names = { λ working. working.worker.ghost_name ∷ [] };
+
+    fn answer(
+        &mut self,
+        alloc: Global,
+        frames: Frames,
+        reply: &mut Vec<u8>,
+    ) -> Result<Answered, SessionEnd> {
+        self.worker.work(alloc, frames, self.stop, reply)
+    }
+}
+
+/// A session of a worker with a peer.
+fn employ<R: Inlet, W: Outlet, E: Worker, T: Stop>(
+    alloc: Global,
+    reader: &mut R,
+    writer: &mut W,
+    worker: &mut E,
+    stop: &T,
+    turns: u64,
+) -> SessionEnd
+    ensures { (left : ℕ) × (dropped : Bool) × (ended : SessionEnd)
+        × ServesPeer dropped (E.works (T.may_ask stop.now)) Router worker.old (R.inflow reader.old)
+        (R.inflow reader.new) (W.outflow writer.old) (W.outflow writer.new) turns left worker.new ended
+        × (result ≡ told dropped ended) }
+{
+    let mut working = Working { worker, stop };
+    serve(
+        alloc,
+        reader,
+        writer,
+        &mut working,
+        SocketType::Router,
+        turns,
+    )
+}
+
+/// A session of an engine with a peer, as a ROUTER: greeting out, greeting in, READY out, READY in, and then each
+/// message opened, done as a request and its reply written. A message that is no request under the engine's key is
+/// dropped. A request for a shutdown ends the session as `Shutdown` with whether to restart, its reply written, and
+/// nothing is read behind it. Where the engine refuses a request, the session ends `Failed` with its fault. One that no
+/// memory was left to open is dropped, and the session goes on and ends `Failed` with `Memory`. At most `turns` reads
+/// are made.
+pub fn session<R: Inlet, W: Outlet, I: Interpreter, P, S: Stamp, X: Drop, T: Stop>(
+    alloc: Global,
+    reader: &mut R,
+    writer: &mut W,
+    engine: &mut Engine<I, P, S, X>,
+    stop: &T,
+    turns: u64,
+) -> SessionEnd
+where
+    P: Publish<Item = Event<X>>,
+    // What the engine made of each message, whatever ended the session.
+    ensures serves { (left : ℕ) × (dropped : Bool) × (ended : SessionEnd)
+        × ServesPeer dropped (WorksOne I.meaning P.items_of P.may_refuse P.is_same S.meaning S.id_text S.is_date
+        (T.may_ask stop.now)) Router engine.old (R.inflow reader.old) (R.inflow reader.new) (W.outflow writer.old)
+        (W.outflow writer.new) turns left engine.new ended × (result ≡ told dropped ended) }
+
+    // Where what the peer sent ended it, or reading did: what was written and published is the session's, for some
+    // courses and dates.
+    ensures tells { IsTold result → (left : ℕ) × Exchange (TellsSession I.meaning P.items_of S.meaning S.id_text
+        S.is_date (T.may_ask stop.now) engine.old) (R.inflow reader.old) (R.inflow reader.new)
+        (W.outflow writer.old) (W.outflow writer.new) turns left engine.new result }
+{
+    employ(alloc, reader, writer, engine, stop, turns)
+}
