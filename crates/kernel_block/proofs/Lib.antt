@@ -9,3 +9,4 @@ pub mod AnswerLemmas
 pub mod HandleLemmas
 pub mod KeepLemmas
 pub mod StartLemmas
+pub mod CourseOnce

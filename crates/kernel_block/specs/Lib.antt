@@ -11,3 +11,4 @@ pub mod WellBlocked
 pub mod Handles
 pub mod Starts
 pub mod Within
+pub mod Laws

@@ -1,0 +1,13 @@
+//! A law of what one request makes of a kernel, which rests on the definitions and on the laws of an interpreter
+//! alone. It is the contract of a function that does nothing.
+
+ghost use Rattle.kernel_block.specs.Laws.{AnswersOnce, PublishesOnce};
+
+use interp_core::Interpreter;
+
+/// A law with no code: by one course, what is published of a request has one value at most, and so has what it is
+/// answered.
+pub fn one_course<I: Interpreter>()
+    ensures published { PublishesOnce I.meaning }
+    ensures answered { AnswersOnce I.meaning }
+{}
