@@ -14,5 +14,7 @@ pub mod ServeLemmas
 pub mod ServeOnce
 pub mod ShakeLemmas
 pub mod SightLemmas
+pub mod TellLemmas
 pub mod TrafficLemmas
 pub mod Unfinished
+pub mod WorkLemmas

@@ -33,12 +33,12 @@ step_once answers once state one other (traffic.Command name rest) reply also fi
     (none ∙ sym nothing, stays ∙ sym keeps, is ∙ sym same)
 
 -- nothing was dropped, and so it wasn't before
-unmarked : (before : Bool) (answered : Answered) (after : Bool) → after ≡ marked before (Ok answered) → after ≡ false
+pub unmarked : (before : Bool) (answered : Answered) (after : Bool) → after ≡ marked before (Ok answered) → after ≡ false
     → (before ≡ false) × IsDone (Ok answered)
 unmarked before Done after mark none = (sym mark ∙ none, tt)
 unmarked before Dropped after mark none = absurd (let e : true ≡ false = sym mark ∙ none in cc)
 
-undropped : {Server : Type 0} (answers : Answering Server) (old new : Serving Server) (items : List Traffic)
+pub undropped : {Server : Type 0} (answers : Answering Server) (old new : Serving Server) (items : List Traffic)
     (replies : List ℕ) → AnswersAll (GoesOn answers) old items replies new → new.dropped ≡ false → old.dropped ≡ false
 undropped answers old new [] replies (none, same) kept = ap (λ (s : Serving _). s.dropped) (sym same) ∙ kept
 undropped answers old new (first ∷ items) replies (middle, reply, later, (answered, step, mark), rest, is) kept =

@@ -10,11 +10,11 @@ use Rattle.kernel_engine.specs.declared.server.Answered.{Answered}
 use Rattle.kernel_engine.specs.Peer.{Message}
 use Rattle.kernel_engine.specs.Listen.{RunsOut}
 use Rattle.kernel_engine.specs.Server.{Answering, Serving, Treats, GoesOn, AnswersAll, IsLast, Converses, IsServed}
-use Rattle.kernel_engine.specs.Server.{Serves, ServesPeer}
+use Rattle.kernel_engine.specs.Server.{Serves, ServesPeer, told}
 use Rattle.kernel_engine.specs.Steps.{IsPrompt}
 
 -- Each step of a server is a step of what is seen of it, while this holds of the server.
-pub record Sight {Server Other : Type 0} (answers : Answering Server) (sees : Answering Other) : Type 0 where
+pub record Sight {Server Other : Type 0} (answers : Answering Server) (sees : Answering Other) : Type 1 where
   pub view : Server → Other
   pub holds : Server → Type 0
   pub steps : (old new : Server) (message : Message) (reply : List ℕ) (answered : Result Answered SessionEnd)
@@ -121,7 +121,7 @@ prompt_ends : {Server Other : Type 0} {answers : Answering Server} {sees : Answe
       | inl out ↦ ⊤
       | inr last ↦ IsPrompt one two turns left octets last.comes.behind
     ]
-    → elim ends_seen s now rest replies written new end holds ends as (λ _. Type 0) [
+    → elim (ends_seen s now rest replies written new end holds ends) as (λ _. Type 0) [
       | inl out ↦ ⊤
       | inr last ↦ IsPrompt one two turns left octets last.comes.behind
     ]
@@ -154,7 +154,7 @@ prompt_seen s dropped ours old octets written new end holds one two turns left (
     (all_seen s (record { server = old; dropped = false }) talk.now talk.traffic talk.replies holds
     talk.answered).0 one two turns left octets talk.ends prompt
 
-pub peer_seen : {Server Other : Type 0} {answers : Answering Server} {sees : Answering Other} (s : Sight answers sees)
+peer_seen : {Server Other : Type 0} {answers : Answering Server} {sees : Answering Other} (s : Sight answers sees)
     (dropped : Bool) (ours : SocketType) (old new : Server) (one two : Inflow) (out last : Outflow) (turns left : ℕ)
     (end : SessionEnd) → s.holds old → ServesPeer dropped answers ours old one two out last turns left new end
     → ServesPeer dropped sees ours (s.view old) one two out last turns left (s.view new) end
@@ -170,3 +170,22 @@ peer_seen s dropped ours old new one two out last turns left end holds peer =
       };
       prompt = prompt_seen s dropped ours old e.read e.written new end holds one two turns left e.outcome peer.prompt;
     }
+
+-- the same, of one that is equal to what is seen of the server at the end
+pub peer_seen_as : {Server Other : Type 0} {answers : Answering Server} {sees : Answering Other}
+    (s : Sight answers sees) (ours : SocketType) (old new : Server) (became : Other) (one two : Inflow)
+    (out last : Outflow) (turns : ℕ) (given : SessionEnd) → s.holds old → s.view new ≡ became
+    → (left : ℕ) × (dropped : Bool) × (ended : SessionEnd)
+    × ServesPeer dropped answers ours old one two out last turns left new ended × (given ≡ told dropped ended)
+    → (left : ℕ) × (dropped : Bool) × (ended : SessionEnd)
+    × ServesPeer dropped sees ours (s.view old) one two out last turns left became ended
+    × (given ≡ told dropped ended)
+peer_seen_as {Other = Other} {sees = sees} s ours old new became one two out last turns given holds is
+    (left, dropped, ended, peer, told_so) = (
+      left,
+      dropped,
+      ended,
+      subst (λ (o : Other). ServesPeer dropped sees ours (s.view old) one two out last turns left o ended) is
+          (peer_seen s dropped ours old new one two out last turns left ended holds peer),
+      told_so,
+    )

@@ -84,38 +84,38 @@ Finishes handled octets (Err (Shutdown restart)) =
 Finishes handled octets (Err (Wire fault)) = ⊥
 Finishes handled octets (Err (Failed fault)) = (octets ≡ []) × (fault ≡ Memory)
 
-module _ {I P S W Cell : Type 0} (m : Meaning I Cell) (items_of : P → List (Option (Event W)))
+-- what stays of an engine in a session
+abbrev pub setting_of : {I P S W : Type 0} → (S → StampMeaning) → (StampMeaning → ℕ → List ℕ)
+    → (StampMeaning → List ℕ → Bool) → Parts I P S W → Setting
+setting_of meaning id_text is_date parts = record {
+  side = parts.side;
+  sealing = sealing_of meaning id_text parts.publishing;
+  is_date = is_date (meaning parts.publishing.stamp);
+}
+
+-- what an engine has come to that published this, and does the requests to come so
+abbrev pub standing_of : {I P S W : Type 0} → Parts I P S W → List Message → List (Run I) → Standing I
+standing_of parts published runs = record {
+  state = parts.interp;
+  count = parts.count;
+  next = parts.publishing.next;
+  published = published;
+  runs = runs;
+}
+
+-- what an engine published, and the idle that is owed
+abbrev pub all_items : {I P S W : Type 0} → (P → List (Option (Event W))) → Parts I P S W → List (Option (Event W))
+all_items items_of parts = items_of parts.publishing.sink ++ owed_items parts.owed
+
+-- The engine was in a session: for some courses and dates, what was written, and what it published, with the idle that
+-- is owed, are those of the session with a peer that sends these octets, and so is how the session ended.
+pub record TellsSession {I P S W Cell : Type 0} (m : Meaning I Cell) (items_of : P → List (Option (Event W)))
     (meaning : S → StampMeaning) (id_text : StampMeaning → ℕ → List ℕ) (is_date : StampMeaning → List ℕ → Bool)
-    (may : Type 0) where
-  -- what stays of an engine in a session
-  abbrev pub setting_of : Parts I P S W → Setting
-  setting_of parts = record {
-    side = parts.side;
-    sealing = sealing_of meaning id_text parts.publishing;
-    is_date = is_date (meaning parts.publishing.stamp);
-  }
-
-  -- what an engine has come to that published this, and does the requests to come so
-  abbrev pub standing_of : Parts I P S W → List Message → List (Run I) → Standing I
-  standing_of parts published runs = record {
-    state = parts.interp;
-    count = parts.count;
-    next = parts.publishing.next;
-    published = published;
-    runs = runs;
-  }
-
-  -- what an engine published, an idle that is owed with it
-  abbrev pub all_items : Parts I P S W → List (Option (Event W))
-  all_items parts = items_of parts.publishing.sink ++ owed_items parts.owed
-
-  -- The engine was in a session: for some courses and dates, what was written, and what it published, an idle that is
-  -- owed with it, is that of the session with a peer that sends these octets, and so is how the session ended.
-  pub record TellsSession (old : Parts I P S W) (octets written : List ℕ) (new : Parts I P S W) (end : SessionEnd)
-      : Type 0 where
-    pub runs : List (Run I)
-    pub published : List Message
-    pub session : IsSession m may (setting_of old) (standing_of old [] runs) octets written
-        (standing_of new published []) end
-    pub listed : all_items new ≡ all_items old ++ map item_of published
-    pub stays : setting_of new ≡ setting_of old
+    (may : Type 0) (old : Parts I P S W) (octets written : List ℕ) (new : Parts I P S W) (end : SessionEnd)
+    : Type 0 where
+  pub runs : List (Run I)
+  pub published : List Message
+  pub session : IsSession m may (setting_of meaning id_text is_date old) (standing_of old [] runs) octets written
+      (standing_of new published []) end
+  pub listed : all_items items_of new ≡ all_items items_of old ++ map item_of published
+  pub stays : setting_of meaning id_text is_date new ≡ setting_of meaning id_text is_date old

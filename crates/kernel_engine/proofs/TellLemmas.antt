@@ -1,0 +1,443 @@
+-- A session of an engine, as its definition tells it: each step of the engine is one of the session, for some course
+-- and date.
+use Rattle.std.proofs.Common.{◌≡◌, ◌⊎◌, inl, inr, ℕ, ◌+◌, List, [], ◌∷◌, ◌++◌, length, Bool, true, false, Option, Some}
+use Rattle.std.proofs.Common.{None, Result, Ok, Err, refl, sym, ◌∙◌, ap, subst, append_assoc, map}
+use Rattle.std.proofs.lemmas.List.{append-nil, map-append}
+use Rattle.zmtp_wire.specs.declared.handshake.socket_type.SocketType.TheVariants.{Router}
+use Rattle.zmtp_wire.specs.declared.traffic.Traffic.{Traffic}
+use Rattle.zmtp_wire.specs.declared.traffic.Traffic.TheVariants as traffic
+use Rattle.zmtp_wire.specs.Device.{Inflow, Outflow}
+use Rattle.interp_core.specs.Interpreter.{Meaning}
+use Rattle.iopub_relay.specs.declared.event.Event.{Event}
+use Rattle.iopub_relay.specs.declared.event.Event.TheVariants as events
+use Rattle.jmsg_envelope.specs.Stamp.{StampMeaning}
+use Rattle.jmsg_envelope.specs.declared.envelope.Envelope.{Envelope}
+use Rattle.jmsg_types.specs.declared.publication.Publication.{Publication}
+use Rattle.jmsg_types.specs.declared.reply.Reply.{Reply}
+use Rattle.kernel_block.specs.declared.fault.EngineFault.TheVariants.{OwedIdle, Memory, Read, Write, Turns, Worn}
+use Rattle.kernel_block.specs.declared.handled.Handled.{Handled}
+use Rattle.kernel_block.specs.declared.heading.Heading.{Heading}
+use Rattle.kernel_block.specs.declared.parts.Parts.{Parts}
+use Rattle.kernel_block.specs.declared.side.Side.{Side}
+use Rattle.kernel_block.specs.Block.{Sealing, block, idle, opened, reply_message}
+use Rattle.kernel_block.specs.Growth.{item_of, sealing_of}
+use Rattle.kernel_block.specs.Handles.{Adds, HandlesOk, answer_with, owed_items}
+use Rattle.kernel_block.specs.Opens.{ids_of_reply}
+use Rattle.kernel_block.specs.WellBlocked.{heading_of, past, where_published}
+use Rattle.kernel_engine.specs.declared.end.SessionEnd.{SessionEnd}
+use Rattle.kernel_engine.specs.declared.end.SessionEnd.TheVariants.{Eof, Shutdown, Wire, Failed}
+use Rattle.kernel_engine.specs.declared.server.Answered.{Answered}
+use Rattle.kernel_engine.specs.declared.server.Answered.TheVariants.{Done, Dropped}
+use Rattle.kernel_engine.specs.Exchange.{Exchange}
+use Rattle.kernel_engine.specs.Fault.{IsServerEnd}
+use Rattle.kernel_engine.specs.Laws.{IsDone as IsSettledAnswer}
+use Rattle.kernel_engine.specs.Listen.{RunsOut}
+use Rattle.kernel_engine.specs.Peer.{Message}
+use Rattle.kernel_engine.specs.Server.{Serving, Treats, GoesOn, AnswersAll, IsServed, Serves, ServesPeer, begins, marked}
+use Rattle.kernel_engine.specs.Server.{IsLast, told}
+use Rattle.kernel_engine.specs.Session.{DoesMessage, DropsMessage, IsNoRequest, IsTold, Performs, Run, Setting, Standing}
+use Rattle.kernel_engine.specs.Session.{heading_by, number_behind, reply_text}
+use Rattle.kernel_engine.specs.Work.{Ignores, TellsSession, Works, WorksOne, WorksThrough, all_items, setting_of}
+use Rattle.kernel_engine.specs.Work.{standing_of}
+use Rattle.kernel_engine.specs.Steps.{TurnsAway}
+use Rattle.kernel_engine.proofs.ServeOnce.{undropped, unmarked}
+
+-- what was published of a block, and its idle where that is owed, is all of the block
+block_items : {W : Type 0} (front owed : List (Option (Event W))) (opening : List Message) (last : Message)
+    (closed : Bool) (items : List (Option (Event W))) (owes : Option (Event W))
+    → items ≡ front ++ (owed ++ map item_of (opening ++ where_published closed last))
+    → ((closed ≡ true) × (owes ≡ None)) ⊎ ((closed ≡ false) × (owes ≡ Some (events.Message last)))
+    → items ++ owed_items owes ≡ (front ++ owed) ++ map item_of (opening ++ last ∷ [])
+block_items {W} front owed opening last true items owes is (inl (closed, none)) =
+    ap (λ o. items ++ owed_items o) none ∙ append-nil items ∙ is
+    ∙ sym (append_assoc front owed (map item_of (opening ++ last ∷ [])))
+block_items {W} front owed opening last false items owes is (inr (isnt, some)) =
+    ap (λ o. items ++ owed_items o) some
+    ∙ ap (λ i. i ++ item_of last ∷ []) (is ∙ ap (λ o. front ++ (owed ++ map item_of o)) (append-nil opening))
+    ∙ ap (λ i. i ++ item_of last ∷ []) (sym (append_assoc front owed (map item_of opening)))
+    ∙ append_assoc (front ++ owed) (map item_of opening) (item_of last ∷ [])
+    ∙ ap (λ i. (front ++ owed) ++ i) (sym (map-append item_of opening (last ∷ [])))
+block_items {W} front owed opening last true items owes is (inr (isnt, some)) = absurd (let e = isnt in cc)
+block_items {W} front owed opening last false items owes is (inl (closed, none)) = absurd (let e = closed in cc)
+
+-- what stays, by its parts
+abbrev setting_by : (StampMeaning → ℕ → List ℕ) → (StampMeaning → List ℕ → Bool) → Side → List ℕ → StampMeaning → Setting
+setting_by id_text is_date side key stamp = record {
+  side = side;
+  sealing = record { key = key; session = stamp.session; id = id_text stamp };
+  is_date = is_date stamp;
+}
+
+same_setting : (id_text : StampMeaning → ℕ → List ℕ) (is_date : StampMeaning → List ℕ → Bool) (side other : Side)
+    (key also : List ℕ) (stamp same : StampMeaning) → side ≡ other → key ≡ also → stamp ≡ same
+    → setting_by id_text is_date side key stamp ≡ setting_by id_text is_date other also same
+same_setting id_text is_date side other key also stamp same a b c =
+    ap (λ s. setting_by id_text is_date s key stamp) a ∙ ap (λ k. setting_by id_text is_date other k stamp) b
+    ∙ ap (λ t. setting_by id_text is_date other also t) c
+
+-- a message that wasn't dropped was done
+answered_done : (answered : Answered) → IsSettledAnswer (Ok answered) → answered ≡ Done
+answered_done Done done = refl
+answered_done Dropped done = absurd done
+
+module _ {I P S W Cell : Type 0} (m : Meaning I Cell) (items_of : P → List (Option (Event W)))
+    (may_refuse : P → Type 0) (is_same : P → P → Type 0) (meaning : S → StampMeaning)
+    (id_text : StampMeaning → ℕ → List ℕ) (is_date : StampMeaning → List ℕ → Bool) (may : Type 0) where
+  -- a message was done as a request by a run, and what was published is this
+  record IsDone (old : Parts I P S W) (message : Message) (handled : Handled) (reply : List ℕ) (new : Parts I P S W)
+      : Type 0 where
+    run : Run I
+    messages : List Message
+    listed : all_items items_of new ≡ all_items items_of old ++ map item_of messages
+    stays : setting_of meaning id_text is_date new ≡ setting_of meaning id_text is_date old
+    does : (published : List Message) (later : List (Run I))
+        → (done : DoesMessage m may (setting_of meaning id_text is_date old) (standing_of old published (run ∷ later))
+        message reply (standing_of new (published ++ messages) later))
+        × (done.answer.end ≡ handled.end) × (done.answer.restart ≡ handled.restart)
+
+  is_done : (old : Parts I P S W) (message : Message) (handled : Handled) (reply : List ℕ) (new : Parts I P S W)
+      → Works m items_of may_refuse is_same meaning id_text is_date may old message handled new
+      → reply ≡ reply_text handled.reply → IsDone old message handled reply new
+  is_done old message handled reply new works is =
+      let ok = works.does in
+      let request = works.request in
+      let sealing = sealing_of meaning id_text old.publishing in
+      let publications = ok.block.publications in
+      let run : Run I = record { course = ok.course; date = ok.block.date } in
+      let headed : heading_of ok.block ≡ heading_by run request =
+      ap (λ p. record { date = ok.block.date; parent = p }) ok.parent in
+      let next : past ok.block ≡ number_behind old.publishing.next publications =
+      ap (λ n. number_behind n publications) ok.adds.number in
+      let whole : block sealing (heading_of ok.block) ok.block.number publications
+      ≡ block sealing (heading_by run request) old.publishing.next publications =
+      ap (λ h. block sealing h ok.block.number publications) headed
+      ∙ ap (λ n. block sealing (heading_by run request) n publications) ok.adds.number in
+      record {
+        run = run;
+        messages = block sealing (heading_by run request) old.publishing.next publications;
+        listed = block_items (items_of old.publishing.sink) (owed_items old.owed)
+            (opened sealing (heading_of ok.block) ok.block.number publications)
+            (idle sealing (heading_of ok.block) ok.block.number) ok.block.closed (items_of new.publishing.sink)
+            new.owed ok.adds.items (elim ok.adds.owed [
+              | inl closed ↦ inl closed
+              | inr (isnt, owed, refused) ↦ inr (isnt, owed)
+            ])
+            ∙ ap (λ b. all_items items_of old ++ map item_of b) whole;
+        stays = same_setting id_text is_date new.side old.side new.publishing.signer old.publishing.signer
+            (meaning new.publishing.stamp) (meaning old.publishing.stamp) ok.adds.side ok.adds.signer ok.adds.meant;
+        does = λ published later. (
+          record {
+            request = request;
+            opened = works.opened;
+            answer = answer_with handled ok.reply new;
+            does = record {
+              run = run;
+              runs = refl;
+              dated = ok.adds.dated;
+              ending = ok.ending;
+              publications = publications;
+              publishes = ok.publishes;
+              answers = ok.answers;
+              replied = is ∙ ap reply_text (ok.replied
+                  ∙ ap (λ h. reply_message sealing h request.identities (past ok.block) request.msg_type ok.reply)
+                  headed
+                  ∙ ap (λ n. reply_message sealing (heading_by run request) request.identities n request.msg_type
+                  ok.reply) next);
+              became = ap (λ n. record {
+                state = new.interp;
+                count = new.count;
+                next = n;
+                published = published ++ block sealing (heading_by run request) old.publishing.next publications;
+                runs = later;
+              }) (ok.next ∙ ap (λ n. n + ids_of_reply ok.reply) next);
+            };
+          },
+          refl,
+          refl,
+        );
+      }
+
+  -- an engine in a session in which nothing was dropped, as the session tells it
+  abbrev tells : Parts I P S W → List Message → List (Run I) → Serving (Standing I)
+  tells parts published runs = record { server = standing_of parts published runs; dropped = false }
+
+  -- traffic was treated by some runs, and what was published is this
+  record IsTreated (old : Parts I P S W) (items : List Traffic) (replies : List ℕ) (new : Parts I P S W) : Type 0 where
+    runs : List (Run I)
+    messages : List Message
+    listed : all_items items_of new ≡ all_items items_of old ++ map item_of messages
+    stays : setting_of meaning id_text is_date new ≡ setting_of meaning id_text is_date old
+    all : (published : List Message) (later : List (Run I))
+        → AnswersAll (GoesOn (Performs m may (setting_of meaning id_text is_date old)))
+        (tells old published (runs ++ later)) items replies (tells new (published ++ messages) later)
+
+  treated_none : (old new : Parts I P S W) (replies : List ℕ) → replies ≡ [] → new ≡ old
+      → IsTreated old [] replies new
+  treated_none old new replies none same = record {
+    runs = [];
+    messages = [];
+    listed = ap (all_items items_of) same ∙ sym (append-nil (all_items items_of old));
+    stays = ap (setting_of meaning id_text is_date) same;
+    all = λ published later. (
+      none,
+      ap (λ (e : Parts I P S W). tells e (published ++ []) later) same
+          ∙ ap (λ p. tells old p later) (append-nil published),
+    );
+  }
+
+  -- the engine stayed at the first, and treated the others
+  treated_past : (old middle new : Parts I P S W) (first : Traffic) (items : List Traffic)
+      (reply later replies : List ℕ) → middle ≡ old → reply ≡ []
+      → ((standing : Standing I) → Treats (Performs m may (setting_of meaning id_text is_date old)) standing first []
+      standing (Ok Done))
+      → IsTreated middle items later new → replies ≡ reply ++ later → IsTreated old (first ∷ items) replies new
+  treated_past old middle new first items reply later replies same none stay rest is =
+      let next = subst (λ (e : Parts I P S W). IsTreated e items later new) same rest in
+      record {
+        runs = next.runs;
+        messages = next.messages;
+        listed = next.listed;
+        stays = next.stays;
+        all = λ published more. (
+          tells old published (next.runs ++ more),
+          [],
+          later,
+          (Done, stay (standing_of old published (next.runs ++ more)), refl),
+          next.all published more,
+          is ∙ ap (λ o. o ++ later) none,
+        );
+      }
+
+  -- the first was done as a request, and the others were treated
+  treated_on : (old middle new : Parts I P S W) (message : Message) (items : List Traffic)
+      (reply later replies : List ℕ) (handled : Handled) → IsDone old message handled reply middle
+      → handled.end ≡ false → IsTreated middle items later new → replies ≡ reply ++ later
+      → IsTreated old (traffic.Message message ∷ items) replies new
+  treated_on old middle new message items reply later replies handled one ends rest is = record {
+    runs = one.run ∷ rest.runs;
+    messages = one.messages ++ rest.messages;
+    listed = rest.listed ∙ ap (λ o. o ++ map item_of rest.messages) one.listed
+        ∙ append_assoc (all_items items_of old) (map item_of one.messages) (map item_of rest.messages)
+        ∙ ap (λ o. all_items items_of old ++ o) (sym (map-append item_of one.messages rest.messages));
+    stays = rest.stays ∙ one.stays;
+    all = λ published more.
+      let (done, end_is, restart_is) = one.does published (rest.runs ++ more) in (
+        tells middle (published ++ one.messages) (rest.runs ++ more),
+        reply,
+        later,
+        (Done, inr (done, end_is ∙ ends), refl),
+        subst (λ p. AnswersAll (GoesOn (Performs m may (setting_of meaning id_text is_date old)))
+        (tells middle (published ++ one.messages) (rest.runs ++ more)) items later (tells new p more))
+            (append_assoc published one.messages rest.messages)
+            (subst (λ s. AnswersAll (GoesOn (Performs m may s)) (tells middle (published ++ one.messages)
+            (rest.runs ++ more)) items later (tells new ((published ++ one.messages) ++ rest.messages) more)) one.stays
+            (rest.all (published ++ one.messages) more)),
+        is,
+      );
+  }
+
+  treated_one : (old middle new : Parts I P S W) (first : Traffic) (items : List Traffic)
+      (reply later replies : List ℕ) (answered : Answered)
+      → Treats (WorksOne m items_of may_refuse is_same meaning id_text is_date may) old first reply middle (Ok answered)
+      → answered ≡ Done → IsTreated middle items later new → replies ≡ reply ++ later
+      → IsTreated old (first ∷ items) replies new
+  treated_one old middle new (traffic.Message message) items reply later replies Done (inl ignores) done rest is =
+      treated_past old middle new (traffic.Message message) items reply later replies ignores.same ignores.silent
+      (λ standing. inl (ignores.refused, refl, refl)) rest is
+  treated_one old middle new (traffic.Message message) items reply later replies Done (inr through) done rest is =
+      treated_on old middle new message items reply later replies through.handled
+      (is_done old message through.handled reply middle through.works through.replied) through.end rest is
+  treated_one old middle new (traffic.Message message) items reply later replies Dropped step done rest is =
+      absurd (let e = done in cc)
+  treated_one old middle new (traffic.Command name said) items reply later replies answered (none, same, goes) done rest
+      is =
+      treated_past old middle new (traffic.Command name said) items reply later replies same none
+      (λ standing. (refl, refl, refl)) rest is
+
+  treated_all : (old new : Serving (Parts I P S W)) (items : List Traffic) (replies : List ℕ)
+      → AnswersAll (GoesOn (WorksOne m items_of may_refuse is_same meaning id_text is_date may)) old items replies new
+      → new.dropped ≡ false → IsTreated old.server items replies new.server
+  treated_all old new [] replies (none, same) kept =
+      treated_none old.server new.server replies none (ap (λ (s : Serving (Parts I P S W)). s.server) same)
+  treated_all old new (first ∷ items) replies (middle, reply, later, (answered, step, mark), rest, is) kept =
+      let calm = undropped (WorksOne m items_of may_refuse is_same meaning id_text is_date may) middle new items later
+      rest kept in
+      let (before, done) = unmarked old.dropped answered middle.dropped mark calm in
+      treated_one old.server middle.server new.server first items reply later replies answered step
+      (answered_done answered done) (treated_all middle new items later rest kept) is
+
+  -- a peer that was turned away
+  told_away : (old new : Parts I P S W) (octets written : List ℕ) (end : SessionEnd)
+      → TurnsAway Router octets written tt end → new ≡ old
+      → TellsSession m items_of meaning id_text is_date may old octets written new end
+  told_away old new octets written end away same = record {
+    runs = [];
+    published = [];
+    session = inl (away, ap (λ (e : Parts I P S W). standing_of e [] []) same, refl);
+    listed = ap (all_items items_of) same ∙ sym (append-nil (all_items items_of old));
+    stays = ap (setting_of meaning id_text is_date) same;
+  }
+
+  -- a session that ended with what was read
+  told_out : (old new : Parts I P S W) (octets written : List ℕ) (end : SessionEnd)
+      (served : IsServed false (WorksOne m items_of may_refuse is_same meaning id_text is_date may) Router old octets
+      written new end)
+      → RunsOut served.converses.rest end → served.replies ≡ served.converses.replies
+      → served.converses.now ≡ record { server = new; dropped = false }
+      → TellsSession m items_of meaning id_text is_date may old octets written new end
+  told_out old new octets written end served runs wrote is =
+      let talk = served.converses in
+      let became : talk.now.server ≡ new = ap (λ (s : Serving (Parts I P S W)). s.server) is in
+      let treated = subst (λ e. IsTreated old talk.traffic talk.replies e) became
+      (treated_all (begins old) talk.now talk.traffic talk.replies talk.answered
+      (ap (λ (s : Serving (Parts I P S W)). s.dropped) is)) in
+      record {
+        runs = treated.runs ++ [];
+        published = treated.messages;
+        session = inr (record {
+          opening = served.opening;
+          peer = served.peer;
+          behind = served.behind;
+          replies = served.replies;
+          met = served.met;
+          converses = record {
+            traffic = talk.traffic;
+            rest = talk.rest;
+            read = talk.read;
+            calm = talk.calm;
+            now = tells new treated.messages [];
+            replies = talk.replies;
+            answered = treated.all [] [];
+            ends = inl (runs, wrote, refl);
+          };
+          all = served.all;
+        });
+        listed = treated.listed;
+        stays = treated.stays;
+      }
+
+  -- a session that a request for a shutdown ended
+  told_shut : (old new : Parts I P S W) (octets written : List ℕ) (restart : Bool)
+      (served : IsServed false (WorksOne m items_of may_refuse is_same meaning id_text is_date may) Router old octets
+      written new (Shutdown restart))
+      (last : IsLast (WorksOne m items_of may_refuse is_same meaning id_text is_date may) served.converses.now
+      served.converses.rest served.converses.replies served.replies (record { server = new; dropped = false })
+      (Shutdown restart))
+      → (message : Message) → last.last ≡ traffic.Message message → served.converses.now.dropped ≡ false
+      → (through : WorksThrough m items_of may_refuse is_same meaning id_text is_date may true
+      served.converses.now.server message last.reply new) → restart ≡ through.handled.restart
+      → served.replies ≡ served.converses.replies ++ last.reply
+      → TellsSession m items_of meaning id_text is_date may old octets written new (Shutdown restart)
+  told_shut old new octets written restart served last message named kept through again wrote =
+      let talk = served.converses in
+      let treated = treated_all (begins old) talk.now talk.traffic talk.replies talk.answered kept in
+      let one = is_done talk.now.server message through.handled last.reply new through.works through.replied in
+      let (done, end_is, restart_is) = one.does treated.messages [] in
+      record {
+        runs = treated.runs ++ one.run ∷ [];
+        published = treated.messages ++ one.messages;
+        session = inr (record {
+          opening = served.opening;
+          peer = served.peer;
+          behind = served.behind;
+          replies = served.replies;
+          met = served.met;
+          converses = record {
+            traffic = talk.traffic;
+            rest = talk.rest;
+            read = talk.read;
+            calm = talk.calm;
+            now = tells talk.now.server treated.messages (one.run ∷ []);
+            replies = talk.replies;
+            answered = treated.all [] (one.run ∷ []);
+            ends = inr (record {
+              last = last.last;
+              comes = last.comes;
+              harmless = last.harmless;
+              reply = last.reply;
+              answered = Err (Shutdown restart);
+              step = subst (λ t. Treats (Performs m may (setting_of meaning id_text is_date old))
+                  (standing_of talk.now.server treated.messages (one.run ∷ [])) t last.reply
+                  (standing_of new (treated.messages ++ one.messages) []) (Err (Shutdown restart))) (sym named)
+                  (subst (λ s. Performs m may s (standing_of talk.now.server treated.messages (one.run ∷ [])) message
+                  last.reply (standing_of new (treated.messages ++ one.messages) []) (Err (Shutdown restart)))
+                  treated.stays
+                  (done, end_is ∙ through.end, ap Shutdown (again ∙ sym restart_is)));
+              mark = refl;
+              how = inl (refl, tt, wrote);
+            });
+          };
+          all = served.all;
+        });
+        listed = one.listed ∙ ap (λ o. o ++ map item_of one.messages) treated.listed
+            ∙ append_assoc (all_items items_of old) (map item_of treated.messages) (map item_of one.messages)
+            ∙ ap (λ o. all_items items_of old ++ o) (sym (map-append item_of treated.messages one.messages));
+        stays = one.stays ∙ treated.stays;
+      }
+
+  -- a session that the engine ended at one traffic
+  told_last : (old new : Parts I P S W) (octets written : List ℕ) (end : SessionEnd) → IsTold end
+      → (served : IsServed false (WorksOne m items_of may_refuse is_same meaning id_text is_date may) Router old octets
+      written new end)
+      (last : IsLast (WorksOne m items_of may_refuse is_same meaning id_text is_date may) served.converses.now
+      served.converses.rest served.converses.replies served.replies (record { server = new; dropped = false }) end)
+      → (item : Traffic) → last.last ≡ item → last.answered ≡ Err end → IsServerEnd end
+      → Treats (WorksOne m items_of may_refuse is_same meaning id_text is_date may) served.converses.now.server item
+      last.reply new (Err end) → served.replies ≡ served.converses.replies ++ last.reply
+      → TellsSession m items_of meaning id_text is_date may old octets written new end
+  told_last old new octets written Eof settled served last item named is ends step wrote = absurd ends
+  told_last old new octets written (Wire fault) settled served last item named is ends step wrote = absurd ends
+  told_last old new octets written (Failed (OwedIdle request)) settled served last item named is ends step wrote =
+      absurd settled
+  told_last old new octets written (Failed Memory) settled served last item named is ends step wrote = absurd settled
+  told_last old new octets written (Failed Read) settled served last item named is ends step wrote = absurd ends
+  told_last old new octets written (Failed Write) settled served last item named is ends step wrote = absurd ends
+  told_last old new octets written (Failed Turns) settled served last item named is ends step wrote = absurd ends
+  told_last old new octets written (Failed Worn) settled served last item named is ends step wrote = absurd settled
+  told_last old new octets written (Shutdown restart) settled served last (traffic.Command name rest) named is ends
+      (none, same, goes) wrote =
+      absurd (let e = goes in cc)
+  told_last old new octets written (Shutdown restart) settled served last (traffic.Message message) named is ends
+      (through, again) wrote =
+      told_shut old new octets written restart served last message named
+      (sym (last.mark ∙ ap (marked served.converses.now.dropped) is)) through again wrote
+
+  told_served : (old new : Parts I P S W) (octets written : List ℕ) (end : SessionEnd) → IsTold end
+      → Serves false (WorksOne m items_of may_refuse is_same meaning id_text is_date may) Router old octets written new
+      end
+      → TellsSession m items_of meaning id_text is_date may old octets written new end
+  told_served old new octets written end settled (inl (away, same, none)) =
+      told_away old new octets written end away same
+  told_served old new octets written end settled (inr served) = elim served.converses.ends [
+    | inl (runs, wrote, is) ↦ told_out old new octets written end served runs wrote is
+    | inr last ↦ elim last.how [
+      | inl (is, ends, wrote) ↦
+          told_last old new octets written end settled served last last.last refl is ends
+          (subst (λ a. Treats (WorksOne m items_of may_refuse is_same meaning id_text is_date may)
+          served.converses.now.server last.last last.reply new a) is last.step) wrote
+      | inr (is, lost) ↦ absurd (subst IsTold is settled)
+    ]
+  ]
+
+  -- what is told of a session, from what the engine made of each message
+  pub tells_session : (old new : Parts I P S W) (one two : Inflow) (out last : Outflow) (turns : ℕ) (given : SessionEnd)
+      → (left : ℕ) × (dropped : Bool) × (ended : SessionEnd)
+      × ServesPeer dropped (WorksOne m items_of may_refuse is_same meaning id_text is_date may) Router old one two out
+      last turns left new ended × (given ≡ told dropped ended)
+      → IsTold given
+      → (left : ℕ) × Exchange (TellsSession m items_of meaning id_text is_date may old) one two out last turns left new
+      given
+  tells_session old new one two out last turns given (left, true, ended, peer, is) settled =
+      absurd (subst IsTold is settled)
+  tells_session old new one two out last turns given (left, false, ended, peer, is) settled =
+      let e = peer.exchange in (
+        left,
+        subst (λ end. Exchange (TellsSession m items_of meaning id_text is_date may old) one two out last turns left new
+        end) (sym is) (record {
+          read = e.read;
+          written = e.written;
+          reading = e.reading;
+          puts = e.puts;
+          outcome = told_served old new e.read e.written ended (subst IsTold is settled) e.outcome;
+        }),
+      )
