@@ -242,7 +242,7 @@ hears_once laws ours octets opening other traffic others ending end (inr first) 
     (first.met.greeted.greets ∙ sym second.met.greeted.greets, said, ends)
 
 -- traffic and its rest, with more behind
-reads_more : (octets after : List ℕ) (traffic : List Traffic) (rest : List ℕ)
+pub reads_more : (octets after : List ℕ) (traffic : List Traffic) (rest : List ℕ)
     → ReadsUpTo usual_limits octets traffic rest → ReadsUpTo usual_limits (octets ++ after) traffic (rest ++ after)
 reads_more octets after traffic rest (read, is, reads) =
     (read, ap (λ o. o ++ after) is ∙ append_assoc read rest after, reads)
@@ -255,7 +255,7 @@ rest_more laws rest after (Wire fault) ended ends = laws.stays usual_limits rest
 rest_more laws rest after (Failed fault) ended ends = ends
 
 -- how octets behind the last whole traffic end a connection, with more behind
-ends_more : (laws : Laws) (rest after : List ℕ) (ending : SessionEnd) → ending ≢ Eof → EndsBehind rest ending
+pub ends_more : (laws : Laws) (rest after : List ℕ) (ending : SessionEnd) → ending ≢ Eof → EndsBehind rest ending
     → EndsBehind (rest ++ after) ending
 ends_more laws rest after ending ended (inl (is, (last, comes, error))) = inl (
   is,
@@ -272,38 +272,35 @@ ends_more laws rest after ending ended (inl (is, (last, comes, error))) = inl (
 )
 ends_more laws rest after ending ended (inr ends) = inr (rest_more laws rest after ending ended ends)
 
+-- a peer that was turned away, whatever it sends then
+pub away_more : Laws → (ours : SocketType) (octets after opening : List ℕ) (ending : SessionEnd) → ending ≢ Eof
+    → IsTurnedAway ours octets opening ending → IsTurnedAway ours (octets ++ after) opening ending
+away_more laws ours octets after opening ending ended (inl away) = absurd (ended away.ends)
+away_more laws ours octets after opening ending ended (inr (inl away)) = inr (inl (record {
+  fault = away.fault;
+  whole = let w = away.whole in omega (arith, w, length-append octets after);
+  refused = subst (λ o. IsRefusedGreeting o away.fault) (sym (take_more octets after away.whole)) away.refused;
+  greets = away.greets;
+  ends = away.ends;
+}))
+away_more laws ours octets after opening ending ended (inr (inr (inl away))) = inr (inr (inl (record {
+  greeted = greeted_more ours octets after opening away.greeted;
+  ends = subst (λ o. EndsAs o ending) (sym (drop_more octets after away.greeted.whole))
+      (rest_more laws (drop 64 octets) after ending ended away.ends);
+})))
+away_more laws ours octets after opening ending ended (inr (inr (inr away))) = inr (inr (inr (record {
+  greeted = greeted_more ours octets after opening away.greeted;
+  first = away.first;
+  behind = away.behind ++ after;
+  comes = first_more octets after away.first away.behind away.greeted.whole away.comes;
+  fault = away.fault;
+  refused = away.refused;
+  ends = away.ends;
+})))
+
 pub end_stays : Laws → EndStays
-end_stays laws ours octets after opening traffic ending ended (inl (inl away, none)) = absurd (ended away.ends)
-end_stays laws ours octets after opening traffic ending ended (inl (inr (inl away), none)) = inl (
-  inr (inl (record {
-    fault = away.fault;
-    whole = let w = away.whole in omega (arith, w, length-append octets after);
-    refused = subst (λ o. IsRefusedGreeting o away.fault) (sym (take_more octets after away.whole)) away.refused;
-    greets = away.greets;
-    ends = away.ends;
-  })),
-  none,
-)
-end_stays laws ours octets after opening traffic ending ended (inl (inr (inr (inl away)), none)) = inl (
-  inr (inr (inl (record {
-    greeted = greeted_more ours octets after opening away.greeted;
-    ends = subst (λ o. EndsAs o ending) (sym (drop_more octets after away.greeted.whole))
-        (rest_more laws (drop 64 octets) after ending ended away.ends);
-  }))),
-  none,
-)
-end_stays laws ours octets after opening traffic ending ended (inl (inr (inr (inr away)), none)) = inl (
-  inr (inr (inr (record {
-    greeted = greeted_more ours octets after opening away.greeted;
-    first = away.first;
-    behind = away.behind ++ after;
-    comes = first_more octets after away.first away.behind away.greeted.whole away.comes;
-    fault = away.fault;
-    refused = away.refused;
-    ends = away.ends;
-  }))),
-  none,
-)
+end_stays laws ours octets after opening traffic ending ended (inl (away, none)) =
+    inl (away_more laws ours octets after opening ending ended away, none)
 end_stays laws ours octets after opening traffic ending ended (inr heard) = inr (record {
   peer = heard.peer;
   behind = heard.behind ++ after;

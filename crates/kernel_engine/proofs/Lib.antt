@@ -12,6 +12,8 @@ pub mod RespondLemmas
 pub mod SeenLemmas
 pub mod ServeLemmas
 pub mod ServeOnce
+pub mod ServeStays
+pub mod SessionOnce
 pub mod ShakeLemmas
 pub mod SightLemmas
 pub mod TellLemmas

@@ -83,7 +83,7 @@ split_all answers old new (first ∷ front) more replies (middle, reply, later, 
     (state, reply ++ one, other, (middle, reply, one, step, a, refl), b)
 
 -- how a session ends that listening ended with nothing wanting
-ends_settled : (rest : List ℕ) (end : SessionEnd) → IsSettled end → RunsOut rest end → EndsBehind rest end
+pub ends_settled : (rest : List ℕ) (end : SessionEnd) → IsSettled end → RunsOut rest end → EndsBehind rest end
 ends_settled rest end settled (inl (inl (inl is), unfinished)) = inr (subst (EndsAs rest) (sym is) unfinished)
 ends_settled rest end settled (inl (inl (inr (inl is)), unfinished)) = absurd (subst IsSettled is settled)
 ends_settled rest end settled (inl (inl (inr (inr is)), unfinished)) = absurd (subst IsSettled is settled)

@@ -221,19 +221,19 @@ module _ {I P S W Cell : Type 0} (m : Meaning I Cell) (items_of : P → List (Op
         ∙ ap (λ o. all_items items_of old ++ o) (sym (map-append item_of one.messages rest.messages));
     stays = rest.stays ∙ one.stays;
     all = λ published more.
-      let (done, end_is, restart_is) = one.does published (rest.runs ++ more) in (
-        tells middle (published ++ one.messages) (rest.runs ++ more),
-        reply,
-        later,
-        (Done, inr (done, end_is ∙ ends), refl),
-        subst (λ p. AnswersAll (GoesOn (Performs m may (setting_of meaning id_text is_date old)))
-        (tells middle (published ++ one.messages) (rest.runs ++ more)) items later (tells new p more))
-            (append_assoc published one.messages rest.messages)
-            (subst (λ s. AnswersAll (GoesOn (Performs m may s)) (tells middle (published ++ one.messages)
-            (rest.runs ++ more)) items later (tells new ((published ++ one.messages) ++ rest.messages) more)) one.stays
-            (rest.all (published ++ one.messages) more)),
-        is,
-      );
+        let (done, end_is, restart_is) = one.does published (rest.runs ++ more) in (
+          tells middle (published ++ one.messages) (rest.runs ++ more),
+          reply,
+          later,
+          (Done, inr (done, end_is ∙ ends), refl),
+          subst (λ p. AnswersAll (GoesOn (Performs m may (setting_of meaning id_text is_date old)))
+              (tells middle (published ++ one.messages) (rest.runs ++ more)) items later (tells new p more))
+              (append_assoc published one.messages rest.messages)
+              (subst (λ s. AnswersAll (GoesOn (Performs m may s)) (tells middle (published ++ one.messages)
+              (rest.runs ++ more)) items later (tells new ((published ++ one.messages) ++ rest.messages) more)) one.stays
+              (rest.all (published ++ one.messages) more)),
+          is,
+        );
   }
 
   treated_one : (old middle new : Parts I P S W) (first : Traffic) (items : List Traffic)
@@ -433,11 +433,11 @@ module _ {I P S W Cell : Type 0} (m : Meaning I Cell) (items_of : P → List (Op
       let e = peer.exchange in (
         left,
         subst (λ end. Exchange (TellsSession m items_of meaning id_text is_date may old) one two out last turns left new
-        end) (sym is) (record {
-          read = e.read;
-          written = e.written;
-          reading = e.reading;
-          puts = e.puts;
-          outcome = told_served old new e.read e.written ended (subst IsTold is settled) e.outcome;
-        }),
+            end) (sym is) (record {
+              read = e.read;
+              written = e.written;
+              reading = e.reading;
+              puts = e.puts;
+              outcome = told_served old new e.read e.written ended (subst IsTold is settled) e.outcome;
+            }),
       )

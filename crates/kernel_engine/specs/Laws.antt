@@ -8,7 +8,9 @@ use Rattle.kernel_engine.specs.declared.end.SessionEnd.TheVariants.{Eof, Shutdow
 use Rattle.kernel_engine.specs.declared.server.Answered.{Answered}
 use Rattle.kernel_engine.specs.declared.server.Answered.TheVariants.{Done, Dropped}
 use Rattle.kernel_engine.specs.Peer.{Message, IsMet, IsTurnedAway, Hears}
+use Rattle.interp_core.specs.Interpreter.{Meaning}
 use Rattle.kernel_engine.specs.Server.{Answering, Serves}
+use Rattle.kernel_engine.specs.Session.{IsSession, Setting, Standing}
 
 -- what is heard of a peer has one value: what opens the connection, the traffic and the end
 abbrev pub HearsOnce : Type 0
@@ -59,3 +61,28 @@ ServesOnce {Server} answers =
     (ending end : SessionEnd) → IsSettled ending → IsSettled end
     → Serves false answers ours old octets written one ending → Serves false answers ours old octets also other end
     → (written ≡ also) × (one ≡ other) × (ending ≡ end)
+
+-- what a peer comes to with a server stays, whatever the peer sends then, where a fault, the command ERROR or the server
+-- ended it
+abbrev pub ServesOn : {Server : Type 0} → Answering Server → Type 0
+ServesOn {Server} answers =
+    (ours : SocketType) (old new : Server) (octets after written : List ℕ) (ending : SessionEnd) → IsSettled ending
+    → ending ≢ Eof → Serves false answers ours old octets written new ending
+    → Serves false answers ours old (octets ++ after) written new ending
+
+-- a session has one value for given courses and dates, where what the peer sent ended it: what is written, what the
+-- engine has come to, its publications among it, and the end
+abbrev pub SessionOnce : {State Cell Stop : Type 0} → Meaning State Cell → (Stop → Type 0) → Type 0
+SessionOnce {State} {Stop = Stop} m may_ask =
+    (stop : Stop) (setting : Setting) (old one other : Standing State) (octets written also : List ℕ)
+    (ending end : SessionEnd) → IsSettled ending → IsSettled end
+    → IsSession m (may_ask stop) setting old octets written one ending
+    → IsSession m (may_ask stop) setting old octets also other end
+    → (written ≡ also) × (one ≡ other) × (ending ≡ end)
+
+-- a session that a fault, the command ERROR or a shutdown ended is the same, whatever the peer sends then
+abbrev pub SessionStays : {State Cell Stop : Type 0} → Meaning State Cell → (Stop → Type 0) → Type 0
+SessionStays {State} {Stop = Stop} m may_ask =
+    (stop : Stop) (setting : Setting) (old new : Standing State) (octets after written : List ℕ) (ending : SessionEnd)
+    → IsSettled ending → ending ≢ Eof → IsSession m (may_ask stop) setting old octets written new ending
+    → IsSession m (may_ask stop) setting old (octets ++ after) written new ending

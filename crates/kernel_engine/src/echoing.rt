@@ -5,9 +5,9 @@ ghost use Rattle.kernel_engine.specs.Exchange.{Exchange};
 ghost use Rattle.kernel_engine.specs.Echo.{Echoes};
 
 use crate::end::SessionEnd;
-use kernel_block::EngineFault;
 use crate::server::{Answered, Server};
 use crate::serving::serve;
+use kernel_block::EngineFault;
 use listed::Frames;
 use std::alloc::Global;
 use zmtp_wire::{Inlet, Outlet, SocketType, write_message};

@@ -6,9 +6,9 @@ ghost use Rattle.kernel_engine.specs.Steps.{IsFed};
 ghost use Rattle.kernel_engine.specs.Intake.{Taking, Grows, put_by, FillsAll};
 
 use crate::end::SessionEnd;
-use kernel_block::EngineFault;
 use crate::listening::{Listener, listen};
 use crate::shaking::Shaken;
+use kernel_block::EngineFault;
 use std::alloc::{AllocError, Global};
 use zmtp_wire::{Inlet, Traffic};
 

@@ -17,11 +17,11 @@ mod working;
 pub use echoing::echo;
 pub use end::SessionEnd;
 pub use hearing::{Intake, hear};
-pub use laws::{one_hearing, one_session};
+pub use kernel_block::{Engine, EngineEnd, EngineFault, Handled, Side, Stop};
+pub use laws::{one_hearing, one_serving, one_session};
 pub use listening::{Listener, listen};
 pub use server::{Answered, Server};
 pub use serving::serve;
-pub use kernel_block::{Engine, EngineEnd, EngineFault, Handled, Side, Stop};
 pub use shaking::{Shaken, shake};
 pub use working::session;
 

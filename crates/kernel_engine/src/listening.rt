@@ -7,9 +7,9 @@ ghost use Rattle.kernel_engine.specs.Steps.{IsFed};
 ghost use Rattle.kernel_engine.specs.Handing.{HandsSome, HandsFed, HandsPiece, HandsNone};
 
 use crate::end::SessionEnd;
-use kernel_block::EngineFault;
 use crate::shaking::Shaken;
 use crate::turn::read_turn;
+use kernel_block::EngineFault;
 use listed::Row;
 use std::alloc::Global;
 use std::mem;

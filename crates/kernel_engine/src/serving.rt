@@ -5,10 +5,10 @@ ghost use Rattle.kernel_engine.specs.declared.end.SessionEnd.{SessionEnd};
 ghost use Rattle.kernel_engine.specs.Server.{ServesPeer, told};
 
 use crate::end::SessionEnd;
-use kernel_block::EngineFault;
 use crate::responding::respond;
 use crate::server::Server;
 use crate::shaking::shake_within;
+use kernel_block::EngineFault;
 use std::alloc::Global;
 use zmtp_wire::{Inlet, Outlet, SocketType};
 

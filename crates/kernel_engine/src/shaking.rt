@@ -8,8 +8,8 @@ ghost use Rattle.kernel_engine.specs.Exchange.{Reading, Exchange};
 ghost use Rattle.kernel_engine.specs.Steps.{Leg, IsStop, IsFed, Meets, TurnsAway, BringsNothing, ComesLate, fresh};
 
 use crate::end::SessionEnd;
-use kernel_block::EngineFault;
 use crate::turn::{put, read_turn};
+use kernel_block::EngineFault;
 use listed::Row;
 use std::alloc::Global;
 use zmtp_wire::{

@@ -1,5 +1,9 @@
+use Rattle.zmtp_wire.specs.declared.handshake.socket_type.SocketType.TheVariants.{Router}
+use Rattle.kernel_engine.specs.Session.{Performs}
 use Rattle.kernel_engine.proofs.HearOnce.{Laws}
 use Rattle.kernel_engine.proofs.ServeOnce.{serves_once}
+use Rattle.kernel_engine.proofs.ServeStays.{serves_on}
+use Rattle.kernel_engine.proofs.SessionOnce.{RequestLaws, performs_once}
 use Rattle.kernel_engine.proofs.laws.one_session.Goals as goal
 
 pub returns : goal.returns
@@ -12,4 +16,14 @@ returns g c =
       stays = c.one_fault.ensures.stays;
       ready = c.ready_has_one_outcome.ensures;
     } in
-    serves_once laws g.S.Server.answers
+    let requests : RequestLaws g.I.Interpreter.meaning = record {
+      opened = c.opened_once.ensures.opened_once;
+      refused = c.refused_is_not_opened.ensures.refused_is_not_opened;
+      publishes = c.one_course.ensures.published;
+      answers = c.one_course.ensures.answered;
+    } in
+    record {
+      once = λ stop setting. serves_once laws (Performs g.I.Interpreter.meaning (g.T.Stop.may_ask stop) setting)
+          (performs_once g.I.Interpreter.meaning requests (g.T.Stop.may_ask stop) setting) Router;
+      stays = λ stop setting. serves_on laws (Performs g.I.Interpreter.meaning (g.T.Stop.may_ask stop) setting) Router;
+    }
