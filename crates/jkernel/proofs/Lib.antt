@@ -1,6 +1,5 @@
-pub mod BlockLemmas
 pub mod HexText
 pub mod KnownReads
-pub mod SessionLemmas
-pub mod OneValue
 pub mod WordsLemmas
+pub mod ReplayLemmas
+pub mod TextOnce

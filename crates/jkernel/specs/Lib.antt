@@ -1,9 +1,7 @@
-pub mod Answer
-pub mod Block
 pub mod Lines
 pub mod Program
 pub mod Replay
-pub mod Served
 pub mod Session
+pub mod Stamp
 pub mod Status
 pub mod Words

@@ -2,7 +2,12 @@
 use Rattle.std.specs.Prelude.{ℕ, List, [], ◌∷◌, ◌++◌, Bool, not, ◌||◌, ◌==◌, Option, codes, decimal, filter}
 use Rattle.std.specs.Result.{result_ok}
 use Rattle.hex.specs.Hex.{decode_of, encode_lower}
+use Rattle.iopub_relay.specs.declared.event.Event.{Event}
+use Rattle.iopub_relay.specs.declared.event.Event.TheVariants.{Message, Attach, Subscribe, Cancel, Detach}
+use Rattle.zmtp_wire.specs.Frame.{text}
 use Rattle.zmtp_wire.specs.Fault.{wire_fault_number}
+use Rattle.jkernel.specs.declared.lines.Ending.{Ending}
+use Rattle.jkernel.specs.declared.lines.Ending.TheVariants as ended
 use Rattle.kernel_engine.specs.declared.end.SessionEnd.{SessionEnd}
 use Rattle.kernel_engine.specs.declared.end.SessionEnd.TheVariants.{Eof, Shutdown, Wire, Failed}
 
@@ -26,9 +31,24 @@ ending_text (Shutdown restart) = codes "shutdown"
 ending_text (Wire fault) = codes "fault " ++ decimal (wire_fault_number fault)
 ending_text (Failed fault) = []
 
--- The printed lines of a session: what the shell wrote and what was published, in lower-case digits, and how it ended.
-abbrev pub printed_lines : List ℕ → List ℕ → SessionEnd → List ℕ
-printed_lines shell iopub ending =
+-- the words for an ending
+abbrev pub ending_words : Ending → List ℕ
+ending_words ended.Eof = codes "eof"
+ending_words ended.Shutdown = codes "shutdown"
+ending_words (ended.Fault fault) = codes "fault " ++ decimal (wire_fault_number fault)
+
+-- The printed lines of a session: what the shell wrote and what was published, in lower-case digits, and the words for
+-- how it ended.
+abbrev pub printed_lines : List ℕ → List ℕ → List ℕ → List ℕ
+printed_lines shell iopub words =
     codes "shell " ++ (encode_lower shell ++ 10 ∷
     (codes "iopub " ++ (encode_lower iopub ++ 10 ∷
-    (codes "end " ++ (ending_text ending ++ 10 ∷ [])))))
+    (codes "end " ++ (words ++ 10 ∷ [])))))
+
+-- The text of an event, which is that of a message; the others have none.
+abbrev pub event_text : {W : Type 0} → Event W → List ℕ
+event_text (Message frames) = text frames
+event_text (Attach id writer) = []
+event_text (Subscribe id topic) = []
+event_text (Cancel id topic) = []
+event_text (Detach id) = []

@@ -1,24 +1,32 @@
 -- What a replay says of its input and output by its status.
 use Rattle.std.specs.Prelude.{◌≡◌, ℕ, List, [], Option, Some, None, IfSome, ⊤}
 use Rattle.std.specs.Io.KnownBytes.{Appends, Consumes, IsAtEnd}
+use Rattle.arith_value.specs.Variables.{Bindings}
 use Rattle.kernel_engine.specs.declared.end.SessionEnd.TheVariants.{Eof}
+use Rattle.kernel_engine.specs.Session.{Run}
 use Rattle.jkernel.specs.declared.status.Status.{Status}
 use Rattle.jkernel.specs.declared.status.Status.TheVariants.{Done, Failed, WordsRefused, FileUnreadable, FileRefused}
 use Rattle.jkernel.specs.declared.status.Status.TheVariants.{InputRefused}
 use Rattle.jkernel.specs.Lines.{hex_octets}
 use Rattle.jkernel.specs.Session.{IsPrinted, IsLines}
 
--- The lines of the session with a peer whose octets were read, all of them where it ended with the last.
+-- The lines of the session with a peer whose octets were read, all of them where it ended with the last, for some
+-- courses and dates.
 pub record PrintsPeer (key : List ℕ) (left left' : Option (List ℕ)) (output : List ℕ) : Type 0 where
+  pub runs : List (Run Bindings)
   pub octets : List ℕ
   pub taken : Consumes left left' octets
-  pub printed : IsPrinted key octets output
+  pub printed : IsPrinted key runs octets output
   pub read_out : printed.ending ≡ Eof → IsAtEnd left'
 
--- All of the input was read, and its lines were added to the output.
+-- the lines that are printed for all the octets that a peer sends, for some courses and dates
+abbrev pub PrintsAll : List ℕ → List ℕ → List ℕ → Type 0
+PrintsAll key octets output = (runs : List (Run Bindings)) × IsPrinted key runs octets output
+
+-- All of the input was read, and its lines were added to the output, for some courses and dates.
 abbrev pub IsReplayed : List ℕ → Option (List ℕ) → Option (List ℕ) → Option (List ℕ) → Option (List ℕ) → Type 0
 IsReplayed key input left before after = IfSome input (λ octets. (left ≡ Some [])
-    × ((output : List ℕ) × IsLines key octets output × Appends before after output))
+    × ((runs : List (Run Bindings)) × (output : List ℕ) × IsLines key runs octets output × Appends before after output))
 
 -- The input spells no octets.
 abbrev pub IsNotHex : Option (List ℕ) → Type 0

@@ -1,76 +1,64 @@
--- A session with one peer on the shell channel: what the kernel writes and publishes for the octets that it
--- reads, and how it ends.
-use Rattle.std.specs.Prelude.{◌≡◌, ◌⊎◌, ℕ, ◌+◌, List, [], ◌∷◌, ◌++◌, Some}
+-- A replay: the session with one peer on the shell channel, over shell arithmetic, and the lines that are printed of it.
+use Rattle.std.specs.Prelude.{◌≡◌, ℕ, List, [], ◌∷◌, Some, None}
 use Rattle.std.specs.List.{flat_map}
-use Rattle.zmtp_wire.specs.declared.handshake.socket_type.SocketType.TheVariants.{Router}
-use Rattle.zmtp_wire.specs.declared.traffic.Traffic.{Traffic}
-use Rattle.zmtp_wire.specs.declared.traffic.Traffic.TheVariants as traffic
 use Rattle.zmtp_wire.specs.Frame.{text}
-use Rattle.jmsg_envelope.specs.declared.envelope.Envelope.{Envelope}
-use Rattle.jmsg_envelope.specs.declared.fault.EnvelopeFault.{EnvelopeFault}
-use Rattle.jmsg_envelope.specs.Envelope.{Opened, IsNoEnvelope}
+use Rattle.arith_value.specs.Variables.{Bindings}
+use Rattle.arith_shell.specs.ShellArithmetic.{shell_meaning}
+use Rattle.iopub_relay.specs.declared.event.Event.{Event}
+use Rattle.iopub_relay.specs.declared.event.Event.TheVariants as events
+use Rattle.kernel_block.specs.declared.parts.Parts.{Parts}
+use Rattle.kernel_block.specs.declared.side.Side.TheVariants.{Shell}
+use Rattle.kernel_block.specs.Block.{starting}
 use Rattle.kernel_engine.specs.declared.end.SessionEnd.{SessionEnd}
-use Rattle.kernel_engine.specs.Peer.{Message, Hears}
-use Rattle.jkernel.specs.Block.{starting, block, reply_of, reply_text, ids_of}
-use Rattle.jkernel.specs.Lines.{hex_octets, printed_lines}
+use Rattle.kernel_engine.specs.Laws.{IsSettled}
+use Rattle.kernel_engine.specs.Peer.{Message}
+use Rattle.kernel_engine.specs.Session.{IsSession, Run, Standing}
+use Rattle.jkernel.specs.Lines.{ending_text, hex_octets, printed_lines}
+use Rattle.jkernel.specs.Stamp.{replay_date, replay_sealing, replay_setting}
 
--- a message that the envelope refuses is dropped
-abbrev pub IsDropped : List ℕ → Message → Type 0
-IsDropped key message = (fault : EnvelopeFault) × IsNoEnvelope key message fault
+-- what an engine has come to that said that the kernel starts: no variable is assigned, no cell is counted, the next id
+-- is the second, and the requests to come are done so
+abbrev pub begun : List (Run Bindings) → Standing Bindings
+begun runs = record { state = []; count = 0; next = 2; published = []; runs = runs }
 
--- the messages among traffic
-abbrev pub messages_of : List Traffic → List Message
-messages_of [] = []
-messages_of (traffic.Message message ∷ others) = message ∷ messages_of others
-messages_of (traffic.Command name rest ∷ others) = messages_of others
+-- the parts of such an engine
+abbrev pub begun_engine : {S W : Type 0} → List ℕ → S → Parts Bindings (List (Event W)) S W
+begun_engine key stamp = record {
+  side = Shell;
+  interp = [];
+  count = 0;
+  publishing = record {
+    sink = events.Message (starting (replay_sealing key) replay_date) ∷ [];
+    signer = key;
+    stamp = stamp;
+    next = 2;
+  };
+  owed = None;
+}
 
--- The texts of the replies to these messages in turn, and the messages that are published for them, with ids
--- from this number on.
-abbrev pub AnswersMessages : List ℕ → ℕ → List Message → List ℕ → List Message → Type 0
-AnswersMessages key number [] replies published = (replies ≡ []) × (published ≡ [])
-AnswersMessages key number (message ∷ messages) replies published =
-    (IsDropped key message × AnswersMessages key number messages replies published)
-    ⊎ ((request : Envelope) × (later_replies : List ℕ) × (later_published : List Message) × Opened key message request
-    × AnswersMessages key (number + ids_of request) messages later_replies later_published
-    × (replies ≡ reply_text (reply_of key number request) ++ later_replies)
-    × (published ≡ block key number request ++ later_published))
+-- all that a replay publishes: that the kernel starts, and then the messages of its session
+abbrev pub with_starting : List ℕ → List Message → List Message
+with_starting key messages = starting (replay_sealing key) replay_date ∷ messages
 
--- For all the octets that a peer sends: what the kernel writes to it, what it publishes, with ids from this number
--- on, and how the session ends.
-pub record IsSession (key : List ℕ) (number : ℕ) (octets written : List ℕ) (published : List Message)
-    (ending : SessionEnd) : Type 0 where
-  pub opening : List ℕ
-  pub traffic : List Traffic
-  pub replies : List ℕ
-  pub hears : Hears Router octets opening traffic ending
-  pub serves : AnswersMessages key number (messages_of traffic) replies published
-  pub all : written ≡ opening ++ replies
-
--- the lines that are printed for all the octets that a peer sends: those of the session with it, behind the message
--- that the kernel starts
-pub record IsPrinted (key octets output : List ℕ) : Type 0 where
+-- The lines that are printed for all the octets that a peer sends, where its requests are done by these courses and
+-- dates: those of the session with it, which nothing interrupts and which what it sent ended.
+pub record IsPrinted (key : List ℕ) (runs : List (Run Bindings)) (octets output : List ℕ) : Type 0 where
   pub written : List ℕ
-  pub published : List Message
+  pub left : Standing Bindings
   pub ending : SessionEnd
-  pub session : IsSession key 2 octets written published ending
-  pub printed : output ≡ printed_lines written (flat_map text (starting key ∷ published)) ending
+  pub settled : IsSettled ending
+  pub session : IsSession shell_meaning ⊥ (replay_setting key) (begun runs) octets written left ending
+  pub used : left.runs ≡ []
+  pub printed : output ≡ printed_lines written (flat_map text (with_starting key left.published))
+      (ending_text ending)
 
 -- the lines that are printed for an input: those of the octets that it spells
-pub record IsLines (key input output : List ℕ) : Type 0 where
+pub record IsLines (key : List ℕ) (runs : List (Run Bindings)) (input output : List ℕ) : Type 0 where
   pub octets : List ℕ
   pub spelled : hex_octets input ≡ Some octets
-  pub printed : IsPrinted key octets output
+  pub printed : IsPrinted key runs octets output
 
--- a session has one value: what is written, what is published and how it ends
-abbrev pub SessionHasOneValue : Type 0
-SessionHasOneValue =
-    (key : List ℕ) (number : ℕ) (octets written other_written : List ℕ) (published other_published : List Message)
-    (ending other_ending : SessionEnd)
-    → IsSession key number octets written published ending
-    → IsSession key number octets other_written other_published other_ending
-    → (written ≡ other_written) × (published ≡ other_published) × (ending ≡ other_ending)
-
--- an input has one text of lines at most
+-- an input has one text of lines at most, for given courses and dates
 abbrev pub LinesHaveOneValue : Type 0
-LinesHaveOneValue = (key input output other : List ℕ) → IsLines key input output → IsLines key input other → output
-    ≡ other
+LinesHaveOneValue = (key : List ℕ) (runs : List (Run Bindings)) (input output other : List ℕ)
+    → IsLines key runs input output → IsLines key runs input other → output ≡ other

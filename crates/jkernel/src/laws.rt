@@ -1,16 +1,14 @@
-//! Laws of the definitions of a session, each the contract of a function that does nothing.
-ghost use Rattle.jkernel.specs.Session.{SessionHasOneValue, LinesHaveOneValue};
+//! A law of the lines of a replay, the contract of a function that does nothing.
 
-use jmsg_envelope::{opened_once, refused_is_not_opened};
-use kernel_engine::one_hearing;
+ghost use Rattle.jkernel.specs.Session.{LinesHaveOneValue};
 
-/// For all the octets that a peer sends, what is written, what is published and how the session ends are one
-/// value; and so are the lines of an input.
-pub fn one_value()
-    ensures session { SessionHasOneValue }
-    ensures lines { LinesHaveOneValue }
+use crate::replay::Unstopped;
+use arith_shell::ShellArith;
+use kernel_engine::one_session;
+
+/// The lines of an input are one text, for given courses and dates.
+pub fn one_text()
+    ensures { LinesHaveOneValue }
 {
-    one_hearing();
-    opened_once();
-    refused_is_not_opened();
+    one_session::<ShellArith, Unstopped>();
 }

@@ -3,14 +3,25 @@
 ghost use Rattle.std.specs.Prelude.{◌≡◌, ◌++◌, IfOk, OnOk};
 ghost use Rattle.std.specs.Io.KnownBytes.{Appends};
 ghost use Rattle.hex.specs.Hex.{encode_lower};
-ghost use Rattle.jkernel.specs.Lines.{ending_text, printed_lines};
+ghost use Rattle.jkernel.specs.Lines.{ending_words, printed_lines};
 
-use kernel_engine::SessionEnd;
 use std::alloc::{AllocError, Global};
 use std::io::{self, Write};
+use zmtp_wire::WireFault;
 
 /// Room for the words of the three lines: `shell `, `iopub `, `end fault 255` and three ends.
 const WORDS: usize = 28;
+
+/// How a session ended whose lines are printed.
+#[derive(Clone, Copy, Debug)]
+pub(crate) enum Ending {
+    /// The peer sent its last octet.
+    Eof,
+    /// The peer asked for a shutdown.
+    Shutdown,
+    /// The peer broke the protocol, or sent the command ERROR.
+    Fault(WireFault),
+}
 
 /// Adds octets to a text, as lower-case digits.
 fn append_hex(text: &mut Vec<u8>, octets: &[u8]) -> Result<(), AllocError>
@@ -25,17 +36,16 @@ fn append_hex(text: &mut Vec<u8>, octets: &[u8]) -> Result<(), AllocError>
 }
 
 /// Adds how a session ended to a text.
-fn append_ending(alloc: Global, text: &mut Vec<u8>, ending: SessionEnd) -> Result<(), AllocError>
-    ensures { OnOk result (text.new.items ≡ text.old.items ++ ending_text ending) }
+fn append_ending(alloc: Global, text: &mut Vec<u8>, ending: Ending) -> Result<(), AllocError>
+    ensures { OnOk result (text.new.items ≡ text.old.items ++ ending_words ending) }
 {
     match ending {
-        SessionEnd::Eof => text.extend_from_slice(b"eof"),
-        SessionEnd::Shutdown(_restart) => text.extend_from_slice(b"shutdown"),
-        SessionEnd::Wire(fault) => {
+        Ending::Eof => text.extend_from_slice(b"eof"),
+        Ending::Shutdown => text.extend_from_slice(b"shutdown"),
+        Ending::Fault(fault) => {
             text.extend_from_slice(b"fault ")?;
             text.extend_from_slice(fault.number().to_string(alloc)?.as_bytes())
         }
-        SessionEnd::Failed(_fault) => Ok(()),
     }
 }
 
@@ -44,9 +54,10 @@ pub(crate) fn lines_text(
     alloc: Global,
     shell: &[u8],
     iopub: &[u8],
-    ending: SessionEnd,
+    ending: Ending,
 ) -> Result<Vec<u8>, AllocError>
-    ensures { IfOk result (λ text. text.items ≡ printed_lines shell.now iopub.now ending) }
+    ensures { IfOk result (λ text. text.items ≡ printed_lines shell.now iopub.now
+        (ending_words ending)) }
 {
     let octets = shell.len().saturating_add(iopub.len());
     let room = octets.saturating_mul(2).saturating_add(WORDS);

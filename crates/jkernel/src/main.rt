@@ -2,15 +2,12 @@
 //! kernelspec, as its command words order.
 #![tactic(auto)]
 
-mod answer;
-mod engine;
 mod input;
 mod laws;
 mod lines;
 mod owned;
 mod program;
 mod replay;
-mod session;
 mod stamp;
 mod status;
 mod words;

@@ -1,28 +1,44 @@
 //! A replay: the octets that a peer sends come as hexadecimal text, and what the kernel makes of them is
 //! printed.
 
-ghost use Rattle.std.specs.Prelude.{◌≡◌, ◌⊎◌, [], Some, None, IfOk, IfErr, IfSome};
+ghost use Rattle.std.specs.Prelude.{◌≡◌, ◌⊎◌, [], Some, None, IfOk, IfErr, IfSome, OnOk, ◌++◌, map};
 ghost use Rattle.std.specs.List.{flat_map};
-ghost use Rattle.zmtp_wire.specs.Frame.{text};
-ghost use Rattle.jkernel.specs.Lines.{hex_octets};
-ghost use Rattle.jkernel.specs.Session.{IsPrinted};
 ghost use Rattle.kernel_engine.specs.Laws.{IsSettled};
-ghost use Rattle.jkernel.specs.Replay.{PrintsPeer, Replays, IsReplayed, IsNotHex};
+ghost use Rattle.kernel_engine.specs.Work.{all_items};
+ghost use Rattle.jkernel.specs.Lines.{ending_text, ending_words, event_text, hex_octets, printed_lines};
+ghost use Rattle.jkernel.specs.Session.{begun_engine};
+ghost use Rattle.jkernel.specs.Replay.{IsNotHex, IsReplayed, PrintsAll, PrintsPeer, Replays};
 
-use crate::engine::Engine;
 use crate::input::{HexFault, octets_of, read_all};
-use crate::lines::{lines_text, write_out};
-use crate::session::session;
+use crate::lines::{Ending, lines_text, write_out};
+use crate::stamp::ReplayStamp;
 use crate::status::Status;
+use arith_shell::ShellArith;
+use iopub_queue::ListSink;
+use iopub_relay::Event;
 use jmsg_envelope::Signer;
-use kernel_engine::{EngineFault, SessionEnd, one_hearing};
-use listed::Frames;
+use kernel_engine::{Engine, EngineFault, SessionEnd, Side, Stop, one_session, session};
 use std::alloc::{AllocError, Global};
 use std::io::{Read, Write};
 use zmtp_wire::{Counted, Inlet, WireFault, write_message};
 
 /// The most reads of one session.
 const TURNS: u64 = 1_000_000_000;
+
+/// Stops nothing.
+#[derive(Clone, Copy, Debug)]
+pub(crate) struct Unstopped;
+
+impl Stop for Unstopped {
+    ghost may_ask = { λ _. ⊥ };
+
+    fn asked(&self) -> bool {
+        false
+    }
+}
+
+/// The engine of a replay, whose subscribers have nothing that they are written to.
+type ReplayEngine = Engine<ShellArith, ListSink<Event<Vec<u8>>>, ReplayStamp, Vec<u8>>;
 
 /// Replays one peer of the shell channel: reads hexadecimal text to its end, white space skipped, of the octets
 /// that the peer sends, answers them under the key, and prints three lines: `shell ` and the octets that were
@@ -89,10 +105,10 @@ fn read_octets<R: Read>(alloc: Global, reader: &mut R) -> Result<Vec<u8>, Status
 
 /// The lines of the session with a peer that sends these octets.
 fn answer_octets(alloc: Global, key: Vec<u8>, octets: &[u8]) -> Result<Vec<u8>, EngineFault>
-    ensures { IfOk result (λ lines. IsPrinted key.items octets.now lines.items) }
+    ensures { IfOk result (λ lines. PrintsAll key.items octets.now lines.items) }
 {
-    // What a session that a fault ended comes to holds of all the octets, read or not.
-    one_hearing();
+    // What a session that didn't end with the octets comes to holds of all of them, read or not.
+    one_session::<ShellArith, Unstopped>();
     answer_peer(alloc, key, &mut Counted::new(octets))
 }
 
@@ -105,37 +121,91 @@ pub(crate) fn answer_peer<R: Inlet>(
     ensures { IfOk result (λ lines. PrintsPeer key.items (R.inflow reader.old).left (R.inflow reader.new).left
         lines.items) }
 {
-    let mut engine = Engine::new(alloc, Signer::new(key));
-    engine.start(alloc)?;
+    let mut engine = begun(alloc, key)?;
     let mut writer = Counted::new(Vec::new(alloc));
-    let end = settled(session(alloc, reader, &mut writer, &mut engine, TURNS))?;
+    let end = session(alloc, reader, &mut writer, &mut engine, &Unstopped, TURNS);
+    let ending = settled(end)?;
+    let events = published(engine)?;
     let shell = writer.into_inner();
-    let iopub = published_text(alloc, &engine.published)?;
-    let lines = lines_text(alloc, &shell, &iopub, end)?;
+    let lines = session_lines(alloc, &shell, &events, ending)?;
     Ok(lines)
 }
 
+/// An engine of the shell that published that the kernel starts.
+fn begun(alloc: Global, key: Vec<u8>) -> Result<ReplayEngine, EngineFault>
+    ensures { IfOk result (λ engine. engine ≡ begun_engine key.items engine.publishing.stamp) }
+{
+    let interp = ShellArith::new(alloc);
+    let sink = ListSink::new(alloc);
+    let mut engine = Engine::new(Side::Shell, interp, sink, ReplayStamp, Signer::new(key));
+    engine.start(alloc)?;
+    Ok(engine)
+}
+
 /// How a session ended that its peer ended: its lines are printed.
-fn settled(end: SessionEnd) -> Result<SessionEnd, EngineFault>
-    ensures { IfOk result (λ kept. (kept ≡ end) × IsSettled end) }
+fn settled(end: SessionEnd) -> Result<Ending, EngineFault>
+    ensures { IfOk result (λ ending. (ending_words ending ≡ ending_text end) × IsSettled end) }
 {
     match end {
-        SessionEnd::Failed(fault) => Err(fault),
+        SessionEnd::Eof => Ok(Ending::Eof),
+        SessionEnd::Shutdown(_restart) => Ok(Ending::Shutdown),
         SessionEnd::Wire(WireFault::OutOfMemory) => Err(EngineFault::Memory),
-        SessionEnd::Eof | SessionEnd::Shutdown(_) | SessionEnd::Wire(_) => Ok(end),
+        SessionEnd::Wire(fault) => Ok(Ending::Fault(fault)),
+        SessionEnd::Failed(fault) => Err(fault),
     }
 }
 
+/// All that an engine published, where no idle is owed in the end.
+fn published(engine: ReplayEngine) -> Result<Vec<Event<Vec<u8>>>, EngineFault>
+    ensures { IfOk result (λ events. map Some events.items ≡ all_items (map Some) engine) }
+{
+    let end = engine.close();
+    if end.owed() {
+        return Err(EngineFault::Memory);
+    }
+    let parts = end.into_parts();
+    let publishing = parts.publishing;
+    let sink = publishing.sink;
+    Ok(sink.into_items())
+}
+
+/// The lines of a session, of what was written, what was published and how it ended.
+fn session_lines(
+    alloc: Global,
+    shell: &[u8],
+    events: &[Event<Vec<u8>>],
+    ending: Ending,
+) -> Result<Vec<u8>, AllocError>
+    ensures { IfOk result (λ lines. lines.items ≡ printed_lines shell.now (flat_map event_text events.now)
+        (ending_words ending)) }
+{
+    let iopub = events_text(alloc, events)?;
+    lines_text(alloc, shell, &iopub, ending)
+}
+
 /// The texts of published messages, one after the other.
-fn published_text(alloc: Global, messages: &[Frames]) -> Result<Vec<u8>, AllocError>
-    ensures { IfOk result (λ octets. octets.items ≡ flat_map text messages.now) }
+fn events_text(alloc: Global, events: &[Event<Vec<u8>>]) -> Result<Vec<u8>, AllocError>
+    ensures { IfOk result (λ octets. octets.items ≡ flat_map event_text events.now) }
 {
     let mut octets = Vec::new(alloc);
-    for message in messages {
-        // A message without frames has no text.
-        if !message.is_empty() && write_message(message.as_slice(), &mut octets).is_err() {
-            return Err(AllocError);
-        }
+    for event in events {
+        append_event(event, &mut octets)?;
     }
     Ok(octets)
+}
+
+/// Adds the text of an event, if it is a message.
+fn append_event(event: &Event<Vec<u8>>, octets: &mut Vec<u8>) -> Result<(), AllocError>
+    ensures { OnOk result (octets.new.items ≡ octets.old.items ++ event_text event.now) }
+{
+    match event {
+        Event::Message(frames) => {
+            // A message without frames has no text.
+            if !frames.is_empty() && write_message(frames.as_slice(), octets).is_err() {
+                return Err(AllocError);
+            }
+            Ok(())
+        }
+        Event::Attach(..) | Event::Subscribe(..) | Event::Cancel(..) | Event::Detach(_) => Ok(()),
+    }
 }

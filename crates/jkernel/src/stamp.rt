@@ -2,7 +2,7 @@
 
 ghost use Rattle.std.specs.Prelude.{◌≡◌, ◌++◌, codes, IfOk, decimal, string_bytes, bytes_eq};
 ghost use Rattle.jmsg_envelope.specs.Stamp.{numbered, numbered-differ};
-ghost use Rattle.jkernel.specs.Block.{replay_session, replay_id, replay_date};
+ghost use Rattle.jkernel.specs.Stamp.{replay_session, replay_id, replay_date};
 
 use jmsg_envelope::Stamp;
 use std::alloc::{AllocError, Global};

@@ -1,26 +1,20 @@
 //! The three lines, and writing them out.
 
-use crate::lines::{lines_text, write_out};
+use crate::lines::{Ending, lines_text, write_out};
 use crate::tests::devices::{Buffered, Closed, Full};
-use kernel_engine::SessionEnd;
 use std::test::Fail;
 use zmtp_wire::WireFault;
 
 #[test]
 fn prints_a_session_that_broke_the_protocol(rt: HostRuntime) -> Result<(), Fail> {
-    let text = lines_text(
-        rt.alloc(),
-        b"\xab",
-        b"",
-        SessionEnd::Wire(WireFault::Version),
-    )?;
+    let text = lines_text(rt.alloc(), b"\xab", b"", Ending::Fault(WireFault::Version))?;
     assert!(rt; text.as_slice() == b"shell ab\niopub \nend fault 2\n".as_slice());
     Ok(())
 }
 
 #[test]
 fn prints_a_session_that_ended(rt: HostRuntime) -> Result<(), Fail> {
-    let text = lines_text(rt.alloc(), b"", b"\x00\xff", SessionEnd::Eof)?;
+    let text = lines_text(rt.alloc(), b"", b"\x00\xff", Ending::Eof)?;
     assert!(rt; text.as_slice() == b"shell \niopub 00ff\nend eof\n".as_slice());
     Ok(())
 }
