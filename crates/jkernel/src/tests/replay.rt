@@ -215,13 +215,6 @@ fn what_gets_no_reply_is_busy_and_idle_alone(rt: HostRuntime) -> Result<(), Fail
         ("comm_open", "["),
         ("comm_msg", "{}"),
         ("comm_close", "[]"),
-        ("execute_request", r#"{"code":"1"}"#),
-        ("execute_request", "{"),
-        ("complete_request", "{}"),
-        ("inspect_request", "{}"),
-        ("is_complete_request", "{}"),
-        ("shutdown_request", "{}"),
-        ("interrupt_request", "{}"),
     ] {
         let header = format!(in alloc; "{{\"msg_id\":\"a\",\"msg_type\":\"{asked}\"}}")?;
         let sent = asks(alloc, &header, content)?;

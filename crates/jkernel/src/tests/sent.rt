@@ -58,10 +58,15 @@ impl Sent {
         self.greeting(0, 3, "NULL")
     }
 
-    /// A frame of at most 255 octets.
+    /// A frame, with a size of eight octets where it has more than 255.
     pub(crate) fn frame(mut self, flags: u8, body: &[u8]) -> Result<Sent, Fail> {
-        self.octets.push(flags)?;
-        self.octets.push(u8::try_from(body.len())?)?;
+        if let Ok(size) = u8::try_from(body.len()) {
+            self.octets.extend_from_slice(&[flags, size])?;
+        } else {
+            self.octets.push(flags | 2)?;
+            let size = u64::try_from(body.len())?;
+            self.octets.extend_from_slice(&size.to_be_bytes())?;
+        }
         self.octets.extend_from_slice(body)?;
         Ok(self)
     }
@@ -177,7 +182,7 @@ impl Sent {
 }
 
 /// The header of the kernel's message of this number.
-fn header(alloc: Global, number: u64, msg_type: &str) -> Result<String, Fail> {
+pub(crate) fn header(alloc: Global, number: u64, msg_type: &str) -> Result<String, Fail> {
     let date = "2000-01-01T00:00:00.000000Z";
     let front = format!(in alloc; "{{\"date\":\"{date}\",\"msg_id\":\"replay_s{number}\",")?;
     let back = "\"session\":\"replay\",\"username\":\"kernel\",\"version\":\"5.3\"}";
