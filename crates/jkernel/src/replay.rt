@@ -133,7 +133,7 @@ fn published_text(alloc: Global, messages: &[Frames]) -> Result<Vec<u8>, AllocEr
     let mut octets = Vec::new(alloc);
     for message in messages {
         // A message without frames has no text.
-        if !message.is_empty() && write_message(message.as_slice(), &mut octets).is_err() {
+        if !message.is_empty() && write_message(alloc, message.as_slice(), &mut octets).is_err() {
             return Err(AllocError);
         }
     }

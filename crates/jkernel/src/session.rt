@@ -42,7 +42,7 @@ impl Server for Engine {
             Err(fault) => return Err(SessionEnd::Failed(fault)),
         };
         if let Some(message) = message {
-            let Ok(()) = write_message(message.as_slice(), reply) else {
+            let Ok(()) = write_message(alloc, message.as_slice(), reply) else {
                 return Err(SessionEnd::Failed(EngineFault::Memory));
             };
         }

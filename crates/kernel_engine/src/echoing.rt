@@ -26,12 +26,12 @@ impl Server for Heartbeat {
 
     fn answer(
         &mut self,
-        _alloc: Global,
+        alloc: Global,
         frames: Frames,
         reply: &mut Vec<u8>,
     ) -> Result<Answered, SessionEnd> {
         // A message without frames has no text.
-        if !frames.is_empty() && write_message(frames.as_slice(), reply).is_err() {
+        if !frames.is_empty() && write_message(alloc, frames.as_slice(), reply).is_err() {
             return Err(SessionEnd::Failed(EngineFault::Memory));
         }
         Ok(Answered::Done)

@@ -60,7 +60,7 @@ impl Server for Clerk {
         let Ok(number) = numbered(alloc, self.answered) else {
             return Err(SessionEnd::Failed(EngineFault::Memory));
         };
-        if number.is_empty() || write_message(&number, reply).is_err() {
+        if number.is_empty() || write_message(alloc, &number, reply).is_err() {
             return Err(SessionEnd::Failed(EngineFault::Memory));
         }
         self.answered = self.answered.saturating_add(1);
