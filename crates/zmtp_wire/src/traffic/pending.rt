@@ -276,7 +276,7 @@ impl Pending {
     {
         self.stage = Stage::Flags;
         if flags.command {
-            return Ok(Some(command_of(alloc, &body)?));
+            return Ok(Some(command_of(alloc, body)?));
         }
         if flags.more {
             self.continue_with(flags.long, body)?;
