@@ -9,9 +9,8 @@ ghost use Rattle.jkernel.specs.Served.{ServesOne};
 use crate::engine::Engine;
 use jmsg_envelope::{EnvelopeFault, open_envelope};
 use kernel_engine::{Answered, EngineFault, Server, SessionEnd, serve};
-use listed::Frames;
 use std::alloc::Global;
-use zmtp_wire::{Inlet, Outlet, SocketType, write_message};
+use zmtp_wire::{Inlet, Message, Outlet, SocketType, write_message};
 
 impl Server for Engine {
     ghost use Rattle.std.specs.Prelude.{[]};
@@ -24,7 +23,7 @@ impl Server for Engine {
     fn answer(
         &mut self,
         alloc: Global,
-        frames: Frames,
+        frames: Message,
         reply: &mut Vec<u8>,
     ) -> Result<Answered, SessionEnd> {
         let request = match open_envelope(alloc, &self.signer, frames.into_vec()) {

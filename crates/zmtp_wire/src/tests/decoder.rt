@@ -1,6 +1,6 @@
 //! Messages and commands, read and written.
 
-use crate::{Decoder, Fed, Limits, Traffic, write_message};
+use crate::{Decoder, Fed, Limits, Message, Traffic, write_message};
 use std::alloc::Global;
 use std::test::Fail;
 
@@ -208,6 +208,20 @@ fn a_message_is_given_its_room_at_once(rt: HostRuntime) -> Result<(), Fail> {
     write_message(alloc, &frames, &mut out)?;
     assert_eq!(rt; out.len(), 306);
     assert_eq!(rt; out.capacity(), 306);
+    Ok(())
+}
+
+#[test]
+fn a_message_gives_its_frames_back(rt: HostRuntime) -> Result<(), Fail> {
+    let alloc = rt.alloc();
+    let message = Message::new(vec![in alloc; b"A".to_vec(alloc)?, b"BC".to_vec(alloc)?]?);
+    let [first, second] = message.as_slice() else {
+        return Err(Fail::from("two frames"));
+    };
+    assert_eq!(rt; first.as_slice(), b"A".as_slice());
+    assert_eq!(rt; second.as_slice(), b"BC".as_slice());
+    let frames = message.into_vec();
+    assert_eq!(rt; frames.len(), 2);
     Ok(())
 }
 

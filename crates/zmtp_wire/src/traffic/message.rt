@@ -1,4 +1,4 @@
-//! Writing a message.
+//! A message that was read, and writing one.
 
 ghost use Rattle.std.specs.Prelude.{◌≡◌, ◌+◌, ◌<◌, ◌≤◌, ◌++◌, length, OnOk, OnErr, IfErr, IfSome, IfNone, vec_len};
 ghost use Rattle.std.specs.Prelude.{vec_capacity, false};
@@ -8,7 +8,53 @@ ghost use Rattle.zmtp_wire.specs.declared.fault.WireFault.TheVariants.{OutOfMemo
 
 use crate::fault::WireFault;
 use crate::traffic::flags::Flags;
+use listed::Frames;
 use std::alloc::Global;
+use std::marker::Model;
+
+/// The frames of a message that are owned, at least one: a contract sees the list of their bodies.
+#[derive(Debug, Drop)]
+pub struct Message {
+    /// The frames, each with its body.
+    frames: Frames,
+}
+
+impl Model for Message {
+    ghost use Rattle.std.specs.Prelude.{ℕ, ◌<◌, List, length};
+
+    ghost Value = { List (List ℕ) };
+
+    ghost view = { λ message. message.frames };
+
+    ghost invariant = { λ message. 0 < length message.frames };
+}
+
+impl Message {
+    /// The message of these frames, without a copy.
+    pub fn new(frames: Vec<Vec<u8>>) -> Message
+        requires { 0 < length frames.items }
+        ensures { result ≡ bodies frames.items }
+    {
+        Message {
+            frames: Frames::new(frames),
+        }
+    }
+
+    /// The frames as a slice, each with its body.
+    pub fn as_slice(&self) -> &[Vec<u8>]
+        ensures frames { bodies result.now ≡ self.now }
+        ensures some { 0 < length result.now }
+    {
+        self.frames.as_slice()
+    }
+
+    /// The `Vec` that holds the frames, without a copy.
+    pub fn into_vec(self) -> Vec<Vec<u8>>
+        ensures { bodies result.items ≡ self }
+    {
+        self.frames.into_vec()
+    }
+}
 
 /// Appends the text of a message of these frames (ZMTP 3.0, "Framing"): MORE on all but the last, a size of
 /// one octet up to 255 and of eight above. Room for all of it is asked for once, before the first octet is
