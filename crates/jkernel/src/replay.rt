@@ -189,19 +189,19 @@ fn events_text(alloc: Global, events: &[Event<Vec<u8>>]) -> Result<Vec<u8>, Allo
 {
     let mut octets = Vec::new(alloc);
     for event in events {
-        append_event(event, &mut octets)?;
+        append_event(alloc, event, &mut octets)?;
     }
     Ok(octets)
 }
 
 /// Adds the text of an event, if it is a message.
-fn append_event(event: &Event<Vec<u8>>, octets: &mut Vec<u8>) -> Result<(), AllocError>
+fn append_event(alloc: Global, event: &Event<Vec<u8>>, octets: &mut Vec<u8>) -> Result<(), AllocError>
     ensures { OnOk result (octets.new.items ≡ octets.old.items ++ event_text event.now) }
 {
     match event {
         Event::Message(frames) => {
             // A message without frames has no text.
-            if !frames.is_empty() && write_message(frames.as_slice(), octets).is_err() {
+            if !frames.is_empty() && write_message(alloc, frames.as_slice(), octets).is_err() {
                 return Err(AllocError);
             }
             Ok(())

@@ -8,9 +8,8 @@ use crate::end::SessionEnd;
 use crate::server::{Answered, Server};
 use crate::serving::serve;
 use kernel_block::EngineFault;
-use listed::Frames;
 use std::alloc::Global;
-use zmtp_wire::{Inlet, Outlet, SocketType, write_message};
+use zmtp_wire::{Inlet, Message, Outlet, SocketType, write_message};
 
 /// Writes each message back.
 #[derive(Clone, Copy, Debug)]
@@ -26,12 +25,11 @@ impl Server for Heartbeat {
 
     fn answer(
         &mut self,
-        _alloc: Global,
-        frames: Frames,
+        alloc: Global,
+        message: Message,
         reply: &mut Vec<u8>,
     ) -> Result<Answered, SessionEnd> {
-        // A message without frames has no text.
-        if !frames.is_empty() && write_message(frames.as_slice(), reply).is_err() {
+        if write_message(alloc, message.as_slice(), reply).is_err() {
             return Err(SessionEnd::Failed(EngineFault::Memory));
         }
         Ok(Answered::Done)

@@ -10,9 +10,9 @@ use crate::listening::{Listener, listen};
 use crate::server::{Answered, Server};
 use crate::shaking::Shaken;
 use crate::turn::put;
-use listed::{Frames, Octets};
+use listed::Octets;
 use std::alloc::Global;
-use zmtp_wire::{Inlet, Outlet, Traffic};
+use zmtp_wire::{Inlet, Message, Outlet, Traffic};
 
 /// A server at the writer of its peer.
 #[derive(Drop)]
@@ -29,7 +29,7 @@ struct Desk<'w, 's, 'r, W, S> {
 
 impl<W: Outlet, S: Server> Desk<'_, '_, '_, W, S> {
     /// Has a message answered, and writes what answers it.
-    fn message(&mut self, alloc: Global, frames: Frames) -> Result<(), SessionEnd>
+    fn message(&mut self, alloc: Global, message: Message) -> Result<(), SessionEnd>
         ensures names { (self.new.writer.ghost_name ≡ self.old.writer.ghost_name)
             × (self.new.server.ghost_name ≡ self.old.server.ghost_name)
             × (self.new.reply.ghost_name ≡ self.old.reply.ghost_name)
@@ -37,13 +37,13 @@ impl<W: Outlet, S: Server> Desk<'_, '_, '_, W, S> {
         ensures responds { Responds S.answers (record {
           outflow = W.outflow self.old.writer.now;
           serving = record { server = self.old.server.now; dropped = self.old.dropped };
-        }) (Traffic.Message frames) (record {
+        }) (Traffic.Message message) (record {
           outflow = W.outflow self.new.writer.now;
           serving = record { server = self.new.server.now; dropped = self.new.dropped };
         }) result }
     {
         self.reply.clear();
-        let answered = self.server.answer(alloc, frames, self.reply);
+        let answered = self.server.answer(alloc, message, self.reply);
         self.dropped = mark(self.dropped, &answered);
         put(self.writer, self.reply)?;
         go(answered)
@@ -104,7 +104,7 @@ impl<W: Outlet, S: Server> Listener for Desk<'_, '_, '_, W, S> {
 
     fn hear(&mut self, alloc: Global, traffic: Traffic) -> Result<(), SessionEnd> {
         match traffic {
-            Traffic::Message(frames) => self.message(alloc, frames),
+            Traffic::Message(message) => self.message(alloc, message),
             Traffic::Command(name, rest) => self.command(name, rest),
         }
     }

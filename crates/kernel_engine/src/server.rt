@@ -5,8 +5,8 @@ ghost use Rattle.kernel_engine.specs.Fault.{IsServerEnd};
 ghost use Rattle.kernel_engine.specs.Server.{Answering};
 
 use crate::end::SessionEnd;
-use listed::Frames;
 use std::alloc::Global;
+use zmtp_wire::Message;
 
 /// What became of a message, where the session goes on.
 #[derive(Clone, Copy, Debug, PartialEq, Eq)]
@@ -26,8 +26,8 @@ pub trait Server {
     /// The ghost names of the references that the server holds, which no step changes.
     ghost names: { Self → List ℕ };
 
-    /// Answers the message of these frames: adds the octets that are to be written to the peer, none where the
-    /// message has no answer. They are written also where the session ends then.
+    /// Answers the message: adds the octets that are to be written to the peer, none where it has no answer. They
+    /// are written also where the session ends then.
     ///
     /// # Errors
     ///
@@ -35,11 +35,11 @@ pub trait Server {
     fn answer(
         &mut self,
         alloc: Global,
-        frames: Frames,
+        message: Message,
         reply: &mut Vec<u8>,
     ) -> Result<Answered, SessionEnd>
         ensures names { names self.new ≡ names self.old }
         ensures answered { (octets : List ℕ) × (reply.new.items ≡ reply.old.items ++ octets)
-            × answers self.old frames octets self.new result }
+            × answers self.old message octets self.new result }
         ensures end { IfErr result IsServerEnd };
 }

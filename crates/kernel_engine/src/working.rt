@@ -17,16 +17,15 @@ use iopub_queue::Publish;
 use iopub_relay::Event;
 use jmsg_envelope::{EnvelopeFault, Stamp, open_envelope};
 use kernel_block::{Engine, EngineFault, Handled, Stop};
-use listed::Frames;
 use std::alloc::Global;
-use zmtp_wire::{Inlet, Outlet, SocketType, write_message};
+use zmtp_wire::{Inlet, Message, Outlet, SocketType, write_message};
 
 /// What does the messages of a peer, where the cell that runs may be stopped.
 trait Worker {
     /// One step, by whether a stop may come.
     ghost works: { Type 0 → Answering Self };
 
-    /// Does the message of these frames: adds the octets that answer it.
+    /// Does a message: adds the octets that answer it.
     ///
     /// # Errors
     ///
@@ -34,12 +33,12 @@ trait Worker {
     fn work<T: Stop>(
         &mut self,
         alloc: Global,
-        frames: Frames,
+        message: Message,
         stop: &T,
         reply: &mut Vec<u8>,
     ) -> Result<Answered, SessionEnd>
         ensures worked { (octets : List ℕ) × (reply.new.items ≡ reply.old.items ++ octets)
-            × works (T.may_ask stop.now) self.old frames octets self.new result }
+            × works (T.may_ask stop.now) self.old message octets self.new result }
         ensures end { IfErr result IsServerEnd };
 }
 
@@ -54,11 +53,11 @@ where
     fn work<T: Stop>(
         &mut self,
         alloc: Global,
-        frames: Frames,
+        message: Message,
         stop: &T,
         reply: &mut Vec<u8>,
     ) -> Result<Answered, SessionEnd> {
-        let request = match open_envelope(alloc, self.signer(), frames.into_vec()) {
+        let request = match open_envelope(alloc, self.signer(), message.into_vec()) {
             Ok(request) => request,
             Err(EnvelopeFault::OutOfMemory) => return Ok(Answered::Dropped),
             Err(
@@ -69,7 +68,7 @@ where
             ) => return Ok(Answered::Done),
         };
         match self.handle(alloc, request, stop) {
-            Ok(handled) => finish(handled, reply),
+            Ok(handled) => finish(alloc, handled, reply),
             Err(fault) => Err(SessionEnd::Failed(fault)),
         }
     }
@@ -77,14 +76,18 @@ where
 
 /// Adds the text of the reply to a request that was handled, where it has one, and ends the session where the request
 /// asked for a shutdown.
-fn finish(handled: Handled, reply: &mut Vec<u8>) -> Result<Answered, SessionEnd>
+fn finish(
+    alloc: Global,
+    handled: Handled,
+    reply: &mut Vec<u8>,
+) -> Result<Answered, SessionEnd>
     requires { IfSome handled.reply (λ frames. 0 < length frames) }
     ensures finishes { (octets : List ℕ) × (reply.new.items ≡ reply.old.items ++ octets)
         × Finishes handled octets result }
     ensures end { IfErr result IsServerEnd }
 {
-    if let Some(message) = &handled.reply {
-        if write_message(message.as_slice(), reply).is_err() {
+    if let Some(frames) = &handled.reply {
+        if write_message(alloc, frames.as_slice(), reply).is_err() {
             return Err(SessionEnd::Failed(EngineFault::Memory));
         }
     }
@@ -115,10 +118,10 @@ impl<E: Worker, T: Stop> Server for Working<'_, '_, E, T> {
     fn answer(
         &mut self,
         alloc: Global,
-        frames: Frames,
+        message: Message,
         reply: &mut Vec<u8>,
     ) -> Result<Answered, SessionEnd> {
-        self.worker.work(alloc, frames, self.stop, reply)
+        self.worker.work(alloc, message, self.stop, reply)
     }
 }
 

@@ -20,7 +20,7 @@ pub use traffic::Traffic;
 pub use traffic::decoder::{Decoder, Fed};
 pub use traffic::frame::Frame;
 pub use traffic::limits::Limits;
-pub use traffic::message::write_message;
+pub use traffic::message::{Message, write_message};
 
 #[cfg(test)]
 mod tests;

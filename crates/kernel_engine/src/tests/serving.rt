@@ -2,11 +2,10 @@
 
 use super::{ERROR, GREETING, PEER_GREETING, Peer, READY_DEALER, READY_ROUTER, Sink, join, memory};
 use crate::{Answered, EngineFault, Server, SessionEnd, serve};
-use listed::Frames;
 use std::alloc::{AllocError, Global};
 use std::io::ErrorKind;
 use std::test::Fail;
-use zmtp_wire::{Counted, SocketType, WireFault, write_message};
+use zmtp_wire::{Counted, Message, SocketType, WireFault, write_message};
 
 /// How a clerk ends the session at its last message.
 #[derive(Clone, Copy, Debug, Drop)]
@@ -41,13 +40,13 @@ impl Server for Clerk {
     fn answer(
         &mut self,
         alloc: Global,
-        frames: Frames,
+        message: Message,
         reply: &mut Vec<u8>,
     ) -> Result<Answered, SessionEnd> {
-        if is_frame(&frames, b"hush") {
+        if is_frame(&message, b"hush") {
             return Ok(Answered::Done);
         }
-        if is_frame(&frames, b"drop") {
+        if is_frame(&message, b"drop") {
             return Ok(Answered::Dropped);
         }
         let ends = self.answered == self.last;
@@ -60,7 +59,7 @@ impl Server for Clerk {
         let Ok(number) = numbered(alloc, self.answered) else {
             return Err(SessionEnd::Failed(EngineFault::Memory));
         };
-        if number.is_empty() || write_message(&number, reply).is_err() {
+        if number.is_empty() || write_message(alloc, &number, reply).is_err() {
             return Err(SessionEnd::Failed(EngineFault::Memory));
         }
         self.answered = self.answered.saturating_add(1);
@@ -77,8 +76,8 @@ fn worn() -> SessionEnd {
 }
 
 /// Whether a message's first frame is this text.
-fn is_frame(frames: &Frames, text: &[u8]) -> bool {
-    match frames.as_slice().first() {
+fn is_frame(message: &Message, text: &[u8]) -> bool {
+    match message.as_slice().first() {
         Some(frame) => frame.as_slice() == text,
         None => false,
     }

@@ -1,6 +1,6 @@
 //! Messages and commands, read and written.
 
-use crate::{Decoder, Fed, Limits, Traffic, write_message};
+use crate::{Decoder, Fed, Limits, Message, Traffic, write_message};
 use std::alloc::Global;
 use std::test::Fail;
 
@@ -175,7 +175,7 @@ fn writes_the_shortest_size(rt: HostRuntime) -> Result<(), Fail> {
     let alloc = rt.alloc();
     let mut out = Vec::new(alloc);
     let frames = vec![in alloc; Vec::new(alloc), b"abc".to_vec(alloc)?]?;
-    write_message(&frames, &mut out)?;
+    write_message(alloc, &frames, &mut out)?;
     assert_eq!(rt; out.as_slice(), b"\x01\x00\x00\x03abc".as_slice());
 
     for (len, head) in [
@@ -187,9 +187,41 @@ fn writes_the_shortest_size(rt: HostRuntime) -> Result<(), Fail> {
         let mut want = head.to_vec(alloc)?;
         want.extend_from_slice(&body)?;
         let frames = vec![in alloc; body]?;
-        write_message(&frames, &mut out)?;
+        write_message(alloc, &frames, &mut out)?;
         assert_eq!(rt; out.as_slice(), want.as_slice());
     }
+    Ok(())
+}
+
+#[test]
+fn a_message_is_given_its_room_at_once(rt: HostRuntime) -> Result<(), Fail> {
+    let alloc = rt.alloc();
+    let body = vec![in alloc; 7u8; 100]?;
+    let frames = vec![in alloc; body.clone()?, body.clone()?, body]?;
+    // Frame by frame the third would have doubled what the first two took.
+    let mut out = Vec::new(alloc);
+    write_message(alloc, &frames, &mut out)?;
+    assert_eq!(rt; out.len(), 306);
+    assert_eq!(rt; out.capacity(), 306);
+    // Where there is room nothing grows.
+    out.clear();
+    write_message(alloc, &frames, &mut out)?;
+    assert_eq!(rt; out.len(), 306);
+    assert_eq!(rt; out.capacity(), 306);
+    Ok(())
+}
+
+#[test]
+fn a_message_gives_its_frames_back(rt: HostRuntime) -> Result<(), Fail> {
+    let alloc = rt.alloc();
+    let message = Message::new(vec![in alloc; b"A".to_vec(alloc)?, b"BC".to_vec(alloc)?]?);
+    let [first, second] = message.as_slice() else {
+        return Err(Fail::from("two frames"));
+    };
+    assert_eq!(rt; first.as_slice(), b"A".as_slice());
+    assert_eq!(rt; second.as_slice(), b"BC".as_slice());
+    let frames = message.into_vec();
+    assert_eq!(rt; frames.len(), 2);
     Ok(())
 }
 
@@ -373,10 +405,10 @@ fn written_messages_are_read_again(rt: HostRuntime) -> Result<(), Fail> {
     let abc = vec![in alloc; b"abc".to_vec(alloc)?]?;
     let two = vec![in alloc; b"A".to_vec(alloc)?, b"BC".to_vec(alloc)?]?;
     let mut out = b"\x04\x03\x02OK".to_vec(alloc)?;
-    write_message(&empty, &mut out)?;
+    write_message(alloc, &empty, &mut out)?;
     assert_eq!(rt; out.as_slice(), b"\x04\x03\x02OK\x00\x00".as_slice());
-    write_message(&abc, &mut out)?;
-    write_message(&two, &mut out)?;
+    write_message(alloc, &abc, &mut out)?;
+    write_message(alloc, &two, &mut out)?;
     assert!(rt; out.ends_with(b"\x00\x03abc\x01\x01A\x00\x02BC"));
     let found = fed(alloc, &out)?;
     assert_eq!(rt; found.as_str(), "C 4f4b ;M ;M 616263;M 41 4243;");

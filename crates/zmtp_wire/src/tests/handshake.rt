@@ -1,10 +1,10 @@
 //! The greeting, READY and socket types.
 
 use crate::{
-    Decoder, Limits, Peer, Ready, SocketType, Traffic, WireFault, greeting, read_greeting,
+    Decoder, Limits, Message, Peer, Ready, SocketType, Traffic, WireFault, greeting, read_greeting,
     read_ready, ready_text,
 };
-use listed::{Frames, Octets};
+use listed::Octets;
 use std::alloc::{AllocError, Global};
 use std::test::Fail;
 
@@ -94,7 +94,7 @@ fn lists_of_properties(rt: HostRuntime) -> Result<(), Fail> {
 #[test]
 fn first_that_is_no_ready(rt: HostRuntime) -> Result<(), Fail> {
     let frames = vec![in rt.alloc(); b"READY".to_vec(rt.alloc())?]?;
-    let message = Traffic::Message(Frames::new(frames));
+    let message = Traffic::Message(Message::new(frames));
     assert_eq!(rt;
         read_ready(&message, SocketType::Router),
         Err(WireFault::Command)

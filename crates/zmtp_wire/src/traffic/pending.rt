@@ -13,8 +13,9 @@ use crate::traffic::command::command_of;
 use crate::traffic::flags::Flags;
 use crate::traffic::frame::Frame;
 use crate::traffic::limits::Limits;
+use crate::traffic::message::Message;
 use crate::traffic::size::{SizeOctets, size_behind};
-use listed::{Frames, Octets};
+use listed::Octets;
 use std::alloc::{AllocError, Global};
 use std::mem;
 
@@ -276,7 +277,7 @@ impl Pending {
     {
         self.stage = Stage::Flags;
         if flags.command {
-            return Ok(Some(command_of(alloc, &body)?));
+            return Ok(Some(command_of(alloc, body)?));
         }
         if flags.more {
             self.continue_with(flags.long, body)?;
@@ -323,7 +324,7 @@ impl Pending {
 }
 
 /// Takes out the bodies of these frames, and puts the last one behind them, none of them copied.
-fn message(alloc: Global, frames: &mut Vec<Frame>, last: Vec<u8>) -> Result<Frames, AllocError>
+fn message(alloc: Global, frames: &mut Vec<Frame>, last: Vec<u8>) -> Result<Message, AllocError>
     ensures message { IfOk result (λ message. message ≡ bodies_of frames.old.items ++ last.items ∷ []) }
     ensures empty { OnOk result (frames.new.items ≡ []) }
 {
@@ -332,5 +333,5 @@ fn message(alloc: Global, frames: &mut Vec<Frame>, last: Vec<u8>) -> Result<Fram
         bodies.push(frame.body.into_vec())?;
     }
     bodies.push(last)?;
-    Ok(Frames::new(bodies))
+    Ok(Message::new(bodies))
 }

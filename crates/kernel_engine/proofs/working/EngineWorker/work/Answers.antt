@@ -11,7 +11,7 @@ returns-in-Err-NoDelimiter g c = record {
     [],
     sym (append-nil c.args.reply.now.items),
     inl (record {
-      refused = no_request c.args.self.now.publishing.signer c.args.frames _ c.in-Err-NoDelimiter.field-0
+      refused = no_request c.args.self.now.publishing.signer c.args.message _ c.in-Err-NoDelimiter.field-0
           c.into_vec.ensures (search rules) (search rules);
       silent = refl;
       same = refl;
@@ -33,7 +33,7 @@ returns-in-Ok-handle-clause-worked g c =
       added,
       finished g.I.Interpreter.meaning g.P.Publish.items_of g.P.Publish.may_refuse g.P.Publish.is_same
           g.S.Stamp.meaning g.S.Stamp.id_text g.S.Stamp.is_date (g.T.Stop.may_ask c.args.stop.now) c.args.self.now
-          c.args.frames c.in-Ok-handle.handled octets c.finish.result c.handle.new.self
+          c.args.message c.in-Ok-handle.handled octets c.finish.result c.handle.new.self
           (record {
             request = c.in-Ok.request;
             opened = search rules;

@@ -7,7 +7,7 @@ returns-in_err-command_of-clause-err c =
     let p = err_from_is_err_and c.from_residual.result c.from_residual.ensures.1 in
     rw (p.1, p.2) (command_refused c.args.self.now c.args.flags.more c.args.flags.long c.args.flags.command
     c.args.body.items _ c.requires.front c.requires.accepted c.if-flags.true
-    (rw c.deref.ensures.value at c.in_err-command_of.ensures.err))
+    c.in_err-command_of.ensures.err)
 
 pub returns-clause-ok : goal.returns-clause-ok
 returns-clause-ok c =
