@@ -195,7 +195,11 @@ fn events_text(alloc: Global, events: &[Event<Vec<u8>>]) -> Result<Vec<u8>, Allo
 }
 
 /// Adds the text of an event, if it is a message.
-fn append_event(alloc: Global, event: &Event<Vec<u8>>, octets: &mut Vec<u8>) -> Result<(), AllocError>
+fn append_event(
+    alloc: Global,
+    event: &Event<Vec<u8>>,
+    octets: &mut Vec<u8>,
+) -> Result<(), AllocError>
     ensures { OnOk result (octets.new.items ≡ octets.old.items ++ event_text event.now) }
 {
     match event {
