@@ -1,5 +1,5 @@
 -- The lines of an input are one text, for given courses and dates.
-use Rattle.std.proofs.Common.{◌≡◌, ℕ, List, sym, ◌∙◌, ap, subst}
+use Rattle.std.proofs.Common.{◌≡◌, sym, ◌∙◌, ap, subst}
 use Rattle.std.specs.List.{flat_map}
 use Rattle.zmtp_wire.specs.Frame.{text}
 use Rattle.arith_value.specs.Variables.{Bindings}
