@@ -4,6 +4,7 @@ mod cells;
 mod contents;
 mod letters;
 mod owed;
+mod session;
 
 ghost use Rattle.std.specs.Prelude.{◌≡◌, []};
 

@@ -1,7 +1,6 @@
 //! Tests of exchanges with peers whose octets, reads and writes are told beforehand.
 
 mod echoing;
-mod fault;
 mod hearing;
 mod laws;
 mod serving;
@@ -11,6 +10,7 @@ use crate::{EngineFault, SessionEnd};
 use std::alloc::Global;
 use std::io::{self, ErrorKind, Read, Write};
 use std::test::Fail;
+use zmtp_wire::WireFault;
 
 /// Our greeting: signature, version 3.0, `NULL`, not as server, filler.
 const GREETING: &[u8] = b"\xFF\0\0\0\0\0\0\0\0\x7F\x03\0\
@@ -140,9 +140,33 @@ impl Write for Sink {
     }
 }
 
-/// The end of an exchange that wanted memory.
-fn memory() -> SessionEnd {
-    SessionEnd::Failed(EngineFault::Memory)
+/// How an exchange ended, in values that compare.
+#[derive(Clone, Copy, Debug, PartialEq, Eq)]
+enum Ended {
+    /// The peer sent its last octet.
+    Eof,
+    /// The peer asked the kernel to shut down, and whether to restart it.
+    Shutdown(bool),
+    /// The peer broke the protocol or sent the command ERROR, or no memory was left for its octets.
+    Wire(WireFault),
+    /// The kernel couldn't go on: the number of the fault.
+    Failed(u8),
+}
+
+impl From<SessionEnd> for Ended {
+    fn from(end: SessionEnd) -> Ended {
+        match end {
+            SessionEnd::Eof => Ended::Eof,
+            SessionEnd::Shutdown(restart) => Ended::Shutdown(restart),
+            SessionEnd::Wire(fault) => Ended::Wire(fault),
+            SessionEnd::Failed(fault) => failed(fault),
+        }
+    }
+}
+
+/// The end of an exchange where the kernel couldn't go on.
+fn failed(fault: EngineFault) -> Ended {
+    Ended::Failed(fault.number())
 }
 
 /// Some octets behind one another.

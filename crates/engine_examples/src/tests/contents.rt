@@ -4,10 +4,10 @@ use super::*;
 use arith_shell::ShellArith;
 
 /// The status that the kernel is busy.
-const BUSY: &str = r#"{"execution_state":"busy"}"#;
+pub(crate) const BUSY: &str = r#"{"execution_state":"busy"}"#;
 
 /// The status that the kernel is idle.
-const IDLE: &str = r#"{"execution_state":"idle"}"#;
+pub(crate) const IDLE: &str = r#"{"execution_state":"idle"}"#;
 
 /// What is published of a request beside its reply.
 const NOTHING: [Due<'static>; 2] = [("status", "status", 1, BUSY), ("status", "status", 2, IDLE)];
@@ -78,7 +78,7 @@ fn silence(rt: &impl Abort, alloc: Global, side: Side, rows: &[(&str, &str)]) ->
 }
 
 /// What the kernel says of itself.
-const INFO: &str = concat!(
+pub(crate) const INFO: &str = concat!(
     r#"{"banner":"Shell arithmetic in 64 bits","help_links":[],"implementation":"jkernel","#,
     r#""implementation_version":"1.0","language_info":{"file_extension":".sha","#,
     r#""mimetype":"text/plain","name":"sharith","version":"1.0"},"#,

@@ -1,25 +1,25 @@
 //! The heartbeat.
 
 use super::{
-    ERROR, GREETING, HELLO, PEER_GREETING, PING, Peer, READY_REP, READY_REQ, READY_ROUTER, Sink,
-    join,
+    ERROR, Ended, GREETING, HELLO, PEER_GREETING, PING, Peer, READY_REP, READY_REQ, READY_ROUTER,
+    Sink, failed, join,
 };
-use crate::{EngineFault, SessionEnd, echo};
+use crate::{EngineFault, echo};
 use std::alloc::Global;
 use std::io::ErrorKind;
 use std::test::Fail;
 use zmtp_wire::{Counted, WireFault};
 
 /// How the heartbeat ended, what was written, and how often was read.
-fn echoed(alloc: Global, peer: Peer, sink: Sink, turns: u64) -> (SessionEnd, Vec<u8>, u64) {
+fn echoed(alloc: Global, peer: Peer, sink: Sink, turns: u64) -> (Ended, Vec<u8>, u64) {
     let mut reader = Counted::new(peer);
     let mut writer = Counted::new(sink);
-    let end = echo(alloc, &mut reader, &mut writer, turns);
+    let end = Ended::from(echo(alloc, &mut reader, &mut writer, turns));
     (end, writer.into_inner().octets, reader.into_inner().reads)
 }
 
 /// What a peer that sends these octets behind its READY is sent behind ours, and how it ends, by the octets a read.
-fn answer(alloc: Global, sent: &[u8], width: usize) -> Result<(SessionEnd, Vec<u8>), Fail> {
+fn answer(alloc: Global, sent: &[u8], width: usize) -> Result<(Ended, Vec<u8>), Fail> {
     let octets = join(alloc, &[PEER_GREETING, READY_REQ, sent])?;
     let mut peer = Peer::of(&octets, b"");
     peer.width = width;
@@ -37,7 +37,7 @@ fn a_heartbeat_comes_back(rt: HostRuntime) -> Result<(), Fail> {
     let alloc = rt.alloc();
     let octets = join(alloc, &[PEER_GREETING, READY_REQ, b"\x01\x00\x00\x04ping"])?;
     let (end, written, reads) = echoed(alloc, Peer::of(&octets, b""), Sink::new(alloc), 3);
-    assert_eq!(rt; end, SessionEnd::Eof);
+    assert_eq!(rt; end, Ended::Eof);
     let wanted = join(alloc, &[GREETING, READY_REP, b"\x01\x00\x00\x04ping"])?;
     assert_eq!(rt; written.as_slice(), wanted.as_slice());
     assert_eq!(rt; reads, 3);
@@ -70,7 +70,7 @@ fn messages_come_back_until_the_last_octet(rt: HostRuntime) -> Result<(), Fail> 
         for width in [1, 2, 5, 1_000_000] {
             let (end, written) = answer(alloc, sent, width)?;
             assert_eq!(rt; written.as_slice(), back, "{sent:?}");
-            assert_eq!(rt; end, SessionEnd::Eof, "{sent:?}");
+            assert_eq!(rt; end, Ended::Eof, "{sent:?}");
         }
     }
     Ok(())
@@ -113,7 +113,7 @@ fn messages_come_back_until_a_fault(rt: HostRuntime) -> Result<(), Fail> {
         for width in [1, 2, 5, 1_000_000] {
             let (end, written) = answer(alloc, sent, width)?;
             assert_eq!(rt; written.as_slice(), back, "{sent:?}");
-            assert_eq!(rt; end, SessionEnd::Wire(fault), "{sent:?}");
+            assert_eq!(rt; end, Ended::Wire(fault), "{sent:?}");
         }
     }
     Ok(())
@@ -126,10 +126,10 @@ fn every_cut_in_two_echoes_the_same(rt: HostRuntime) -> Result<(), Fail> {
     let back = b"\x01\x00\x01\x01A\x00\x02BC\x00\x01D".as_slice();
     let wanted = join(alloc, &[GREETING, READY_REP, PING, back])?;
     for (last, ending) in [
-        (b"".as_slice(), SessionEnd::Eof),
-        (b"\x01\x00\x01", SessionEnd::Eof),
-        (b"\x80", SessionEnd::Wire(WireFault::Flags)),
-        (ERROR, SessionEnd::Wire(WireFault::PeerError)),
+        (b"".as_slice(), Ended::Eof),
+        (b"\x01\x00\x01", Ended::Eof),
+        (b"\x80", Ended::Wire(WireFault::Flags)),
+        (ERROR, Ended::Wire(WireFault::PeerError)),
     ] {
         let octets = join(
             alloc,
@@ -152,7 +152,7 @@ fn an_input_that_is_cut_short_echoes_what_is_whole(rt: HostRuntime) -> Result<()
     let all = join(alloc, &[GREETING, READY_REP, PING, b"\x00\x02AB"])?;
     for cut in 0..=octets.len() {
         let (end, written, _) = echoed(alloc, Peer::of(&octets[..cut], b""), Sink::new(alloc), 5);
-        assert_eq!(rt; end, SessionEnd::Eof, "cut at {cut}");
+        assert_eq!(rt; end, Ended::Eof, "cut at {cut}");
         let whole = match cut {
             0..=63 => 64,
             64..=98 => 91,
@@ -172,7 +172,7 @@ fn a_message_of_many_pieces_comes_back(rt: HostRuntime) -> Result<(), Fail> {
     let sent = join(alloc, &[head, &body, PING])?;
     for width in [1000, 65_536, 1_000_000] {
         let (end, written) = answer(alloc, &sent, width)?;
-        assert_eq!(rt; end, SessionEnd::Eof);
+        assert_eq!(rt; end, Ended::Eof);
         assert!(rt;
             written.as_slice() == sent.as_slice(),
             "{width} octets a read"
@@ -197,7 +197,7 @@ fn a_peer_that_is_refused_isnt_echoed(rt: HostRuntime) -> Result<(), Fail> {
         (&hasty, both.as_slice(), WireFault::Command),
     ] {
         let (end, written, _) = echoed(alloc, Peer::of(octets, b""), Sink::new(alloc), 5);
-        assert_eq!(rt; end, SessionEnd::Wire(fault));
+        assert_eq!(rt; end, Ended::Wire(fault));
         assert_eq!(rt; written.as_slice(), wanted);
     }
     Ok(())
@@ -226,11 +226,7 @@ fn an_endless_peer_is_read_as_often_as_there_are_turns(rt: HostRuntime) -> Resul
         peer.again = b"\x00\x01A";
         peer.width = 1;
         let (end, written, reads) = echoed(alloc, peer, Sink::new(alloc), turns);
-        assert_eq!(rt;
-            end,
-            SessionEnd::Failed(EngineFault::Turns),
-            "{turns} turns"
-        );
+        assert_eq!(rt; end, failed(EngineFault::Turns), "{turns} turns");
         assert_eq!(rt; reads, turns, "{turns} turns");
         assert_eq!(rt; Some(written.as_slice()), all.get(..whole), "{turns} turns");
     }
@@ -256,7 +252,7 @@ fn what_is_due_was_written_before_a_read_fails(rt: HostRuntime) -> Result<(), Fa
         peer.width = 1;
         peer.fails_at = fails_at;
         let (end, written, reads) = echoed(alloc, peer, Sink::new(alloc), 1000);
-        assert_eq!(rt; end, SessionEnd::Failed(EngineFault::Read), "at {fails_at}");
+        assert_eq!(rt; end, failed(EngineFault::Read), "at {fails_at}");
         assert_eq!(rt; reads, fails_at);
         assert_eq!(rt; Some(written.as_slice()), all.get(..whole), "at {fails_at}");
     }
@@ -287,7 +283,7 @@ fn a_write_that_fails_leaves_a_beginning(rt: HostRuntime) -> Result<(), Fail> {
             sink.last = last;
             sink.width = width;
             let (end, written, made) = echoed(alloc, Peer::of(&octets, b""), sink, 1000);
-            assert_eq!(rt; end, SessionEnd::Failed(EngineFault::Write), "room {room}");
+            assert_eq!(rt; end, failed(EngineFault::Write), "room {room}");
             assert_eq!(rt; Some(written.as_slice()), all.get(..room), "room {room}");
             assert_eq!(rt; made, reads, "room {room}");
         }
@@ -295,7 +291,7 @@ fn a_write_that_fails_leaves_a_beginning(rt: HostRuntime) -> Result<(), Fail> {
     let mut sink = Sink::new(alloc);
     sink.width = 3;
     let (end, written, _) = echoed(alloc, Peer::of(&octets, b""), sink, 3);
-    assert_eq!(rt; end, SessionEnd::Eof);
+    assert_eq!(rt; end, Ended::Eof);
     assert_eq!(rt; written.as_slice(), all.as_slice());
     Ok(())
 }

@@ -1,7 +1,9 @@
 //! Traffic that is put into an intake.
 
-use super::{ERROR, HELLO, PEER_GREETING, PING, Peer, READY_DEALER, READY_REQ, Sink, join, memory};
-use crate::{EngineFault, Intake, SessionEnd, Shaken, hear, shake};
+use super::{
+    ERROR, Ended, HELLO, PEER_GREETING, PING, Peer, READY_DEALER, READY_REQ, Sink, failed, join,
+};
+use crate::{EngineFault, Intake, Shaken, hear, shake};
 use listed::Row;
 use std::alloc::{AllocError, Global};
 use std::test::Fail;
@@ -88,13 +90,7 @@ fn met(alloc: Global) -> Shaken {
 }
 
 /// What a peer that sends these octets behind READY puts into a shelf, and how hearing ended, by the octets a read.
-fn heard(
-    alloc: Global,
-    sent: &[u8],
-    places: u64,
-    last: Answer,
-    width: usize,
-) -> (SessionEnd, Shelf) {
+fn heard(alloc: Global, sent: &[u8], places: u64, last: Answer, width: usize) -> (Ended, Shelf) {
     let mut peer = Peer::of(sent, b"");
     peer.width = width;
     let mut shelf = Shelf::of(alloc, places, last);
@@ -106,39 +102,39 @@ fn heard(
         &mut shelf,
         1_000_000,
     );
-    (end, shelf)
+    (Ended::from(end), shelf)
 }
 
 #[test]
 fn traffic_is_put_whole_and_in_order(rt: HostRuntime) -> Result<(), Fail> {
     let alloc = rt.alloc();
     for (sent, put, ending) in [
-        (b"".as_slice(), b"".as_slice(), SessionEnd::Eof),
-        (PING, b"||ping", SessionEnd::Eof),
+        (b"".as_slice(), b"".as_slice(), Ended::Eof),
+        (PING, b"||ping", Ended::Eof),
         // Commands are put too, in their places, a second READY among them.
         (
             b"\x00\x01A\x04\x06\x05HELLO\x01\x01B\x00\x01C\x04\x06\x05READY",
             b"|A/HELLO|B|C/READY",
-            SessionEnd::Eof,
+            Ended::Eof,
         ),
         // What isn't whole isn't put.
-        (b"\x00\x01A\x01\x01B\x00\x02C", b"|A", SessionEnd::Eof),
+        (b"\x00\x01A\x01\x01B\x00\x02C", b"|A", Ended::Eof),
         // ERROR isn't put, and nothing behind it.
         (
             b"\x00\x01A\x04\x06\x05ERROR\x00\x01B",
             b"|A",
-            SessionEnd::Wire(WireFault::PeerError),
+            Ended::Wire(WireFault::PeerError),
         ),
         (
             b"\x00\x05ERROR\x04\x0A\x05ERROR\x03bad\x08",
             b"|ERROR",
-            SessionEnd::Wire(WireFault::PeerError),
+            Ended::Wire(WireFault::PeerError),
         ),
         // What was whole before a fault is put.
         (
             b"\x00\x01A\x04\x06\x05HELLO\x08\x00\x01B",
             b"|A/HELLO",
-            SessionEnd::Wire(WireFault::Flags),
+            Ended::Wire(WireFault::Flags),
         ),
     ] {
         for width in [1, 2, 5, 1_000_000] {
@@ -155,10 +151,10 @@ fn every_cut_in_two_puts_the_same(rt: HostRuntime) -> Result<(), Fail> {
     let alloc = rt.alloc();
     let messages = b"\x01\x00\x03\0\0\0\0\0\0\0\x01A\x00\x02BC\x00\x01D".as_slice();
     for (last, ending) in [
-        (b"".as_slice(), SessionEnd::Eof),
-        (b"\x01\x00\x01", SessionEnd::Eof),
-        (b"\x80", SessionEnd::Wire(WireFault::Flags)),
-        (ERROR, SessionEnd::Wire(WireFault::PeerError)),
+        (b"".as_slice(), Ended::Eof),
+        (b"\x01\x00\x01", Ended::Eof),
+        (b"\x80", Ended::Wire(WireFault::Flags)),
+        (ERROR, Ended::Wire(WireFault::PeerError)),
     ] {
         let octets = join(
             alloc,
@@ -172,7 +168,7 @@ fn every_cut_in_two_puts_the_same(rt: HostRuntime) -> Result<(), Fail> {
                 return Err(Fail::from("turned away"));
             };
             let mut shelf = Shelf::of(alloc, 100, Answer::No);
-            let end = hear(alloc, &mut reader, &mut shaken, &mut shelf, 5);
+            let end = Ended::from(hear(alloc, &mut reader, &mut shaken, &mut shelf, 5));
             assert_eq!(rt; end, ending, "cut at {cut}");
             let put = b"||ping/HELLO||A|BC|D".as_slice();
             assert_eq!(rt; shelf.text.as_slice(), put, "cut at {cut}");
@@ -192,7 +188,10 @@ fn an_intake_ends_hearing_at_each_place(rt: HostRuntime) -> Result<(), Fail> {
         (2, b"|A/HELLO"),
         (3, b"|A/HELLO|B|C"),
     ] {
-        for (last, ending) in [(Answer::No, SessionEnd::Eof), (Answer::Refused, memory())] {
+        for (last, ending) in [
+            (Answer::No, Ended::Eof),
+            (Answer::Refused, failed(EngineFault::Memory)),
+        ] {
             for width in [1, 2, 5, 1_000_000] {
                 let (end, shelf) = heard(alloc, sent, places, last, width);
                 assert_eq!(rt; end, ending, "{places} places");
@@ -204,7 +203,7 @@ fn an_intake_ends_hearing_at_each_place(rt: HostRuntime) -> Result<(), Fail> {
     // ERROR is no traffic that an intake could refuse.
     for last in [Answer::No, Answer::Refused] {
         let (end, shelf) = heard(alloc, sent, 4, last, 3);
-        assert_eq!(rt; end, SessionEnd::Wire(WireFault::PeerError));
+        assert_eq!(rt; end, Ended::Wire(WireFault::PeerError));
         assert_eq!(rt; shelf.asked, 4);
     }
     Ok(())
@@ -222,8 +221,8 @@ fn nothing_is_read_once_an_intake_said_no(rt: HostRuntime) -> Result<(), Fail> {
         let mut reader = Counted::new(peer);
         let mut shelf = Shelf::of(alloc, 1, Answer::No);
         let mut shaken = met(alloc);
-        let end = hear(alloc, &mut reader, &mut shaken, &mut shelf, 100);
-        assert_eq!(rt; end, SessionEnd::Eof, "{width} octets a read");
+        let end = Ended::from(hear(alloc, &mut reader, &mut shaken, &mut shelf, 100));
+        assert_eq!(rt; end, Ended::Eof, "{width} octets a read");
         assert_eq!(rt; reader.into_inner().reads, reads, "{width} octets a read");
     }
     Ok(())
@@ -245,14 +244,14 @@ fn hearing_goes_on_where_it_paused(rt: HostRuntime) -> Result<(), Fail> {
         };
         let mut shelf = Shelf::of(alloc, 100, Answer::No);
         // So many octets at a time, and what isn't whole is kept from call to call.
-        let mut ended = SessionEnd::Failed(EngineFault::Turns);
+        let mut ended = failed(EngineFault::Turns);
         for _ in 0..100u64 {
-            if ended != SessionEnd::Failed(EngineFault::Turns) {
+            if ended != failed(EngineFault::Turns) {
                 break;
             }
-            ended = hear(alloc, &mut reader, &mut shaken, &mut shelf, turns);
+            ended = Ended::from(hear(alloc, &mut reader, &mut shaken, &mut shelf, turns));
         }
-        assert_eq!(rt; ended, SessionEnd::Eof, "{turns} turns");
+        assert_eq!(rt; ended, Ended::Eof, "{turns} turns");
         let put = b"|A|BC|DEF/HELLO||ping".as_slice();
         assert_eq!(rt; shelf.text.as_slice(), put, "{turns} turns");
     }
@@ -267,10 +266,10 @@ fn hearing_goes_on_where_it_paused(rt: HostRuntime) -> Result<(), Fail> {
             return Err(Fail::from("turned away"));
         };
         let mut shelf = Shelf::of(alloc, 100, Answer::No);
-        let end = hear(alloc, &mut reader, &mut shaken, &mut shelf, 100);
-        assert_eq!(rt; end, SessionEnd::Failed(EngineFault::Read));
-        let end = hear(alloc, &mut reader, &mut shaken, &mut shelf, 100);
-        assert_eq!(rt; end, SessionEnd::Eof);
+        let end = Ended::from(hear(alloc, &mut reader, &mut shaken, &mut shelf, 100));
+        assert_eq!(rt; end, failed(EngineFault::Read));
+        let end = Ended::from(hear(alloc, &mut reader, &mut shaken, &mut shelf, 100));
+        assert_eq!(rt; end, Ended::Eof);
         assert_eq!(rt; shelf.text.as_slice(), b"|A|BC|DEF/HELLO||ping".as_slice());
     }
     Ok(())
@@ -285,8 +284,8 @@ fn an_endless_peer_is_heard_as_often_as_there_are_turns(rt: HostRuntime) -> Resu
         let mut reader = Counted::new(peer);
         let mut shelf = Shelf::of(alloc, 100, Answer::No);
         let mut shaken = met(alloc);
-        let end = hear(alloc, &mut reader, &mut shaken, &mut shelf, turns);
-        assert_eq!(rt; end, SessionEnd::Failed(EngineFault::Turns));
+        let end = Ended::from(hear(alloc, &mut reader, &mut shaken, &mut shelf, turns));
+        assert_eq!(rt; end, failed(EngineFault::Turns));
         assert_eq!(rt; reader.into_inner().reads, turns);
     }
     Ok(())

@@ -1,17 +1,19 @@
 //! What is heard of a peer has one value.
 
-use super::{ERROR, GREETING, HELLO, PEER_GREETING, PING, Peer, READY_REP, READY_REQ, Sink, join};
-use crate::{SessionEnd, echo, one_hearing};
+use super::{
+    ERROR, Ended, GREETING, HELLO, PEER_GREETING, PING, Peer, READY_REP, READY_REQ, Sink, join,
+};
+use crate::{echo, one_hearing};
 use std::alloc::Global;
 use std::test::Fail;
 use zmtp_wire::{Counted, WireFault};
 
 /// How the heartbeat of a peer that sends these octets ended, and what was written, by the octets a read.
-fn echoed(alloc: Global, octets: &[u8], width: usize) -> (SessionEnd, Vec<u8>) {
+fn echoed(alloc: Global, octets: &[u8], width: usize) -> (Ended, Vec<u8>) {
     let mut peer = Peer::of(octets, b"");
     peer.width = width;
     let mut writer = Counted::new(Sink::new(alloc));
-    let end = echo(alloc, &mut Counted::new(peer), &mut writer, 1000);
+    let end = Ended::from(echo(alloc, &mut Counted::new(peer), &mut writer, 1000));
     (end, writer.into_inner().octets)
 }
 
@@ -20,9 +22,9 @@ fn a_peer_is_heard_in_one_way(rt: HostRuntime) -> Result<(), Fail> {
     let alloc = rt.alloc();
     one_hearing();
     for (last, ending) in [
-        (HELLO, SessionEnd::Eof),
-        (ERROR, SessionEnd::Wire(WireFault::PeerError)),
-        (b"\x08", SessionEnd::Wire(WireFault::Flags)),
+        (HELLO, Ended::Eof),
+        (ERROR, Ended::Wire(WireFault::PeerError)),
+        (b"\x08", Ended::Wire(WireFault::Flags)),
     ] {
         let octets = join(alloc, &[PEER_GREETING, READY_REQ, PING, last])?;
         let whole = join(alloc, &[GREETING, READY_REP, PING])?;

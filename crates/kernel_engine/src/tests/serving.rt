@@ -1,6 +1,8 @@
 //! A server's answers, and how it ends a session.
 
-use super::{ERROR, GREETING, PEER_GREETING, Peer, READY_DEALER, READY_ROUTER, Sink, join, memory};
+use super::{
+    ERROR, Ended, GREETING, PEER_GREETING, Peer, READY_DEALER, READY_ROUTER, Sink, failed, join,
+};
 use crate::{Answered, EngineFault, Server, SessionEnd, serve};
 use std::alloc::{AllocError, Global};
 use std::io::ErrorKind;
@@ -70,11 +72,6 @@ impl Server for Clerk {
     }
 }
 
-/// The end of a session with a server that is worn.
-fn worn() -> SessionEnd {
-    SessionEnd::Failed(EngineFault::Worn)
-}
-
 /// Whether a message's first frame is this text.
 fn is_frame(message: &Message, text: &[u8]) -> bool {
     match message.as_slice().first() {
@@ -97,7 +94,7 @@ fn clerked(
     last: u8,
     leave: Leave,
     width: usize,
-) -> Result<(Vec<u8>, u8, SessionEnd, u64), Fail> {
+) -> Result<(Vec<u8>, u8, Ended, u64), Fail> {
     let octets = join(alloc, &[PEER_GREETING, READY_DEALER, sent])?;
     let mut peer = Peer::of(&octets, b"");
     peer.width = width;
@@ -109,7 +106,7 @@ fn clerked(
         leave,
     };
     let router = SocketType::Router;
-    let end = serve(alloc, &mut reader, &mut writer, &mut clerk, router, 1000);
+    let end = Ended::from(serve(alloc, &mut reader, &mut writer, &mut clerk, router, 1000));
     let written = writer.into_inner().octets;
     let opening = join(alloc, &[GREETING, READY_ROUTER])?;
     let replies = written
@@ -133,53 +130,17 @@ fn a_server_answers_in_order_until_it_refuses(rt: HostRuntime) -> Result<(), Fai
     let ended = join(alloc, &[FOUR, ERROR, FOUR])?;
     // What is sent, the message at which the clerk leaves and how, how many were answered, and the end.
     for (sent, last, leave, answered, wanted) in [
-        (FOUR, 9, Leave::Memory, 4, SessionEnd::Eof),
-        (FOUR, 0, Leave::Memory, 0, memory()),
-        (FOUR, 2, Leave::Memory, 2, memory()),
-        (FOUR, 3, Leave::Worn, 3, worn()),
-        (&faulty, 1, Leave::Worn, 1, worn()),
-        (
-            &faulty,
-            9,
-            Leave::Worn,
-            4,
-            SessionEnd::Wire(WireFault::Flags),
-        ),
-        (
-            &ended,
-            9,
-            Leave::Worn,
-            4,
-            SessionEnd::Wire(WireFault::PeerError),
-        ),
-        (
-            FOUR,
-            0,
-            Leave::Shutdown(true),
-            1,
-            SessionEnd::Shutdown(true),
-        ),
-        (
-            FOUR,
-            2,
-            Leave::Shutdown(false),
-            3,
-            SessionEnd::Shutdown(false),
-        ),
-        (
-            &faulty,
-            3,
-            Leave::Shutdown(true),
-            4,
-            SessionEnd::Shutdown(true),
-        ),
-        (
-            &ended,
-            3,
-            Leave::Shutdown(false),
-            4,
-            SessionEnd::Shutdown(false),
-        ),
+        (FOUR, 9, Leave::Memory, 4, Ended::Eof),
+        (FOUR, 0, Leave::Memory, 0, failed(EngineFault::Memory)),
+        (FOUR, 2, Leave::Memory, 2, failed(EngineFault::Memory)),
+        (FOUR, 3, Leave::Worn, 3, failed(EngineFault::Worn)),
+        (&faulty, 1, Leave::Worn, 1, failed(EngineFault::Worn)),
+        (&faulty, 9, Leave::Worn, 4, Ended::Wire(WireFault::Flags)),
+        (&ended, 9, Leave::Worn, 4, Ended::Wire(WireFault::PeerError)),
+        (FOUR, 0, Leave::Shutdown(true), 1, Ended::Shutdown(true)),
+        (FOUR, 2, Leave::Shutdown(false), 3, Ended::Shutdown(false)),
+        (&faulty, 3, Leave::Shutdown(true), 4, Ended::Shutdown(true)),
+        (&ended, 3, Leave::Shutdown(false), 4, Ended::Shutdown(false)),
     ] {
         for width in [1, 7, 1_000_000] {
             let (replies, count, end, _) = clerked(alloc, sent, last, leave, width)?;
@@ -213,8 +174,8 @@ fn nothing_is_read_behind_a_shutdown(rt: HostRuntime) -> Result<(), Fail> {
                 leave: Leave::Shutdown(true),
             };
             let router = SocketType::Router;
-            let end = serve(alloc, &mut reader, &mut writer, &mut clerk, router, 1000);
-            assert_eq!(rt; end, SessionEnd::Shutdown(true), "{width} octets a read");
+            let end = Ended::from(serve(alloc, &mut reader, &mut writer, &mut clerk, router, 1000));
+            assert_eq!(rt; end, Ended::Shutdown(true), "{width} octets a read");
             assert_eq!(rt;
                 reader.into_inner().reads,
                 2 + first,
@@ -234,7 +195,7 @@ fn a_shutdown_that_comes_with_ready_is_the_last_read(rt: HostRuntime) -> Result<
     let (replies, count, end, reads) = clerked(alloc, FOUR, 1, Leave::Shutdown(false), 1000)?;
     assert_eq!(rt; replies.as_slice(), b"\x00\x01\x00\x00\x01\x01".as_slice());
     assert_eq!(rt; count, 2);
-    assert_eq!(rt; end, SessionEnd::Shutdown(false));
+    assert_eq!(rt; end, Ended::Shutdown(false));
     assert_eq!(rt; reads, 2);
     Ok(())
 }
@@ -257,13 +218,13 @@ fn a_session_of_which_a_message_was_dropped_goes_on(rt: HostRuntime) -> Result<(
             assert_eq!(rt; count, answered);
             let due = REPLIES.get(..3 * usize::from(answered));
             assert_eq!(rt; Some(replies.as_slice()), due);
-            assert_eq!(rt; end, memory());
+            assert_eq!(rt; end, failed(EngineFault::Memory));
         }
     }
     // One that is dropped behind the last that is answered is too late to change the end.
     let (_, count, end, _) = clerked(alloc, dropping, 0, Leave::Shutdown(true), 1)?;
     assert_eq!(rt; count, 1);
-    assert_eq!(rt; end, SessionEnd::Shutdown(true));
+    assert_eq!(rt; end, Ended::Shutdown(true));
     Ok(())
 }
 
@@ -285,12 +246,8 @@ fn a_reply_that_cannot_be_written_ends_a_session(rt: HostRuntime) -> Result<(), 
             leave: Leave::Shutdown(true),
         };
         let router = SocketType::Router;
-        let end = serve(alloc, &mut reader, &mut writer, &mut clerk, router, 1000);
-        assert_eq!(rt;
-            end,
-            SessionEnd::Failed(EngineFault::Write),
-            "room for {room}"
-        );
+        let end = Ended::from(serve(alloc, &mut reader, &mut writer, &mut clerk, router, 1000));
+        assert_eq!(rt; end, failed(EngineFault::Write), "room for {room}");
         assert_eq!(rt; clerk.answered, answered, "room for {room}");
         let written = writer.into_inner().octets;
         assert_eq!(rt; Some(written.as_slice()), all.get(..opening + room));

@@ -1,10 +1,10 @@
 //! Shaking hands.
 
 use super::{
-    ERROR, GREETING, HELLO, PEER_GREETING, PING, Peer, READY_DEALER, READY_REP, READY_REQ,
-    READY_ROUTER, Sink, join,
+    ERROR, Ended, GREETING, HELLO, PEER_GREETING, PING, Peer, READY_DEALER, READY_REP, READY_REQ,
+    READY_ROUTER, Sink, failed, join,
 };
-use crate::{EngineFault, SessionEnd, shake};
+use crate::{EngineFault, shake};
 use std::alloc::Global;
 use std::io::ErrorKind;
 use std::test::Fail;
@@ -16,13 +16,13 @@ fn shaken(
     peer: Peer,
     sink: Sink,
     turns: u64,
-) -> (Result<SocketType, SessionEnd>, Vec<u8>, u64) {
+) -> (Result<SocketType, Ended>, Vec<u8>, u64) {
     let mut reader = Counted::new(peer);
     let mut writer = Counted::new(sink);
     let met = shake(alloc, &mut reader, &mut writer, SocketType::Rep, turns);
     let end = match met {
         Ok(shaken) => Ok(shaken.peer),
-        Err(end) => Err(end),
+        Err(end) => Err(Ended::from(end)),
     };
     (end, writer.into_inner().octets, reader.into_inner().reads)
 }
@@ -72,7 +72,7 @@ fn a_peer_that_is_cut_short_ends_it(rt: HostRuntime) -> Result<(), Fail> {
     for cut in 0..octets.len() {
         let peer = Peer::of(&octets[..cut], b"");
         let (end, written, _) = shaken(alloc, peer, Sink::new(alloc), 1000);
-        assert_eq!(rt; end, Err(SessionEnd::Eof), "cut at {cut}");
+        assert_eq!(rt; end, Err(Ended::Eof), "cut at {cut}");
         let wanted = if cut < 64 { GREETING } else { both.as_slice() };
         assert_eq!(rt; written.as_slice(), wanted, "cut at {cut}");
     }
@@ -114,7 +114,7 @@ fn nothing_more_is_written_to_a_greeting_that_is_refused(rt: HostRuntime) -> Res
             *place = octet;
         }
         let (end, written, reads) = shaken(alloc, Peer::of(&octets, b""), Sink::new(alloc), 9);
-        assert_eq!(rt; end, Err(SessionEnd::Wire(fault)), "at {at}");
+        assert_eq!(rt; end, Err(Ended::Wire(fault)), "at {at}");
         assert_eq!(rt; written.as_slice(), GREETING, "at {at}");
         assert_eq!(rt; reads, 1, "at {at}");
     }
@@ -152,7 +152,7 @@ fn a_first_traffic_that_is_refused(rt: HostRuntime) -> Result<(), Fail> {
             let mut peer = Peer::of(&octets, b"");
             peer.width = width;
             let (end, written, _) = shaken(alloc, peer, Sink::new(alloc), 1000);
-            assert_eq!(rt; end, Err(SessionEnd::Wire(fault)));
+            assert_eq!(rt; end, Err(Ended::Wire(fault)));
             assert_eq!(rt; written.as_slice(), both.as_slice());
         }
     }
@@ -225,8 +225,8 @@ fn a_long_ready_comes_in_several_reads(rt: HostRuntime) -> Result<(), Fail> {
 }
 
 /// How hands are shaken for want of turns.
-fn short() -> Result<SocketType, SessionEnd> {
-    Err(SessionEnd::Failed(EngineFault::Turns))
+fn short() -> Result<SocketType, Ended> {
+    Err(failed(EngineFault::Turns))
 }
 
 #[test]
@@ -263,11 +263,7 @@ fn a_read_that_fails_ends_it(rt: HostRuntime) -> Result<(), Fail> {
         peer.width = 1;
         peer.fails_at = fails_at;
         let (end, written, reads) = shaken(alloc, peer, Sink::new(alloc), 1000);
-        assert_eq!(rt;
-            end,
-            Err(SessionEnd::Failed(EngineFault::Read)),
-            "at {fails_at}"
-        );
+        assert_eq!(rt; end, Err(failed(EngineFault::Read)), "at {fails_at}");
         let due = if fails_at > 64 {
             both.as_slice()
         } else {
@@ -291,11 +287,7 @@ fn a_write_that_fails_ends_it(rt: HostRuntime) -> Result<(), Fail> {
             sink.last = last;
             sink.width = width;
             let (end, written, reads) = shaken(alloc, Peer::of(&octets, b""), sink, 1000);
-            assert_eq!(rt;
-                end,
-                Err(SessionEnd::Failed(EngineFault::Write)),
-                "room {room}"
-            );
+            assert_eq!(rt; end, Err(failed(EngineFault::Write)), "room {room}");
             assert_eq!(rt; Some(written.as_slice()), both.get(..room), "room {room}");
             assert_eq!(rt; reads, if room < 64 { 0 } else { 1 }, "room {room}");
         }
