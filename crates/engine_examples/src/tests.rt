@@ -5,6 +5,7 @@ mod contents;
 mod letters;
 mod owed;
 mod session;
+mod worn;
 
 ghost use Rattle.std.specs.Prelude.{◌≡◌, []};
 

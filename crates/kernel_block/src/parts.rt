@@ -141,7 +141,7 @@ where
     ///
     /// `Worn` where 2^62 ids were given, `OwedIdle` where an idle stays owed: then nothing changes. `Memory` where
     /// memory was refused, or the sink refused: then nothing was published of the request, or a cut block was.
-    pub(crate) fn handle<T: Stop>(
+    pub fn handle<T: Stop>(
         &mut self,
         alloc: Global,
         request: Envelope,

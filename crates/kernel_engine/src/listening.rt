@@ -15,8 +15,8 @@ use std::alloc::Global;
 use std::mem;
 use zmtp_wire::{Decoder, Fed, Inlet, Traffic, WireFault};
 
-/// How many octets one read asks for.
-const PIECE: usize = 65_536;
+/// How many octets one read asks for. A connection holds as many while it waits.
+const PIECE: usize = 4_096;
 
 /// What hears the traffic of a peer.
 pub trait Listener {
