@@ -22,7 +22,7 @@ pub use hmac::hmac_sha256;
 pub use laws::{opened_once, refused_is_not_opened, refused_once, sealed_is_opened};
 pub use sealing::seal;
 pub use signer::Signer;
-pub use stamp::{Stamp, stamped_header};
+pub use stamp::Stamp;
 
 #[cfg(test)]
 mod tests;

@@ -1,10 +1,8 @@
 //! Where ids and dates of messages come from.
 
-ghost use Rattle.std.specs.Prelude.{◌≡◌, ℕ, List, Bool, true, IfOk, IfErr, string_bytes};
-ghost use Rattle.jmsg_envelope.specs.Header.{header_octets};
+ghost use Rattle.std.specs.Prelude.{◌≡◌, ℕ, List, Bool, true, IfOk, string_bytes};
 ghost use Rattle.jmsg_envelope.specs.Stamp.{IdsDiffer, StampMeaning};
 
-use crate::{EnvelopeFault, header_text};
 use std::alloc::{AllocError, Global};
 
 /// A source of message ids and dates for one session.
@@ -42,27 +40,4 @@ pub trait Stamp {
 
     // Different numbers have different ids.
     ghost ids_differ: { IdsDiffer id_text };
-}
-
-/// The octets of the header of the message with this number: its id, and a date of this stamp.
-///
-/// # Errors
-///
-/// `OutOfMemory` alone. The stamp's meaning stays, also on an error.
-pub fn stamped_header<S: Stamp>(
-    alloc: Global,
-    stamp: &mut S,
-    n: u64,
-    msg_type: &str,
-) -> Result<Vec<u8>, EnvelopeFault>
-    ensures header { IfOk result (λ text. (date : List ℕ)
-        × (S.is_date (S.meaning stamp.old) date ≡ true)
-        × (text.items ≡ header_octets (S.meaning stamp.old).session
-        (S.id_text (S.meaning stamp.old) n) date msg_type.now)) }
-    ensures memory { IfErr result (λ fault. fault ≡ EnvelopeFault.OutOfMemory) }
-    ensures same { S.meaning stamp.new ≡ S.meaning stamp.old }
-{
-    let id = stamp.id(alloc, n)?;
-    let date = stamp.date(alloc)?;
-    header_text(alloc, stamp.session(), id.as_str(), date.as_str(), msg_type)
 }

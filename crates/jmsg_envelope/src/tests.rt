@@ -186,7 +186,17 @@ impl Stamp for Replay {
 
 #[test]
 fn header_by_a_stamp(rt: HostRuntime) -> Result<(), Fail> {
-    let text = stamped_header(rt.alloc(), &mut Replay, 4, "kernel_info_reply")?;
+    let alloc = rt.alloc();
+    let mut stamp = Replay;
+    let id = stamp.id(alloc, 4)?;
+    let date = stamp.date(alloc)?;
+    let text = header_text(
+        alloc,
+        stamp.session(),
+        id.as_str(),
+        date.as_str(),
+        "kernel_info_reply",
+    )?;
     assert_eq!(rt;
         text.as_slice(),
         concat!(

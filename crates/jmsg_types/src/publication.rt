@@ -3,6 +3,7 @@
 ghost use Rattle.std.specs.Prelude.{◌≡◌, IfOk, IfErr};
 ghost use Rattle.jmsg_types.specs.Publication.{failure_data, publication_data, publication_type, state_word};
 ghost use Rattle.jmsg_types.specs.Publication.{stream_name, topic};
+ghost use Rattle.jmsg_types.specs.declared.publication.Publication.TheVariants.{Status};
 ghost use Rattle.serde_json.specs.View.{view};
 ghost use Rattle.serde_json.specs.Written.{compact_text};
 
@@ -79,6 +80,18 @@ impl State {
             State::Idle => "idle",
         }
     }
+
+    /// The content of the status that tells it, as it is sent.
+    #[tactic(auto, unfolding(serde_json::proofs::OnLiterals::serde_json_on_literals))]
+    fn status_text(self) -> &'static str
+        ensures { result.now ≡ compact_text (publication_data (Status self)) }
+    {
+        match self {
+            State::Starting => r#"{"execution_state":"starting"}"#,
+            State::Busy => r#"{"execution_state":"busy"}"#,
+            State::Idle => r#"{"execution_state":"idle"}"#,
+        }
+    }
 }
 
 /// The name of the stream of errors, or of the other one.
@@ -147,6 +160,9 @@ pub fn content_text_of_publication(
     ensures text { IfOk result (λ text. text.items ≡ compact_text (publication_data publication.now)) }
     ensures memory { IfErr result (λ fault. fault ≡ ContentFault.OutOfMemory) }
 {
+    if let Publication::Status(state) = publication {
+        return Ok(Vec::from_slice(alloc, state.status_text().as_bytes())?);
+    }
     let value = publication_value(alloc, publication)?;
     Ok(value.to_string(alloc)?.into_bytes())
 }
