@@ -107,7 +107,7 @@ fn read_octets<R: Read>(alloc: Global, reader: &mut R) -> Result<Vec<u8>, Status
 fn answer_octets(alloc: Global, key: Vec<u8>, octets: &[u8]) -> Result<Vec<u8>, EngineFault>
     ensures { IfOk result (λ lines. PrintsAll key.items octets.now lines.items) }
 {
-    // What a session that didn't end with the octets comes to holds of all of them, read or not.
+    // A session that ended before the last octet is that of all octets: what stands behind changes nothing.
     one_session::<ShellArith, Unstopped>();
     answer_peer(alloc, key, &mut Counted::new(octets))
 }
@@ -131,7 +131,7 @@ pub(crate) fn answer_peer<R: Inlet>(
     Ok(lines)
 }
 
-/// An engine of the shell that published that the kernel starts.
+/// An engine of the shell that has said that the kernel starts.
 fn begun(alloc: Global, key: Vec<u8>) -> Result<ReplayEngine, EngineFault>
     ensures { IfOk result (λ engine. engine ≡ begun_engine key.items engine.publishing.stamp) }
 {
@@ -142,7 +142,7 @@ fn begun(alloc: Global, key: Vec<u8>) -> Result<ReplayEngine, EngineFault>
     Ok(engine)
 }
 
-/// How a session ended that its peer ended: its lines are printed.
+/// The printed ending of a session that its peer ended; else its fault.
 fn settled(end: SessionEnd) -> Result<Ending, EngineFault>
     ensures { IfOk result (λ ending. (ending_words ending ≡ ending_text end) × IsSettled end) }
 {

@@ -17,7 +17,7 @@ use Rattle.jmsg_types.specs.Request.{message_type}
 use Rattle.kernel_block.specs.Answer.{Answer, AnswersAsked, asked_of}
 use Rattle.kernel_block.specs.Block.{Message, busy, idle, opened, published_all, reply_message}
 use Rattle.kernel_block.specs.Growth.{Puts, item_of, sealing_of}
-use Rattle.kernel_block.specs.Handles.{Adds, Answers, AnswersNot, Closes, HandlesCut, HandlesOk, IsLeft}
+use Rattle.kernel_block.specs.Handles.{Adds, AnswersInBlock, AnswersNot, Closes, HandlesCut, HandlesOk, IsLeft}
 use Rattle.kernel_block.specs.Handles.{LeavesOpen, Pays, answer_with, owed_items}
 use Rattle.kernel_block.specs.Opens.{Opens, ids_of_reply}
 use Rattle.kernel_block.specs.Publications.{PublishesAsked}
@@ -219,7 +219,7 @@ module _ {I P S W Cell : Type 0} (m : Meaning I Cell) (items_of : P → List (Op
     where
       -- a request was answered
       pub handled_ok : (may : Type 0) (handled : Handled)
-          → Answers m items_of may_refuse is_same meaning id_text is_date may heading request.identities
+          → AnswersInBlock m items_of may_refuse is_same meaning id_text is_date may heading request.identities
           request.msg_type request.content (record paid { publishing = opens }) handled at
           → HandlesOk m items_of may_refuse is_same meaning id_text is_date may request old handled new
       handled_ok may handled answers =
@@ -292,7 +292,7 @@ module _ {I P S W Cell : Type 0} (m : Meaning I Cell) (items_of : P → List (Op
       (Puts items_of is_same meaning id_text heading old.publishing mid)
       → (reply ≡ reply_message (sealing_of meaning id_text mid) heading identities mid.next msg_type answered.reply)
       × (made ≡ record mid { next = mid.next + ids_of_reply answered.reply })
-      → Answers m items_of may_refuse is_same meaning id_text is_date may heading identities msg_type content old
+      → AnswersInBlock m items_of may_refuse is_same meaning id_text is_date may heading identities msg_type content old
       (record { reply = reply; end = answered.end; restart = answered.restart; interrupt = answered.interrupt })
       (record old { interp = interp; count = count; publishing = made })
   answers_whole may heading identities msg_type content old interp count mid made answered reply whole (is, grown) =

@@ -99,7 +99,7 @@ module _ {I P S W Cell : Type 0} (m : Meaning I Cell) (items_of : P → List (Op
       new.count × MayBeCut may course.ending whole behind)
 
   -- A request was answered by a course: all that is published of it was, and its reply was made with the number behind.
-  pub record Answers (may : Type 0) (heading : Heading) (identities : List (List ℕ)) (msg_type content : List ℕ)
+  pub record AnswersInBlock (may : Type 0) (heading : Heading) (identities : List (List ℕ)) (msg_type content : List ℕ)
       (old : Parts I P S W) (handled : Handled) (new : Parts I P S W) : Type 0 where
     pub course : Course I
     pub publications : List Publication

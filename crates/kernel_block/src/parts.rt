@@ -1,8 +1,8 @@
 //! The parts of an engine, and the steps by which it handles a request.
 
 ghost use Rattle.std.specs.Prelude.{◌≡◌, ◌⊎◌, ◌≤◌, ◌<◌, ◌^◌, None, MatchBool, MatchResult};
-ghost use Rattle.kernel_block.specs.Handles.{Answers, AnswersNot, AsksInVain, Closes, HandlesErr, HandlesOk};
-ghost use Rattle.kernel_block.specs.Handles.{LeavesOpen, Pays, PaysNot};
+ghost use Rattle.kernel_block.specs.Handles.{AnswersInBlock, AnswersNot, AsksInVain, Closes, HandlesErr};
+ghost use Rattle.kernel_block.specs.Handles.{HandlesOk, LeavesOpen, Pays, PaysNot};
 ghost use Rattle.kernel_block.specs.Starts.{StartsFirst, StartsLater, StartsRefused};
 
 use crate::fault::EngineFault;
@@ -87,7 +87,7 @@ where
     ) -> Result<Handled, AllocError>
         requires { self.old.count < 2 ^ 63 }
         ensures { MatchResult result
-            (λ handled. Answers I.meaning P.items_of P.may_refuse P.is_same S.meaning S.id_text S.is_date
+            (λ handled. AnswersInBlock I.meaning P.items_of P.may_refuse P.is_same S.meaning S.id_text S.is_date
             (T.may_ask stop.now) heading.now identities msg_type.now content.now self.old handled self.new)
             (λ _. AnswersNot I.meaning P.items_of P.may_refuse P.is_same S.meaning S.id_text S.is_date
             (T.may_ask stop.now) heading.now msg_type.now content.now self.old self.new) }

@@ -1,5 +1,5 @@
 -- What a peer comes to that ended its session, whatever it sends then.
-use Rattle.std.proofs.Common.{◌≡◌, ◌≢◌, inl, inr, ℕ, List, ◌++◌, ap, append_assoc, ◌∙◌, subst, false, refl}
+use Rattle.std.proofs.Common.{◌≢◌, inl, inr, ℕ, List, ◌++◌, ap, append_assoc, ◌∙◌, subst, false, refl}
 use Rattle.zmtp_wire.specs.declared.handshake.socket_type.SocketType.{SocketType}
 use Rattle.kernel_engine.specs.declared.end.SessionEnd.{SessionEnd}
 use Rattle.kernel_engine.specs.declared.end.SessionEnd.TheVariants.{Eof, Shutdown, Wire, Failed}

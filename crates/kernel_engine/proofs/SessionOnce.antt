@@ -1,5 +1,5 @@
 -- A session has one value for given courses and dates.
-use Rattle.std.proofs.Common.{◌≡◌, inl, inr, ℕ, ◌+◌, List, ◌∷◌, ◌++◌, length, true, false, Result, Ok, Err, refl, sym}
+use Rattle.std.proofs.Common.{◌≡◌, inl, inr, ℕ, ◌+◌, List, ◌∷◌, ◌++◌, true, false, Ok, Err, refl, sym}
 use Rattle.std.proofs.Common.{◌∙◌, ap, subst}
 use Rattle.interp_core.specs.Interpreter.{Meaning}
 use Rattle.jmsg_envelope.specs.Laws.{OpenedOnce, RefusedIsNotOpened}
@@ -12,11 +12,9 @@ use Rattle.kernel_block.specs.Handles.{asked_by_message}
 use Rattle.kernel_block.specs.Laws.{AnswersOnce, PublishesOnce}
 use Rattle.kernel_block.specs.Opens.{ids_of_reply}
 use Rattle.kernel_block.specs.Publications.{PublishesAsked}
-use Rattle.kernel_engine.specs.declared.end.SessionEnd.{SessionEnd}
 use Rattle.kernel_engine.specs.declared.end.SessionEnd.TheVariants.{Shutdown}
-use Rattle.kernel_engine.specs.declared.server.Answered.{Answered}
 use Rattle.kernel_engine.specs.declared.server.Answered.TheVariants.{Done, Dropped}
-use Rattle.kernel_engine.specs.Laws.{IsDone, IsFunction}
+use Rattle.kernel_engine.specs.Laws.{IsFunction}
 use Rattle.kernel_engine.specs.Peer.{Message}
 use Rattle.kernel_engine.specs.Session.{DoesMessage, DoesRequest, DropsMessage, Performs, Run, Setting, Standing}
 use Rattle.kernel_engine.specs.Session.{heading_by, number_behind, reply_text}

@@ -1,5 +1,5 @@
 -- Serving a peer, by what is seen of the server.
-use Rattle.std.proofs.Common.{◌≡◌, inl, inr, ℕ, List, [], ◌∷◌, Bool, false, Result, Ok, Err, ap, subst, sym}
+use Rattle.std.proofs.Common.{◌≡◌, inl, inr, ℕ, List, [], ◌∷◌, Bool, false, Result, Ok, ap, subst, sym}
 use Rattle.std.specs.Prelude.{◌⊎◌, ⊤}
 use Rattle.zmtp_wire.specs.declared.handshake.socket_type.SocketType.{SocketType}
 use Rattle.zmtp_wire.specs.declared.traffic.Traffic.{Traffic}
@@ -9,7 +9,7 @@ use Rattle.kernel_engine.specs.declared.end.SessionEnd.{SessionEnd}
 use Rattle.kernel_engine.specs.declared.server.Answered.{Answered}
 use Rattle.kernel_engine.specs.Peer.{Message}
 use Rattle.kernel_engine.specs.Listen.{RunsOut}
-use Rattle.kernel_engine.specs.Server.{Answering, Serving, Treats, GoesOn, AnswersAll, IsLast, Converses, IsServed}
+use Rattle.kernel_engine.specs.Server.{Answering, Serving, Treats, GoesOn, AnswersAll, IsLast, IsServed}
 use Rattle.kernel_engine.specs.Server.{Serves, ServesPeer, told}
 use Rattle.kernel_engine.specs.Steps.{IsPrompt}
 

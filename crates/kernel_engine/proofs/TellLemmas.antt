@@ -1,7 +1,7 @@
 -- A session of an engine, as its definition tells it: each step of the engine is one of the session, for some course
 -- and date.
-use Rattle.std.proofs.Common.{◌≡◌, ◌⊎◌, inl, inr, ℕ, ◌+◌, List, [], ◌∷◌, ◌++◌, length, Bool, true, false, Option, Some}
-use Rattle.std.proofs.Common.{None, Result, Ok, Err, refl, sym, ◌∙◌, ap, subst, append_assoc, map}
+use Rattle.std.proofs.Common.{◌≡◌, ◌⊎◌, inl, inr, ℕ, ◌+◌, List, [], ◌∷◌, ◌++◌, Bool, true, false, Option, Some}
+use Rattle.std.proofs.Common.{None, Ok, Err, refl, sym, ◌∙◌, ap, subst, append_assoc, map}
 use Rattle.std.proofs.lemmas.List.{append-nil, map-append}
 use Rattle.zmtp_wire.specs.declared.handshake.socket_type.SocketType.TheVariants.{Router}
 use Rattle.zmtp_wire.specs.declared.traffic.Traffic.{Traffic}
@@ -11,17 +11,13 @@ use Rattle.interp_core.specs.Interpreter.{Meaning}
 use Rattle.iopub_relay.specs.declared.event.Event.{Event}
 use Rattle.iopub_relay.specs.declared.event.Event.TheVariants as events
 use Rattle.jmsg_envelope.specs.Stamp.{StampMeaning}
-use Rattle.jmsg_envelope.specs.declared.envelope.Envelope.{Envelope}
-use Rattle.jmsg_types.specs.declared.publication.Publication.{Publication}
-use Rattle.jmsg_types.specs.declared.reply.Reply.{Reply}
 use Rattle.kernel_block.specs.declared.fault.EngineFault.TheVariants.{OwedIdle, Memory, Read, Write, Turns, Worn}
 use Rattle.kernel_block.specs.declared.handled.Handled.{Handled}
-use Rattle.kernel_block.specs.declared.heading.Heading.{Heading}
 use Rattle.kernel_block.specs.declared.parts.Parts.{Parts}
 use Rattle.kernel_block.specs.declared.side.Side.{Side}
-use Rattle.kernel_block.specs.Block.{Sealing, block, idle, opened, reply_message}
+use Rattle.kernel_block.specs.Block.{block, idle, opened, reply_message}
 use Rattle.kernel_block.specs.Growth.{item_of, sealing_of}
-use Rattle.kernel_block.specs.Handles.{Adds, HandlesOk, answer_with, owed_items}
+use Rattle.kernel_block.specs.Handles.{answer_with, owed_items}
 use Rattle.kernel_block.specs.Opens.{ids_of_reply}
 use Rattle.kernel_block.specs.WellBlocked.{heading_of, past, where_published}
 use Rattle.kernel_engine.specs.declared.end.SessionEnd.{SessionEnd}
@@ -35,9 +31,9 @@ use Rattle.kernel_engine.specs.Listen.{RunsOut}
 use Rattle.kernel_engine.specs.Peer.{Message}
 use Rattle.kernel_engine.specs.Server.{Serving, Treats, GoesOn, AnswersAll, IsServed, Serves, ServesPeer, begins, marked}
 use Rattle.kernel_engine.specs.Server.{IsLast, told}
-use Rattle.kernel_engine.specs.Session.{DoesMessage, DropsMessage, IsNoRequest, IsTold, Performs, Run, Setting, Standing}
+use Rattle.kernel_engine.specs.Session.{DoesMessage, IsTold, Performs, Run, Setting, Standing}
 use Rattle.kernel_engine.specs.Session.{heading_by, number_behind, reply_text}
-use Rattle.kernel_engine.specs.Work.{Ignores, TellsSession, Works, WorksOne, WorksThrough, all_items, setting_of}
+use Rattle.kernel_engine.specs.Work.{TellsSession, Works, WorksOne, WorksThrough, all_items, setting_of}
 use Rattle.kernel_engine.specs.Work.{standing_of}
 use Rattle.kernel_engine.specs.Steps.{TurnsAway}
 use Rattle.kernel_engine.proofs.ServeOnce.{undropped, unmarked}

@@ -1,5 +1,5 @@
 -- A worker's reply, and a worker at its peer.
-use Rattle.std.proofs.Common.{◌≡◌, ◌≢◌, ◌⊎◌, inl, inr, ℕ, ◌+◌, ◌<◌, List, [], ◌∷◌, ◌++◌, length, Option, Some, None}
+use Rattle.std.proofs.Common.{◌≡◌, ◌≢◌, ◌⊎◌, inl, inr, ℕ, ◌<◌, List, length, Option, Some, None}
 use Rattle.std.proofs.Common.{IfSome, sym, subst, arith, length-append, Bool, Result, Ok, Err}
 use Rattle.interp_core.specs.Interpreter.{Meaning}
 use Rattle.iopub_relay.specs.declared.event.Event.{Event}

@@ -120,7 +120,7 @@ pub record ServesPeer {Server : Type 0} (dropped : Bool) (answers : Answering Se
     ]
   ]
 
--- how a session ends that really ended so: want of memory where a message was dropped
+-- the end that is told of a session: want of memory where a message was dropped, and else the end itself
 abbrev pub told : Bool → SessionEnd → SessionEnd
 told true end = Failed Memory
 told false end = end

@@ -1,7 +1,7 @@
 -- A session of an engine with one peer ('Messaging in Jupyter' 5.3, "Introduction", "The Wire Protocol" and "Kernel
 -- status"): what is written to the peer and what is published for the octets that it sends, and how the session ends.
 use Rattle.std.specs.Prelude.{◌≡◌, ◌≢◌, ◌⊎◌, ⊤, ℕ, ◌+◌, List, [], ◌∷◌, ◌++◌, length, Bool, true, false, Option, Some, None}
-use Rattle.std.specs.Prelude.{Result, Ok, Err}
+use Rattle.std.specs.Prelude.{Ok, Err}
 use Rattle.zmtp_wire.specs.declared.fault.WireFault.TheVariants.{OutOfMemory}
 use Rattle.zmtp_wire.specs.declared.handshake.socket_type.SocketType.TheVariants.{Router}
 use Rattle.zmtp_wire.specs.Frame.{text}
@@ -22,7 +22,6 @@ use Rattle.kernel_block.specs.Opens.{ids_of_reply}
 use Rattle.kernel_block.specs.Publications.{PublishesAsked}
 use Rattle.kernel_engine.specs.declared.end.SessionEnd.{SessionEnd}
 use Rattle.kernel_engine.specs.declared.end.SessionEnd.TheVariants.{Eof, Shutdown, Wire, Failed}
-use Rattle.kernel_engine.specs.declared.server.Answered.{Answered}
 use Rattle.kernel_engine.specs.declared.server.Answered.TheVariants.{Done, Dropped}
 use Rattle.kernel_engine.specs.Peer.{Message}
 use Rattle.kernel_engine.specs.Server.{Answering, Serves}
@@ -111,8 +110,8 @@ module _ {State Cell : Type 0} (m : Meaning State Cell) (may : Type 0) (setting 
   abbrev pub IsSession : Standing State → List ℕ → List ℕ → Standing State → SessionEnd → Type 0
   IsSession old octets written new end = Serves false Performs Router old octets written new end
 
--- A session that ended so came to an end by what was read alone, or reading did: no memory, no id and no write was
--- wanting, and no idle is owed that had to be published first.
+-- A session that ended so came to an end by what was read, or by a read: no memory, no id and no write was wanting, and
+-- no request came back for an idle that is owed.
 abbrev pub IsTold : SessionEnd → Type 0
 IsTold Eof = ⊤
 IsTold (Shutdown restart) = ⊤

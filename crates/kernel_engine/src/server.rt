@@ -31,7 +31,8 @@ pub trait Server {
     ///
     /// # Errors
     ///
-    /// How the session ends: `Shutdown` where the message asked for it, or `Failed` with `Memory`, or with `Worn`.
+    /// How the session ends: `Shutdown` where the message asked for it, or `Failed` with `OwedIdle`, with
+    /// `Memory`, or with `Worn`.
     fn answer(
         &mut self,
         alloc: Global,

@@ -20,7 +20,7 @@ use kernel_block::{Engine, EngineFault, Handled, Stop};
 use std::alloc::Global;
 use zmtp_wire::{Inlet, Message, Outlet, SocketType, write_message};
 
-/// What does the messages of a peer, where the cell that runs may be stopped.
+/// What answers the messages of a peer, where the cell that runs may be stopped.
 trait Worker {
     /// One step, by whether a stop may come.
     ghost works: { Type 0 → Answering Self };
@@ -76,11 +76,7 @@ where
 
 /// Adds the text of the reply to a request that was handled, where it has one, and ends the session where the request
 /// asked for a shutdown.
-fn finish(
-    alloc: Global,
-    handled: Handled,
-    reply: &mut Vec<u8>,
-) -> Result<Answered, SessionEnd>
+fn finish(alloc: Global, handled: Handled, reply: &mut Vec<u8>) -> Result<Answered, SessionEnd>
     requires { IfSome handled.reply (λ frames. 0 < length frames) }
     ensures finishes { (octets : List ℕ) × (reply.new.items ≡ reply.old.items ++ octets)
         × Finishes handled octets result }
@@ -100,7 +96,7 @@ fn finish(
 /// A worker with what may stop it.
 #[derive(Drop)]
 struct Working<'e, 's, E, T> {
-    /// What does the messages.
+    /// What answers the messages.
     worker: &'e mut E,
     /// What may stop it.
     stop: &'s T,

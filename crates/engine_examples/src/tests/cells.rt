@@ -187,7 +187,7 @@ fn silent_cells_have_their_expressions_evaluated(rt: HostRuntime) -> Result<(), 
 }
 
 /// What is published of a cell that is interrupted before its third step.
-const STOPPED: [Due<'static>; 6] = [
+pub(super) const STOPPED: [Due<'static>; 6] = [
     ("status", "status", 1, BUSY),
     (
         "execute_input",
@@ -217,7 +217,7 @@ const STOPPED: [Due<'static>; 6] = [
 ];
 
 /// The reply to a cell that was interrupted.
-const INTERRUPTED: &str = concat!(
+pub(super) const INTERRUPTED: &str = concat!(
     r#"{"ename":"Interrupted","evalue":"interrupted","execution_count":1,"#,
     r#""status":"error","traceback":["Interrupted: interrupted"]}"#,
 );

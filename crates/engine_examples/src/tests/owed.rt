@@ -1,5 +1,6 @@
 //! Sinks that refuse: what is owed, what comes back, and what is cut.
 
+use super::contents::INFO;
 use super::*;
 use arith_shell::ShellArith;
 use kernel_block::EngineFault;
@@ -46,6 +47,9 @@ const BLOCKS: [Due<'static>; 4] = [
     ("status", "status", 5, IDLE),
 ];
 
+/// The type of the first request, whose idle is owed.
+const FIRST: &str = "kernel_info_request";
+
 /// The type of a request that has a reply.
 const ASKED: &str = "interrupt_request";
 
@@ -56,18 +60,14 @@ const DONE: &str = r#"{"status":"ok"}"#;
 fn owed_idle_hands_the_next_request_back(rt: HostRuntime) -> Result<(), Fail> {
     let alloc = rt.alloc();
     let mut engine = over(alloc, Side::Control, 2, 3);
-    let p = engine.handle(alloc, request(alloc, ASKED, "{}")?, &Never)?;
-    expect_reply(
-        &rt,
-        alloc,
-        p.reply.as_ref(),
-        ASKED,
-        Some(("", "interrupt_reply", 3, DONE)),
-    )?;
+    let p = engine.handle(alloc, request(alloc, FIRST, "{}")?, &Never)?;
+    let info = Some(("", "kernel_info_reply", 3, INFO));
+    expect_reply(&rt, alloc, p.reply.as_ref(), FIRST, info)?;
     let Err(EngineFault::OwedIdle(q)) = engine.handle(alloc, request(alloc, ASKED, "{}")?, &Never)
     else {
         return Err(Fail::from("the request comes back"));
     };
+    assert_eq!(rt; q.msg_type.as_str(), ASKED);
     let q = engine.handle(alloc, q, &Never)?;
     expect_reply(
         &rt,
@@ -78,7 +78,9 @@ fn owed_idle_hands_the_next_request_back(rt: HostRuntime) -> Result<(), Fail> {
     )?;
     let (items, owed) = left(engine);
     assert!(rt; !owed);
-    expect_all(&rt, alloc, items.as_slice(), ASKED, &BLOCKS)
+    let (first, second) = items.as_slice().split_at(2);
+    expect_all(&rt, alloc, first, FIRST, &BLOCKS[..2])?;
+    expect_all(&rt, alloc, second, ASKED, &BLOCKS[2..])
 }
 
 /// How an engine ends whose sink refuses its pushes from the second to this one: whether an idle is owed still, and how

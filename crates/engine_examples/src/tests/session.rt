@@ -1,5 +1,6 @@
 //! Sessions of an engine with a peer, from the greeting on: what is replied on the wire, and how they end.
 
+use super::cells::{INTERRUPTED, STOPPED};
 use super::contents::{BUSY, IDLE, INFO};
 use super::*;
 use arith_shell::ShellArith;
@@ -118,4 +119,23 @@ fn an_idle_that_stays_owed_ends_a_session(rt: HostRuntime) -> Result<(), Fail> {
     let publishing = engine.close().into_parts().publishing;
     let block = [("status", "status", 1, BUSY), ("status", "status", 2, IDLE)];
     expect_all(&rt, alloc, publishing.sink.items.as_slice(), ASKED, &block)
+}
+
+#[test]
+fn a_cell_of_a_session_stops_where_stop_says_yes(rt: HostRuntime) -> Result<(), Fail> {
+    let alloc = rt.alloc();
+    let cell = "execute_request";
+    let octets = sent(alloc, &[(cell, r#"{"code":"1;2;3"}"#)])?;
+    let mut reader = Counted::new(octets.as_slice());
+    let mut writer = Counted::new(Vec::new(alloc));
+    let signer = Signer::new(Vec::new(alloc));
+    let arith = ShellArith::new(alloc);
+    let mut engine = Engine::new(Side::Shell, arith, ListSink::new(alloc), OneDate, signer);
+    let stop = After { left: Cell::new(2) };
+    let end = session(alloc, &mut reader, &mut writer, &mut engine, &stop, 1000);
+    assert!(rt; matches!(&end, SessionEnd::Eof), "{end:?}");
+    let due = written(alloc, &[(cell, ("", "execute_reply", 7, INTERRUPTED))])?;
+    assert_eq!(rt; writer.into_inner().as_slice(), due.as_slice());
+    let publishing = engine.close().into_parts().publishing;
+    expect_all(&rt, alloc, publishing.sink.items(), cell, &STOPPED)
 }

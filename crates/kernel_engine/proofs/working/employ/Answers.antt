@@ -1,5 +1,5 @@
-use Rattle.std.proofs.Common.{rules, ◌≡◌, refl, sym, ap, subst, ◌∙◌}
-use Rattle.kernel_engine.proofs.SightLemmas.{Sight, peer_seen_as}
+use Rattle.std.proofs.Common.{rules, ◌≡◌, subst, ◌∙◌}
+use Rattle.kernel_engine.proofs.SightLemmas.{peer_seen_as}
 use Rattle.kernel_engine.proofs.working.employ.Goals as goal
 
 pub returns : goal.returns

@@ -1,7 +1,5 @@
-use Rattle.std.proofs.Common.{rules, [], inl, refl, sym, subst}
+use Rattle.std.proofs.Common.{rules, [], inl, refl, sym}
 use Rattle.std.proofs.lemmas.List.{append-nil}
-use Rattle.jmsg_envelope.specs.Envelope.{Opened}
-use Rattle.kernel_engine.specs.Peer.{Message}
 use Rattle.kernel_engine.proofs.WorkLemmas.{finished, handled_frames, no_request}
 use Rattle.kernel_engine.proofs.working.EngineWorker.work.Goals as goal
 
