@@ -12,8 +12,8 @@ use std::collections::VecDeque;
 use std::marker::Model;
 
 /// A language whose cells are letters, each of which is a step. `o`, `e` and `d` write what they are on standard
-/// output, on standard error and on display, `b` the first two, `x` fails, and `v` at the end is a value. `m` finds no memory,
-/// and no memory is found to read `!`. An expression is worth its own text. All else has a fault.
+/// output, on standard error and on display, `b` the first two, `x` fails, and `v` at the end is a value. `m` finds no
+/// memory, and no memory is found to read `!`. An expression is worth its own text. All else has a fault.
 #[derive(Clone, Copy, Debug)]
 pub struct Letters;
 

@@ -1,4 +1,5 @@
--- A replay: the session with one peer on the shell channel, over shell arithmetic, and the lines that are printed of it.
+-- A replay: the session with one peer on the shell channel, over shell arithmetic, and the lines that are printed of
+-- it.
 use Rattle.std.specs.Prelude.{◌≡◌, ℕ, List, [], ◌∷◌, Some, None}
 use Rattle.std.specs.List.{flat_map}
 use Rattle.zmtp_wire.specs.Frame.{text}

@@ -163,7 +163,8 @@ interrupts Control = true
 abbrev pub Answers : {State Cell : Type 0} → Meaning State Cell → Side → Request → State → ℕ → Course State
     → Answer State → Type 0
 Answers m side asks.KernelInfo state count course answer =
-    (info : Result Info InterpFault) × m.tells state info × (answer ≡ plain state count (Some (reply_by info_reply info)))
+    (info : Result Info InterpFault) × m.tells state info
+    × (answer ≡ plain state count (Some (reply_by info_reply info)))
 Answers m side (asks.Execute code silent store_history user_expressions allow_stdin stop_on_error) state count course
     answer = AnswersCell m code user_expressions (grown store_history count) state course answer
 Answers m side (asks.Complete code cursor_pos) state count course answer =

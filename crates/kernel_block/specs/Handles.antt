@@ -121,7 +121,8 @@ module _ {I P S W Cell : Type 0} (m : Meaning I Cell) (items_of : P → List (Op
     }
 
   -- Memory was refused: a beginning of what is published of a request was, and this is what is left.
-  pub record AnswersNot (may : Type 0) (heading : Heading) (msg_type content : List ℕ) (old new : Parts I P S W) : Type 0 where
+  pub record AnswersNot (may : Type 0) (heading : Heading) (msg_type content : List ℕ) (old new : Parts I P S W)
+      : Type 0 where
     pub publications : List Publication
     pub grew : Puts items_of is_same meaning id_text heading old.publishing new.publishing publications
     pub rest : new ≡ record old { interp = new.interp; count = new.count; publishing = new.publishing }

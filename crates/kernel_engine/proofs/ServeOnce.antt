@@ -33,8 +33,8 @@ step_once answers once state one other (traffic.Command name rest) reply also fi
     (none ∙ sym nothing, stays ∙ sym keeps, is ∙ sym same)
 
 -- nothing was dropped, and so it wasn't before
-pub unmarked : (before : Bool) (answered : Answered) (after : Bool) → after ≡ marked before (Ok answered) → after ≡ false
-    → (before ≡ false) × IsDone (Ok answered)
+pub unmarked : (before : Bool) (answered : Answered) (after : Bool) → after ≡ marked before (Ok answered)
+    → after ≡ false → (before ≡ false) × IsDone (Ok answered)
 unmarked before Done after mark none = (sym mark ∙ none, tt)
 unmarked before Dropped after mark none = absurd (let e : true ≡ false = sym mark ∙ none in cc)
 

@@ -92,7 +92,8 @@ module _ {State Cell : Type 0} (m : Meaning State Cell) (laws : RequestLaws m) (
       laws.refused setting.sealing.key message done.request fault refused done.opened
 
   pub performs_once : IsFunction (Performs m may setting)
-  performs_once old one two message reply also (Ok Done) (Ok Done) is will (inl (a, none, same)) (inl (b, nothing, keeps)) =
+  performs_once old one two message reply also (Ok Done) (Ok Done) is will (inl (a, none, same))
+      (inl (b, nothing, keeps)) =
       (none ∙ sym nothing, same ∙ sym keeps, refl)
   performs_once old one two message reply also (Ok Done) (Ok Done) is will (inl drops) (inr (done, goes)) =
       absurd (not_both old one two message reply also drops done)

@@ -29,8 +29,8 @@ use Rattle.kernel_engine.specs.Fault.{IsServerEnd}
 use Rattle.kernel_engine.specs.Laws.{IsDone as IsSettledAnswer}
 use Rattle.kernel_engine.specs.Listen.{RunsOut}
 use Rattle.kernel_engine.specs.Peer.{Message}
-use Rattle.kernel_engine.specs.Server.{Serving, Treats, GoesOn, AnswersAll, IsServed, Serves, ServesPeer, begins, marked}
-use Rattle.kernel_engine.specs.Server.{IsLast, told}
+use Rattle.kernel_engine.specs.Server.{Serving, Treats, GoesOn, AnswersAll, IsLast, IsServed, Serves, ServesPeer}
+use Rattle.kernel_engine.specs.Server.{begins, marked, told}
 use Rattle.kernel_engine.specs.Session.{DoesMessage, IsTold, Performs, Run, Setting, Standing}
 use Rattle.kernel_engine.specs.Session.{heading_by, number_behind, reply_text}
 use Rattle.kernel_engine.specs.Work.{TellsSession, Works, WorksOne, WorksThrough, all_items, setting_of}
@@ -57,7 +57,8 @@ block_items {W} front owed opening last true items owes is (inr (isnt, some)) = 
 block_items {W} front owed opening last false items owes is (inl (closed, none)) = absurd (let e = closed in cc)
 
 -- what stays, by its parts
-abbrev setting_by : (StampMeaning → ℕ → List ℕ) → (StampMeaning → List ℕ → Bool) → Side → List ℕ → StampMeaning → Setting
+abbrev setting_by : (StampMeaning → ℕ → List ℕ) → (StampMeaning → List ℕ → Bool) → Side → List ℕ → StampMeaning
+    → Setting
 setting_by id_text is_date side key stamp = record {
   side = side;
   sealing = record { key = key; session = stamp.session; id = id_text stamp };
@@ -226,8 +227,8 @@ module _ {I P S W Cell : Type 0} (m : Meaning I Cell) (items_of : P → List (Op
               (tells middle (published ++ one.messages) (rest.runs ++ more)) items later (tells new p more))
               (append_assoc published one.messages rest.messages)
               (subst (λ s. AnswersAll (GoesOn (Performs m may s)) (tells middle (published ++ one.messages)
-              (rest.runs ++ more)) items later (tells new ((published ++ one.messages) ++ rest.messages) more)) one.stays
-              (rest.all (published ++ one.messages) more)),
+              (rest.runs ++ more)) items later (tells new ((published ++ one.messages) ++ rest.messages) more))
+              one.stays (rest.all (published ++ one.messages) more)),
           is,
         );
   }

@@ -62,8 +62,8 @@ ServesOnce {Server} answers =
     → Serves false answers ours old octets written one ending → Serves false answers ours old octets also other end
     → (written ≡ also) × (one ≡ other) × (ending ≡ end)
 
--- what a peer comes to with a server stays, whatever the peer sends then, where a fault, the command ERROR or the server
--- ended it
+-- what a peer comes to with a server stays, whatever the peer sends then, where a fault, the command ERROR or the
+-- server ended it
 abbrev pub ServesOn : {Server : Type 0} → Answering Server → Type 0
 ServesOn {Server} answers =
     (ours : SocketType) (old new : Server) (octets after written : List ℕ) (ending : SessionEnd) → IsSettled ending

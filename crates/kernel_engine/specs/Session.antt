@@ -1,7 +1,7 @@
 -- A session of an engine with one peer ('Messaging in Jupyter' 5.3, "Introduction", "The Wire Protocol" and "Kernel
 -- status"): what is written to the peer and what is published for the octets that it sends, and how the session ends.
-use Rattle.std.specs.Prelude.{◌≡◌, ◌≢◌, ◌⊎◌, ⊤, ℕ, ◌+◌, List, [], ◌∷◌, ◌++◌, length, Bool, true, false, Option, Some, None}
-use Rattle.std.specs.Prelude.{Ok, Err}
+use Rattle.std.specs.Prelude.{◌≡◌, ◌≢◌, ◌⊎◌, ⊤, ℕ, ◌+◌, List, [], ◌∷◌, ◌++◌, length, Bool, true, false}
+use Rattle.std.specs.Prelude.{Option, Some, None, Ok, Err}
 use Rattle.zmtp_wire.specs.declared.fault.WireFault.TheVariants.{OutOfMemory}
 use Rattle.zmtp_wire.specs.declared.handshake.socket_type.SocketType.TheVariants.{Router}
 use Rattle.zmtp_wire.specs.Frame.{text}
@@ -87,7 +87,8 @@ module _ {State Cell : Type 0} (m : Meaning State Cell) (may : Type 0) (setting 
     }
 
   -- a message that is opened as a request, which is done
-  pub record DoesMessage (old : Standing State) (message : Message) (reply : List ℕ) (new : Standing State) : Type 0 where
+  pub record DoesMessage (old : Standing State) (message : Message) (reply : List ℕ) (new : Standing State)
+      : Type 0 where
     pub request : Envelope
     pub opened : Opened setting.sealing.key message request
     pub answer : Answer State

@@ -4,4 +4,5 @@ use Rattle.jkernel.specs.Lines.{event_text}
 use Rattle.jkernel.proofs.replay.events_text.Given as goal
 
 abbrev pub invariant-loop-event : goal.invariant-loop-event
-invariant-loop-event l = l.octets.items ++ flat_map event_text (drop l.event-index l.events) ≡ flat_map event_text l.events
+invariant-loop-event l =
+    l.octets.items ++ flat_map event_text (drop l.event-index l.events) ≡ flat_map event_text l.events

@@ -9,8 +9,8 @@ returns g c =
       holds = λ working. working.stop ≡ c.args.stop;
       steps = λ old new message reply answered holds step. (
         step.1 ∙ holds,
-        subst (λ stop. g.E.Worker.works (g.T.Stop.may_ask stop.now) old.worker.now message reply new.worker.now answered)
-            holds step.0,
+        subst (λ stop. g.E.Worker.works (g.T.Stop.may_ask stop.now) old.worker.now message reply new.worker.now
+            answered) holds step.0,
       );
     }) _ _ c.serve.new.server _ (g.R.Inlet.inflow c.args.reader.now) (g.R.Inlet.inflow c.serve.new.reader)
     (g.W.Outlet.outflow c.args.writer.now) (g.W.Outlet.outflow c.serve.new.writer) c.args.turns c.serve.result
