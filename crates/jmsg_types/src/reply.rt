@@ -1,6 +1,6 @@
 //! What a client is replied.
 
-ghost use Rattle.std.specs.Prelude.{◌≡◌, Some, None, IfOk, IfErr};
+ghost use Rattle.std.specs.Prelude.{◌≡◌, Some, None, IfOk, IfErr, IfSome};
 ghost use Rattle.jmsg_types.specs.Reply.{complete_data, execute_error_data, execute_ok_data, inspect_data};
 ghost use Rattle.jmsg_types.specs.Reply.{kernel_info_data, language_data, reply_data, shown_data, values_members};
 ghost use Rattle.jmsg_types.specs.Reply.{verdict_data};
@@ -104,6 +104,20 @@ pub enum Verdict {
     Invalid,
 }
 
+impl Verdict {
+    /// The content of the reply that tells it, as it is sent.
+    #[tactic(auto, unfolding(serde_json::proofs::OnLiterals::serde_json_on_literals))]
+    fn reply_text(self) -> &'static str
+        ensures { result.now ≡ compact_text (verdict_data self) }
+    {
+        match self {
+            Verdict::Complete => r#"{"status":"complete"}"#,
+            Verdict::Incomplete => r#"{"indent":"","status":"incomplete"}"#,
+            Verdict::Invalid => r#"{"status":"invalid"}"#,
+        }
+    }
+}
+
 /// The content of a reply, as JSON.
 ///
 /// # Errors
@@ -126,8 +140,31 @@ pub fn content_text(alloc: Global, reply: &Reply) -> Result<Vec<u8>, ContentFaul
     ensures text { IfOk result (λ text. text.items ≡ compact_text (reply_data reply.now)) }
     ensures memory { IfErr result (λ fault. fault ≡ ContentFault.OutOfMemory) }
 {
+    if let Some(text) = constant_text(reply) {
+        return Ok(Vec::from_slice(alloc, text.as_bytes())?);
+    }
     let value = reply_value(alloc, reply)?;
     Ok(value.to_string(alloc)?.into_bytes())
+}
+
+/// The content of a reply as it is sent, of those that are written out.
+#[tactic(auto, unfolding(serde_json::proofs::OnLiterals::serde_json_on_literals))]
+fn constant_text(reply: &Reply) -> Option<&'static str>
+    ensures { IfSome result (λ text. text.now ≡ compact_text (reply_data reply.now)) }
+{
+    match reply {
+        Reply::History => Some(r#"{"history":[],"status":"ok"}"#),
+        Reply::CommInfo => Some(r#"{"comms":{},"status":"ok"}"#),
+        Reply::Interrupt => Some(r#"{"status":"ok"}"#),
+        Reply::IsComplete(verdict) => Some(verdict.reply_text()),
+        Reply::KernelInfo { .. }
+        | Reply::ExecuteOk { .. }
+        | Reply::ExecuteError { .. }
+        | Reply::Error { .. }
+        | Reply::Complete { .. }
+        | Reply::Inspect(_)
+        | Reply::Shutdown { .. } => None,
+    }
 }
 
 /// The content of a reply, as JSON.
