@@ -99,7 +99,7 @@ cut_short now new opening items rest replies written end same last = record {
           ap (λ o. opening ++ o)
               (wrote ∙ ap (λ o. replies ++ o) none ∙ append-nil replies ∙ same),
         )
-    | inr (is, (lost, split)) ↦
+    | inr (is, some, (lost, split)) ↦
         let (more, back) = back_front now.server new.server last.last last.reply last.answered last.step in
         inr (
           is,

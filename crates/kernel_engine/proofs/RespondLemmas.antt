@@ -1,6 +1,6 @@
 -- A server that hears a peer at its writer.
-use Rattle.std.proofs.Common.{◌≡◌, ◌⊎◌, inl, inr, ℕ, List, [], ◌∷◌, ◌++◌, Result, Ok, Err, IfErr, refl, sym}
-use Rattle.std.proofs.Common.{◌∙◌, ap, subst, append_assoc}
+use Rattle.std.proofs.Common.{◌≡◌, ◌⊎◌, inl, inr, ℕ, ◌+◌, ◌<◌, length, List, [], ◌∷◌, ◌++◌, Result, Ok, Err, IfErr, refl, sym}
+use Rattle.std.proofs.Common.{◌∙◌, ap, subst, append_assoc, arith, length-append}
 use Rattle.zmtp_wire.specs.declared.traffic.Traffic.{Traffic}
 use Rattle.zmtp_wire.specs.Device.{Inflow, Outflow, Puts}
 use Rattle.kernel_engine.specs.declared.server.Answered.{Answered}
@@ -73,7 +73,7 @@ record Ended {Server : Type 0} (answers : Answering Server) (now : Seen Server) 
   step : Treats answers now.serving.server last reply new.serving.server answered
   mark : new.serving.dropped ≡ marked now.serving.dropped answered
   how : ((answered ≡ Err end) × IsServerEnd end × (more ≡ reply))
-      ⊎ ((end ≡ Failed Write) × ((lost : List ℕ) × (reply ≡ more ++ lost)))
+      ⊎ ((end ≡ Failed Write) × (0 < length reply) × ((lost : List ℕ) × (reply ≡ more ++ lost)))
   puts : Puts now.outflow new.outflow more (failed_writes end)
   is : IsDecided end
 
@@ -96,7 +96,7 @@ ended answers now last new end reply (Err found) step mark ends (inl (puts, is))
       puts = subst (Puts now.outflow new.outflow reply) (sym (ap failed_writes same ∙ none)) puts;
       is = subst IsDecided (sym same) sure;
     }
-ended answers now last new end reply answered step mark ends (inr (is, (front, lost, split, puts))) =
+ended answers now last new end reply answered step mark ends (inr (is, (front, lost, split, some, puts))) =
     let same : end ≡ Failed Write = let e = is in cc in
     record {
       more = front;
@@ -104,7 +104,7 @@ ended answers now last new end reply answered step mark ends (inr (is, (front, l
       answered = answered;
       step = step;
       mark = mark;
-      how = inr (same, (lost, split));
+      how = inr (same, omega (arith, some, ap length split, length-append front lost), (lost, split));
       puts = subst (Puts now.outflow new.outflow front) (sym (ap failed_writes same)) puts;
       is = subst IsDecided (sym same) write_decided;
     }
@@ -113,11 +113,12 @@ ended answers now last new end reply answered step mark ends (inr (is, (front, l
 how_behind : {Server : Type 0} (answers : Answering Server) (now : Seen Server) (last : Traffic) (new : Seen Server)
     (end : SessionEnd) (replies : List ℕ) (e : Ended answers now last new end)
     → ((e.answered ≡ Err end) × IsServerEnd end × (replies ++ e.more ≡ replies ++ e.reply))
-    ⊎ ((end ≡ Failed Write) × ((lost : List ℕ) × (replies ++ e.reply ≡ (replies ++ e.more) ++ lost)))
+    ⊎ ((end ≡ Failed Write) × (0 < length e.reply)
+    × ((lost : List ℕ) × (replies ++ e.reply ≡ (replies ++ e.more) ++ lost)))
 how_behind answers now last new end replies e = elim e.how [
   | inl (is, ends, same) ↦ inl (is, ends, ap (λ o. replies ++ o) same)
-  | inr (is, (lost, split)) ↦
-      inr (is, (lost, ap (λ o. replies ++ o) split ∙ sym (append_assoc replies e.more lost)))
+  | inr (is, some, (lost, split)) ↦
+      inr (is, some, (lost, ap (λ o. replies ++ o) split ∙ sym (append_assoc replies e.more lost)))
 ]
 
 -- no write failed where listening ended with what was heard

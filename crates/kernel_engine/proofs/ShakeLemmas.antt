@@ -48,7 +48,7 @@ silent ours octets opening short is = inl (record { short = short; greets = is; 
 pub greeting_unsent : (ours : SocketType) (inflow : Inflow) (before after : Outflow) (turns : ℕ) (octets : List ℕ)
     (end : SessionEnd) → octets ≡ greeting_octets → PutsAll before after octets (Err end)
     → Exchange (TurnsAway ours) inflow inflow before after turns turns tt end
-greeting_unsent ours inflow before after turns octets end same (failed, (front, lost, is, puts)) = rw failed (record {
+greeting_unsent ours inflow before after turns octets end same (failed, (front, lost, is, some, puts)) = rw failed (record {
   read = [];
   written = front;
   reading = decided inflow inflow turns turns [] (Failed Write) write_decided (leg_none inflow turns);
@@ -149,7 +149,7 @@ pub ready_unsent : (ours : SocketType) (inflow inflow' : Inflow) (before middle 
     → PutsAll middle after octets (Err end)
     → Exchange (TurnsAway ours) inflow inflow' before after turns left tt end
 ready_unsent ours inflow inflow' before middle after turns left opening octets end same puts whole leg accepted
-    (failed, (front, lost, is, put)) = rw failed (record {
+    (failed, (front, lost, is, some, put)) = rw failed (record {
       read = opening;
       written = greeting_octets ++ front;
       reading = decided inflow inflow' turns left opening (Failed Write) write_decided leg;

@@ -1,7 +1,7 @@
 -- A session of an engine, as its definition tells it: each step of the engine is one of the session, for some course
 -- and date.
-use Rattle.std.proofs.Common.{◌≡◌, ◌⊎◌, inl, inr, ℕ, ◌+◌, List, [], ◌∷◌, ◌++◌, Bool, true, false, Option, Some}
-use Rattle.std.proofs.Common.{None, Ok, Err, refl, sym, ◌∙◌, ap, subst, append_assoc, map}
+use Rattle.std.proofs.Common.{◌≡◌, ◌⊎◌, inl, inr, ℕ, ◌+◌, ◌<◌, List, [], ◌∷◌, ◌++◌, length, Bool, true, false}
+use Rattle.std.proofs.Common.{Option, Some, None, Result, Ok, Err, refl, sym, ◌∙◌, ap, subst, append_assoc, map, arith}
 use Rattle.std.proofs.lemmas.List.{append-nil, map-append}
 use Rattle.zmtp_wire.specs.declared.handshake.socket_type.SocketType.TheVariants.{Router}
 use Rattle.zmtp_wire.specs.declared.traffic.Traffic.{Traffic}
@@ -71,6 +71,10 @@ same_setting : (id_text : StampMeaning → ℕ → List ℕ) (is_date : StampMea
 same_setting id_text is_date side other key also stamp same a b c =
     ap (λ s. setting_by id_text is_date s key stamp) a ∙ ap (λ k. setting_by id_text is_date other k stamp) b
     ∙ ap (λ t. setting_by id_text is_date other also t) c
+
+-- octets that are some aren't none
+no_octet : (octets : List ℕ) → 0 < length octets → octets ≡ [] → ⊥
+no_octet octets some none = omega (arith, some, ap length none)
 
 -- a message that wasn't dropped was done
 answered_done : (answered : Answered) → IsSettledAnswer (Ok answered) → answered ≡ Done
@@ -313,22 +317,32 @@ module _ {I P S W Cell : Type 0} (m : Meaning I Cell) (items_of : P → List (Op
         stays = treated.stays;
       }
 
-  -- a session that a request for a shutdown ended
-  told_shut : (old new : Parts I P S W) (octets written : List ℕ) (restart : Bool)
+  -- a session that ended at one message, which was done as a request
+  told_at : (old new : Parts I P S W) (octets written : List ℕ) (end : SessionEnd)
       (served : IsServed false (WorksOne m items_of may_refuse is_same meaning id_text is_date may) Router old octets
-      written new (Shutdown restart))
+      written new end)
       (last : IsLast (WorksOne m items_of may_refuse is_same meaning id_text is_date may) served.converses.now
-      served.converses.rest served.converses.replies served.replies (record { server = new; dropped = false })
-      (Shutdown restart))
+      served.converses.rest served.converses.replies served.replies (record { server = new; dropped = false }) end)
       → (message : Message) → last.last ≡ traffic.Message message → served.converses.now.dropped ≡ false
-      → (through : WorksThrough m items_of may_refuse is_same meaning id_text is_date may true
-      served.converses.now.server message last.reply new) → restart ≡ through.handled.restart
-      → served.replies ≡ served.converses.replies ++ last.reply
-      → TellsSession m items_of meaning id_text is_date may old octets written new (Shutdown restart)
-  told_shut old new octets written restart served last message named kept through again wrote =
+      → (handled : Handled)
+      → Works m items_of may_refuse is_same meaning id_text is_date may served.converses.now.server message handled new
+      → last.reply ≡ reply_text handled.reply → (answered : Result Answered SessionEnd)
+      → ((one two : Standing I)
+      (done : DoesMessage m may (setting_of meaning id_text is_date served.converses.now.server) one message last.reply
+      two) → done.answer.end ≡ handled.end → done.answer.restart ≡ handled.restart
+      → Performs m may (setting_of meaning id_text is_date served.converses.now.server) one message last.reply two
+      answered)
+      → false ≡ marked false answered
+      → ((answered ≡ Err end) × IsServerEnd end × (served.replies ≡ served.converses.replies ++ last.reply))
+      ⊎ ((end ≡ Failed Write) × (0 < length last.reply)
+      × ((lost : List ℕ) × (served.converses.replies ++ last.reply ≡ served.replies ++ lost)))
+      → TellsSession m items_of meaning id_text is_date may old octets written new end
+  told_at old new octets written end served last message named kept handled works replied answered performs mark how =
       let talk = served.converses in
       let treated = treated_all (begins old) talk.now talk.traffic talk.replies talk.answered kept in
-      let one = is_done talk.now.server message through.handled last.reply new through.works through.replied in
+      let one = is_done talk.now.server message handled last.reply new works replied in
+      let before = standing_of talk.now.server treated.messages (one.run ∷ []) in
+      let after = standing_of new (treated.messages ++ one.messages) [] in
       let (done, end_is, restart_is) = one.does treated.messages [] in
       record {
         runs = treated.runs ++ one.run ∷ [];
@@ -352,16 +366,13 @@ module _ {I P S W Cell : Type 0} (m : Meaning I Cell) (items_of : P → List (Op
               comes = last.comes;
               harmless = last.harmless;
               reply = last.reply;
-              answered = Err (Shutdown restart);
-              step = subst (λ t. Treats (Performs m may (setting_of meaning id_text is_date old))
-                  (standing_of talk.now.server treated.messages (one.run ∷ [])) t last.reply
-                  (standing_of new (treated.messages ++ one.messages) []) (Err (Shutdown restart))) (sym named)
-                  (subst (λ s. Performs m may s (standing_of talk.now.server treated.messages (one.run ∷ [])) message
-                  last.reply (standing_of new (treated.messages ++ one.messages) []) (Err (Shutdown restart)))
-                  treated.stays
-                  (done, end_is ∙ through.end, ap Shutdown (again ∙ sym restart_is)));
-              mark = refl;
-              how = inl (refl, tt, wrote);
+              answered = answered;
+              step = subst (λ t. Treats (Performs m may (setting_of meaning id_text is_date old)) before t last.reply
+                  after answered) (sym named)
+                  (subst (λ s. Performs m may s before message last.reply after answered) treated.stays
+                  (performs before after done end_is restart_is));
+              mark = mark;
+              how = how;
             });
           };
           all = served.all;
@@ -371,6 +382,49 @@ module _ {I P S W Cell : Type 0} (m : Meaning I Cell) (items_of : P → List (Op
             ∙ ap (λ o. all_items items_of old ++ o) (sym (map-append item_of treated.messages one.messages));
         stays = one.stays ∙ treated.stays;
       }
+
+  -- a session that ended where the reply to one traffic couldn't be written
+  told_cut : (old new : Parts I P S W) (octets written : List ℕ) (end : SessionEnd) → end ≡ Failed Write
+      → (served : IsServed false (WorksOne m items_of may_refuse is_same meaning id_text is_date may) Router old octets
+      written new end)
+      (last : IsLast (WorksOne m items_of may_refuse is_same meaning id_text is_date may) served.converses.now
+      served.converses.rest served.converses.replies served.replies (record { server = new; dropped = false }) end)
+      → (item : Traffic) → last.last ≡ item → (answered : Result Answered SessionEnd)
+      → Treats (WorksOne m items_of may_refuse is_same meaning id_text is_date may) served.converses.now.server item
+      last.reply new answered → false ≡ marked served.converses.now.dropped answered → 0 < length last.reply
+      → (lost : List ℕ) × (served.converses.replies ++ last.reply ≡ served.replies ++ lost)
+      → TellsSession m items_of meaning id_text is_date may old octets written new end
+  told_cut old new octets written end is served last (traffic.Command name rest) named answered (none, same, goes) mark
+      some lost =
+      absurd (no_octet last.reply some none)
+  told_cut old new octets written end is served last (traffic.Message message) named (Ok Done) (inl ignores) mark some
+      lost =
+      absurd (no_octet last.reply some ignores.silent)
+  told_cut old new octets written end is served last (traffic.Message message) named (Ok Done) (inr through) mark some
+      lost =
+      told_at old new octets written end served last message named (sym mark) through.handled through.works
+      through.replied (Ok Done) (λ one two done end_is restart_is. inr (done, end_is ∙ through.end)) refl
+      (inr (is, some, lost))
+  told_cut old new octets written end is served last (traffic.Message message) named (Ok Dropped) loses mark some lost
+      =
+      absurd (let e = mark in cc)
+  told_cut old new octets written end is served last (traffic.Message message) named (Err Eof) step mark some lost =
+      absurd step
+  told_cut old new octets written end is served last (traffic.Message message) named (Err (Wire fault)) step mark some
+      lost =
+      absurd step
+  told_cut old new octets written end is served last (traffic.Message message) named (Err (Shutdown restart))
+      (through, again) mark some lost =
+      told_at old new octets written end served last message named (sym mark) through.handled through.works
+      through.replied (Err (Shutdown restart))
+      (λ one two done end_is restart_is. (done, end_is ∙ through.end, ap Shutdown (again ∙ sym restart_is))) refl
+      (inr (is, some, lost))
+  told_cut old new octets written end is served last (traffic.Message message) named (Err (Failed fault)) (inl refuses)
+      mark some lost =
+      absurd (no_octet last.reply some refuses.silent)
+  told_cut old new octets written end is served last (traffic.Message message) named (Err (Failed fault)) (inr vain)
+      mark some lost =
+      absurd (no_octet last.reply some vain.silent)
 
   -- a session that the engine ended at one traffic
   told_last : (old new : Parts I P S W) (octets written : List ℕ) (end : SessionEnd) → IsTold end
@@ -396,8 +450,11 @@ module _ {I P S W Cell : Type 0} (m : Meaning I Cell) (items_of : P → List (Op
       absurd (let e = goes in cc)
   told_last old new octets written (Shutdown restart) settled served last (traffic.Message message) named is ends
       (through, again) wrote =
-      told_shut old new octets written restart served last message named
-      (sym (last.mark ∙ ap (marked served.converses.now.dropped) is)) through again wrote
+      told_at old new octets written (Shutdown restart) served last message named
+      (sym (last.mark ∙ ap (marked served.converses.now.dropped) is)) through.handled through.works through.replied
+      (Err (Shutdown restart))
+      (λ one two done end_is restart_is. (done, end_is ∙ through.end, ap Shutdown (again ∙ sym restart_is))) refl
+      (inl (refl, tt, wrote))
 
   told_served : (old new : Parts I P S W) (octets written : List ℕ) (end : SessionEnd) → IsTold end
       → Serves false (WorksOne m items_of may_refuse is_same meaning id_text is_date may) Router old octets written new
@@ -412,7 +469,8 @@ module _ {I P S W Cell : Type 0} (m : Meaning I Cell) (items_of : P → List (Op
           told_last old new octets written end settled served last last.last refl is ends
           (subst (λ a. Treats (WorksOne m items_of may_refuse is_same meaning id_text is_date may)
           served.converses.now.server last.last last.reply new a) is last.step) wrote
-      | inr (is, lost) ↦ absurd (subst IsTold is settled)
+      | inr (is, some, lost) ↦
+          told_cut old new octets written end is served last last.last refl last.answered last.step last.mark some lost
     ]
   ]
 

@@ -1,5 +1,5 @@
 -- The steps of a session with a server, by what each of them did.
-use Rattle.std.specs.Prelude.{◌≡◌, ◌⊎◌, ⊤, ℕ, List, [], ◌++◌, Bool, Result, Ok, Err, IfErr}
+use Rattle.std.specs.Prelude.{◌≡◌, ◌⊎◌, ⊤, ℕ, ◌<◌, List, [], ◌++◌, length, Bool, Result, Ok, Err, IfErr}
 use Rattle.std.proofs.Common.{inl, inr}
 use Rattle.zmtp_wire.specs.declared.traffic.Traffic.{Traffic}
 use Rattle.zmtp_wire.specs.Device.{Inflow, Outflow, Puts}
@@ -27,7 +27,7 @@ abbrev pub Writes : Outflow → Outflow → List ℕ → Result Answered Session
 Writes before after reply answered result =
     (Puts before after reply 0 × (result ≡ went answered))
     ⊎ ((result ≡ Err (Failed Write))
-    × ((front : List ℕ) × (lost : List ℕ) × (reply ≡ front ++ lost) × Puts before after front 1))
+    × ((front : List ℕ) × (lost : List ℕ) × (reply ≡ front ++ lost) × (0 < length lost) × Puts before after front 1))
 
 -- Traffic was treated, and the reply written.
 pub record Responds {Server : Type 0} (answers : Answering Server) (old : Seen Server) (traffic : Traffic)

@@ -1,5 +1,6 @@
 -- What a server makes of what a peer says.
-use Rattle.std.specs.Prelude.{◌≡◌, ◌⊎◌, ⊤, ℕ, List, [], ◌∷◌, ◌++◌, Bool, true, false, Result, Ok, Err}
+use Rattle.std.specs.Prelude.{◌≡◌, ◌⊎◌, ⊤, ℕ, ◌<◌, List, [], ◌∷◌, ◌++◌, length, Bool, true, false, Result, Ok}
+use Rattle.std.specs.Prelude.{Err}
 use Rattle.std.proofs.Common.{inl, inr}
 use Rattle.zmtp_wire.specs.declared.handshake.socket_type.SocketType.{SocketType}
 use Rattle.zmtp_wire.specs.declared.traffic.Traffic.{Traffic}
@@ -72,7 +73,7 @@ pub record IsLast {Server : Type 0} (answers : Answering Server) (now : Serving 
   pub step : Treats answers now.server last reply new.server answered
   pub mark : new.dropped ≡ marked now.dropped answered
   pub how : ((answered ≡ Err end) × IsServerEnd end × (written ≡ replies ++ reply))
-      ⊎ ((end ≡ Failed Write) × ((lost : List ℕ) × (replies ++ reply ≡ written ++ lost)))
+      ⊎ ((end ≡ Failed Write) × (0 < length reply) × ((lost : List ℕ) × (replies ++ reply ≡ written ++ lost)))
 
 -- What octets behind a peer's READY come to with a server, of which a message was dropped or none: all that they say
 -- is answered, or the session ended at one traffic.

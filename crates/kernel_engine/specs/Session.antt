@@ -111,8 +111,9 @@ module _ {State Cell : Type 0} (m : Meaning State Cell) (may : Type 0) (setting 
   abbrev pub IsSession : Standing State → List ℕ → List ℕ → Standing State → SessionEnd → Type 0
   IsSession old octets written new end = Serves false Performs Router old octets written new end
 
--- A session that ended so came to an end by what was read, or by a read: no memory, no id and no write was wanting, and
--- no request came back for an idle that is owed.
+-- A session that ended so came to an end by what was read, or by a read or a write: no memory and no id was wanting, and
+-- no request came back for an idle that is owed. Where a write failed, it is that of the messages up to the one at whose
+-- reply it did, and a beginning of its text is written.
 abbrev pub IsTold : SessionEnd → Type 0
 IsTold Eof = ⊤
 IsTold (Shutdown restart) = ⊤
@@ -120,6 +121,6 @@ IsTold (Wire fault) = fault ≢ OutOfMemory
 IsTold (Failed (OwedIdle request)) = ⊥
 IsTold (Failed Memory) = ⊥
 IsTold (Failed Read) = ⊤
-IsTold (Failed Write) = ⊥
+IsTold (Failed Write) = ⊤
 IsTold (Failed Turns) = ⊤
 IsTold (Failed Worn) = ⊥

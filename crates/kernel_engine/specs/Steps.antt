@@ -49,11 +49,11 @@ fresh = record { limits = usual_limits; kept = []; spent = false }
 abbrev pub IsFed : Fed → Decoding → List ℕ → Type 0
 IsFed fed decoder octets = Feeds fresh octets fed.traffic fed.fault decoder × (decoder.limits ≡ usual_limits)
 
--- octets were written, or a beginning of them before a write failed, and nothing else ends it
+-- octets were written, or a beginning of them and not all before a write failed, and nothing else ends it
 abbrev pub PutsAll : Outflow → Outflow → List ℕ → Result Unit SessionEnd → Type 0
 PutsAll before after octets (Ok done) = Puts before after octets 0
 PutsAll before after octets (Err end) = (end ≡ Failed Write)
-    × ((front : List ℕ) × (lost : List ℕ) × (octets ≡ front ++ lost) × Puts before after front 1)
+    × ((front : List ℕ) × (lost : List ℕ) × (octets ≡ front ++ lost) × (0 < length lost) × Puts before after front 1)
 
 -- Hands were shaken with a peer: these octets were read and written, and these stand behind the peer's READY. No read
 -- was made once that READY had come.

@@ -168,8 +168,8 @@ where
         (T.may_ask stop.now)) Router engine.old (R.inflow reader.old) (R.inflow reader.new) (W.outflow writer.old)
         (W.outflow writer.new) turns left engine.new ended × (result ≡ told dropped ended) }
 
-    // Where what the peer sent ended it, or reading did: what was written and published is the session's, for some
-    // courses and dates.
+    // Where what the peer sent ended it, or a read or a write did: what was written and published is the session's, for
+    // some courses and dates.
     ensures tells { IsTold result → (left : ℕ) × Exchange (TellsSession I.meaning P.items_of S.meaning S.id_text
         S.is_date (T.may_ask stop.now) engine.old) (R.inflow reader.old) (R.inflow reader.new)
         (W.outflow writer.old) (W.outflow writer.new) turns left engine.new result }

@@ -65,11 +65,11 @@ pub record Puts (old new : Outflow) (octets : List ℕ) (failures : ℕ) : Type 
   pub added : Appends old.written new.written octets
   pub fails : new.failures ≡ risen_by failures old.failures
 
--- All of the octets were added; or a beginning of them, and then a write failed or took nothing.
+-- All of the octets were added; or a beginning of them and not all, and then a write failed or took nothing.
 abbrev pub AddsAll : Outflow → Outflow → Result Unit WriteFailed → List ℕ → Type 0
 AddsAll old new (Ok done) octets = Puts old new octets 0
 AddsAll old new (Err failed) octets = (front : List ℕ) × (lost : List ℕ) × (octets ≡ front ++ lost)
-    × Puts old new front 1
+    × (0 < length lost) × Puts old new front 1
 
 -- a device and its counts
 pub record Counting (Device : Type 0) : Type 0 where
