@@ -33,7 +33,7 @@ use Rattle.kernel_engine.specs.Server.{Serving, Treats, GoesOn, AnswersAll, IsLa
 use Rattle.kernel_engine.specs.Server.{begins, marked, told}
 use Rattle.kernel_engine.specs.Session.{DoesMessage, IsTold, Performs, Run, Setting, Standing}
 use Rattle.kernel_engine.specs.Session.{heading_by, number_behind, reply_text}
-use Rattle.kernel_engine.specs.Work.{TellsSession, Works, WorksOne, WorksThrough, all_items, setting_of}
+use Rattle.kernel_engine.specs.Work.{TellsSession, Works, WorksOne, all_items, setting_of}
 use Rattle.kernel_engine.specs.Work.{standing_of}
 use Rattle.kernel_engine.specs.Steps.{TurnsAway}
 use Rattle.kernel_engine.proofs.ServeOnce.{undropped, unmarked}
