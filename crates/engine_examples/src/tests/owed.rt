@@ -78,8 +78,9 @@ fn owed_idle_hands_the_next_request_back(rt: HostRuntime) -> Result<(), Fail> {
     )?;
     let (items, owed) = left(engine);
     assert!(rt; !owed);
-    let (first, second) = items.as_slice().split_at(2);
+    let first = items.get(..2).ok_or("a block")?;
     expect_all(&rt, alloc, first, FIRST, &BLOCKS[..2])?;
+    let second = items.get(2..).ok_or("another block")?;
     expect_all(&rt, alloc, second, ASKED, &BLOCKS[2..])
 }
 
