@@ -10,4 +10,5 @@ pub mod Limits
 pub mod Pending
 pub mod Ready
 pub mod SocketType
+pub mod Subscription
 pub mod Traffic

@@ -19,8 +19,9 @@ pub use laws::{any_cutting, one_fault, one_reading, text_is_read_first};
 pub use traffic::Traffic;
 pub use traffic::decoder::{Decoder, Fed};
 pub use traffic::frame::Frame;
+pub use traffic::head::{Head, frame_head};
 pub use traffic::limits::Limits;
-pub use traffic::message::{Message, write_message};
+pub use traffic::message::{Message, text_len, write_frames, write_message};
 
 #[cfg(test)]
 mod tests;

@@ -4,3 +4,4 @@ mod decoder;
 mod device;
 mod fault;
 mod handshake;
+mod writing;

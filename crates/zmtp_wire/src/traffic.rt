@@ -4,10 +4,12 @@ mod command;
 pub(crate) mod decoder;
 mod flags;
 pub(crate) mod frame;
+pub(crate) mod head;
 pub(crate) mod limits;
 pub(crate) mod message;
 mod pending;
 mod size;
+mod subscription;
 
 use listed::Octets;
 

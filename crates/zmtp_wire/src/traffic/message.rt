@@ -2,12 +2,14 @@
 
 ghost use Rattle.std.specs.Prelude.{◌≡◌, ◌+◌, ◌<◌, ◌≤◌, ◌++◌, length, OnOk, OnErr, IfErr, IfSome, IfNone, vec_len};
 ghost use Rattle.std.specs.Prelude.{vec_capacity, false};
+ghost use Rattle.zmtp_wire.specs.Device.{AddsAll};
 ghost use Rattle.zmtp_wire.specs.Frame.{text, frame_octets, shortest};
 ghost use Rattle.listed.specs.Bodies.{bodies};
 ghost use Rattle.zmtp_wire.specs.declared.fault.WireFault.TheVariants.{OutOfMemory};
 
+use crate::device::{Outlet, WriteFailed, write_all};
 use crate::fault::WireFault;
-use crate::traffic::flags::Flags;
+use crate::traffic::head::frame_head;
 use listed::Frames;
 use std::alloc::Global;
 use std::marker::Model;
@@ -80,8 +82,9 @@ pub fn write_message(_alloc: Global, frames: &[Vec<u8>], out: &mut Vec<u8>) -> R
     Ok(())
 }
 
-/// How many octets the text of a message of these frames has, or nothing where a `usize` can't say it.
-fn text_len(frames: &[Vec<u8>]) -> Option<usize>
+/// How many octets the text of a message of these frames has, or nothing where a `usize` can't say it. Needs no
+/// memory.
+pub fn text_len(frames: &[Vec<u8>]) -> Option<usize>
     ensures said { IfSome result (λ len. len ≡ length (text (bodies frames.now))) }
     ensures unsaid { IfNone result (usize.MAX < length (text (bodies frames.now))) }
 {
@@ -96,15 +99,7 @@ fn text_len(frames: &[Vec<u8>]) -> Option<usize>
 fn frame_len(body: &[u8]) -> usize
     ensures { result ≡ length (frame_octets false false (shortest body.now)) }
 {
-    let head = if is_long(body) { 9 } else { 2 };
-    head + body.len()
-}
-
-/// Whether one octet can't say the size of this body.
-fn is_long(body: &[u8]) -> bool
-    ensures { result ≡ (shortest body.now).long }
-{
-    body.len() > 255
+    frame_head(false, body.len()).octets().len() + body.len()
 }
 
 /// Appends the frames, for which there is room.
@@ -124,18 +119,33 @@ fn append_frame(more: bool, body: &[u8], out: &mut Vec<u8>)
     ensures frame { out.new.items ≡ out.old.items ++ frame_octets more false (shortest body.now) }
     ensures room { vec_capacity out.old ≤ vec_capacity out.new }
 {
-    let long = is_long(body);
-    let flags = Flags {
-        more,
-        long,
-        command: false,
-    };
-    out.push(flags.octet()).unwrap();
-    if long {
-        out.extend_from_slice(&(body.len() as u64).to_be_bytes())
-            .unwrap();
-    } else {
-        out.push(body.len() as u8).unwrap();
-    }
+    let head = frame_head(more, body.len());
+    out.extend_from_slice(head.octets()).unwrap();
     out.extend_from_slice(body).unwrap();
+}
+
+/// Writes the text of a message of these frames, head by head and body by body: the octets that `write_message`
+/// appends, without memory.
+///
+/// # Errors
+///
+/// At the first write that fails or takes nothing. A beginning of the text was added.
+pub fn write_frames<W: Outlet>(writer: &mut W, frames: &[Vec<u8>]) -> Result<(), WriteFailed>
+    ensures { AddsAll (W.outflow writer.old) (W.outflow writer.new) result (text (bodies frames.now)) }
+{
+    let last = frames.len();
+    for (i, frame) in frames.iter().enumerate() {
+        write_frame(writer, i + 1 < last, frame)?;
+    }
+    Ok(())
+}
+
+/// Writes a frame.
+fn write_frame<W: Outlet>(writer: &mut W, more: bool, body: &[u8]) -> Result<(), WriteFailed>
+    ensures { AddsAll (W.outflow writer.old) (W.outflow writer.new) result
+        (frame_octets more false (shortest body.now)) }
+{
+    let head = frame_head(more, body.len());
+    write_all(writer, head.octets())?;
+    write_all(writer, body)
 }
