@@ -5,7 +5,7 @@ use Rattle.std.proofs.lemmas.List.{append-nil}
 use Rattle.zmtp_wire.specs.declared.traffic.Traffic.{Traffic}
 use Rattle.zmtp_wire.specs.Device.{Inflow}
 use Rattle.kernel_engine.specs.declared.end.SessionEnd.{SessionEnd}
-use Rattle.kernel_engine.specs.declared.shaking.Shaken.{Shaken}
+use Rattle.kernel_engine.specs.declared.shaking.Unheard.{Unheard}
 use Rattle.kernel_engine.specs.Intake.{Taking, Grows, Fills, FillsOne, FillsAll}
 use Rattle.kernel_engine.specs.Listen.{Hearing, HearsAll, Listens}
 use Rattle.kernel_engine.proofs.SeenLemmas.{out_seen, off_seen}
@@ -38,7 +38,7 @@ grown view takes told old new (first ∷ others) (middle, (one, put), rest) =
 
 filled : {Listener Intake : Type 0} (view : Listener → Intake) (takes : Taking Intake)
     (told : Intake → Option (List Traffic)) (old : Listener) (before : List ℕ) (inflow inflow' : Inflow)
-    (turns left : ℕ) (new : Listener) (after : Shaken) (end : SessionEnd)
+    (turns left : ℕ) (new : Listener) (after : Option Unheard) (end : SessionEnd)
     → Listens (fills_by view takes told) old before inflow inflow' turns left new after end
     → FillsAll takes told (view old) before inflow inflow' turns left (view new) after end
 filled view takes told old before inflow inflow' turns left new after end (inl out) = record {
@@ -48,7 +48,7 @@ filled view takes told old before inflow inflow' turns left new after end (inl o
 }
 filled view takes told old before inflow inflow' turns left new after end (inr off) = record {
   listens = inr (off_seen view (fills_by view takes told) (Fills takes) (λ a b traffic result one. one.0) old before
-      inflow inflow' turns left new end off);
+      inflow inflow' turns left new after end off);
   put = subst (Grows (told (view old)) (told (view new))) (append-nil off.heard.traffic)
       (grows_on (told (view old)) (told (view off.now)) (told (view new)) off.heard.traffic []
       (grown view takes told old off.now off.heard.traffic off.heard.handed) off.ends.1);
@@ -57,7 +57,7 @@ filled view takes told old before inflow inflow' turns left new after end (inr o
 -- the same of what the intake became
 pub filled_as : {Listener Intake : Type 0} (view : Listener → Intake) (takes : Taking Intake)
     (told : Intake → Option (List Traffic)) (old : Listener) (before : List ℕ) (inflow inflow' : Inflow)
-    (turns left : ℕ) (new : Listener) (state : Intake) → state ≡ view new → (after : Shaken) (end : SessionEnd)
+    (turns left : ℕ) (new : Listener) (state : Intake) → state ≡ view new → (after : Option Unheard) (end : SessionEnd)
     → Listens (fills_by view takes told) old before inflow inflow' turns left new after end
     → FillsAll takes told (view old) before inflow inflow' turns left state after end
 filled_as view takes told old before inflow inflow' turns left new state became after end heard =

@@ -19,4 +19,5 @@ pub mod SightLemmas
 pub mod TellLemmas
 pub mod TrafficLemmas
 pub mod Unfinished
+pub mod UnheardLemmas
 pub mod WorkLemmas

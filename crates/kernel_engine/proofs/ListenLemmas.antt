@@ -1,7 +1,8 @@
 -- Listening to a peer, piece by piece.
-use Rattle.std.proofs.Common.{◌≡◌, ◌⊎◌, inl, inr, ℕ, ◌<◌, List, [], ◌++◌, length, false, Option, Some, None}
-use Rattle.std.proofs.Common.{Ok, Err, refl, sym, ◌∙◌, subst, append_assoc}
-use Rattle.std.proofs.lemmas.List.{append-nil}
+use Rattle.std.proofs.Common.{◌≡◌, ◌⊎◌, inl, inr, ℕ, ◌+◌, ◌<◌, ◌≤◌, List, [], ◌++◌, length, take, drop, false}
+use Rattle.std.proofs.Common.{Option, Some, None, Result, Ok, Err, refl, sym, ◌∙◌, ap, subst}
+use Rattle.std.proofs.Common.{append_assoc}
+use Rattle.std.proofs.lemmas.List.{append-nil, take-take, take-append-le}
 use Rattle.zmtp_wire.specs.declared.fault.WireFault.{WireFault}
 use Rattle.zmtp_wire.specs.declared.fault.WireFault.TheVariants.{OutOfMemory}
 use Rattle.zmtp_wire.specs.declared.traffic.Traffic.{Traffic}
@@ -14,11 +15,13 @@ use Rattle.zmtp_wire.specs.Device.{Inflow}
 use Rattle.kernel_engine.specs.declared.end.SessionEnd.{SessionEnd}
 use Rattle.kernel_engine.specs.declared.end.SessionEnd.TheVariants.{Wire, Failed}
 use Rattle.kernel_block.specs.declared.fault.EngineFault.TheVariants.{Memory}
-use Rattle.kernel_engine.specs.declared.shaking.Shaken.{Shaken}
+use Rattle.kernel_engine.specs.declared.shaking.Unheard.{Unheard}
 use Rattle.kernel_engine.specs.Peer.{IsCalm, BeginsWith, EndsBehind, EndsAs}
 use Rattle.kernel_engine.specs.Listen.{Hearing, HearsAll, Heard, Listens, IsPause, IsHeardOut}
-use Rattle.kernel_engine.specs.Handing.{HandsFront, HandsFed, HandsPiece, HandsNone}
-use Rattle.kernel_engine.specs.Steps.{Leg, IsFed, fresh}
+use Rattle.kernel_engine.specs.Exchange.{Reading}
+use Rattle.kernel_engine.specs.Handing.{HandsFront, HandsFed}
+use Rattle.kernel_engine.specs.Met.{IsLeftOf}
+use Rattle.kernel_engine.specs.Steps.{Leg, IsStop, fresh}
 use Rattle.kernel_engine.proofs.Legs.{leg_none, leg_on, stop_on, decided, wire_decided, memory_decided}
 use Rattle.kernel_engine.proofs.FirstLemmas.{fed_all}
 use Rattle.kernel_engine.proofs.PromptLemmas.{piece_needed, last_read}
@@ -182,7 +185,8 @@ pub record ListeningSoFar {Listener : Type 0} (hears : Hearing Listener) (old no
 -- what came with READY was handed on, and listening goes on
 pub listening_begins : {Listener : Type 0} (hears : Hearing Listener) (old new : Listener) (fed : Fed)
     (decoder : Decoding) (inflow : Inflow) (turns : ℕ) (before : List ℕ)
-    → IsFed fed decoder before → HandsFed hears old fed.traffic fed.fault new (Ok tt)
+    → IsLeftOf (record { fed = fed; decoder = decoder }) before
+    → HandsFed hears old fed.traffic fed.fault new (Ok tt)
     → ListeningSoFar hears old new decoder inflow inflow turns turns before
 listening_begins hears old new fed decoder inflow turns before (feeds, limits) handed = record {
   read = [];
@@ -191,6 +195,46 @@ listening_begins hears old new fed decoder inflow turns before (feeds, limits) h
       (heard_more hears old old new fresh decoder [] before fed.traffic fed.fault (heard_none hears old) feeds limits
       handed);
 }
+
+-- A piece was read in one turn, and what it brought was handed on.
+pub record HandsPiece {Listener : Type 0} (hears : Hearing Listener) (old new : Listener) (decoder decoder' : Decoding)
+    (inflow inflow' : Inflow) (turns left : ℕ) (result : Result Unit SessionEnd) : Type 0 where
+  pub octets : List ℕ
+  pub traffic : List Traffic
+  pub fault : Option WireFault
+  pub leg : Leg inflow inflow' turns left octets
+  pub one : turns ≡ left + 1
+  pub fed : decoder.spent ≡ false → Feeds decoder octets traffic fault decoder'
+  pub same : decoder'.limits ≡ decoder.limits
+  pub hands : HandsFed hears old traffic fault new result
+
+-- what was read stands at the front of the room for it
+pub front_read : (front whole into items : List ℕ) (room count : ℕ) → front ≡ take count whole
+    → whole ≡ take room (into ++ drop (length into) items) → count ≤ room → count ≤ length into
+    → front ≡ take count into
+front_read front whole into items room count is all fits within =
+    is ∙ ap (take count) all ∙ take-take count room (into ++ drop (length into) items) fits
+    ∙ take-append-le count into (drop (length into) items) within
+
+-- octets were read, and what a decoder made of the same was handed on
+pub handed_piece : {Listener : Type 0} (hears : Hearing Listener) (old new : Listener) (decoder decoder' : Decoding)
+    (inflow inflow' : Inflow) (turns left : ℕ) (octets fed : List ℕ) (traffic : List Traffic)
+    (fault : Option WireFault) (result : Result Unit SessionEnd)
+    → Leg inflow inflow' turns left octets → turns ≡ left + 1 → fed ≡ octets
+    → (decoder.spent ≡ false → Feeds decoder fed traffic fault decoder') → decoder'.limits ≡ decoder.limits
+    → HandsFed hears old traffic fault new result
+    → HandsPiece hears old new decoder decoder' inflow inflow' turns left result
+handed_piece hears old new decoder decoder' inflow inflow' turns left octets fed traffic fault result leg one is feeds
+    same hands = record {
+      octets = octets;
+      traffic = traffic;
+      fault = fault;
+      leg = leg;
+      one = one;
+      fed = λ alive. subst (λ o. Feeds decoder o traffic fault decoder') is (feeds alive);
+      same = same;
+      hands = hands;
+    }
 
 -- one more piece, and listening goes on
 pub listening_goes_on : {Listener : Type 0} (hears : Hearing Listener) (old now new : Listener)
@@ -215,29 +259,31 @@ wire_no_pause end fault is (inr memory) = let e = sym is ∙ memory in cc
 
 -- what the octets that were read by then said ended listening
 out_ends : {Listener : Type 0} (hears : Hearing Listener) (old new : Listener) (before octets : List ℕ)
-    (inflow inflow' : Inflow) (turns left : ℕ) (after : Shaken) (end : SessionEnd)
+    (inflow inflow' : Inflow) (turns left : ℕ) (end : SessionEnd)
     → Leg inflow inflow' turns left octets → EndsOut hears old (before ++ octets) new end
-    → IsHeardOut hears old before inflow inflow' turns left new after end
-out_ends hears old new before octets inflow inflow' turns left after end leg out = record {
+    → IsHeardOut hears old before inflow inflow' turns left new None end
+out_ends hears old new before octets inflow inflow' turns left end leg out = record {
   octets = octets;
   reading = rw out.is (decided inflow inflow' turns left octets (Wire out.fault) (wire_decided out.fault) leg);
   heard = out.heard;
   ends = inr (out.fault, out.is, out.why);
   kept = λ pause. absurd (wire_no_pause end out.fault out.is pause);
+  over = λ fault is. refl;
 }
 
 -- what came with READY ends listening
 pub listening_ends_first : {Listener : Type 0} (hears : Hearing Listener) (old new : Listener) (fed : Fed)
-    (decoder : Decoding) (inflow : Inflow) (turns : ℕ) (before : List ℕ) (after : Shaken) (end : SessionEnd)
-    → IsFed fed decoder before → HandsFed hears old fed.traffic fed.fault new (Err end)
-    → Listens hears old before inflow inflow turns turns new after end
-listening_ends_first hears old new fed decoder inflow turns before after end (feeds, limits) handed =
+    (decoder : Decoding) (inflow : Inflow) (turns : ℕ) (before : List ℕ) (end : SessionEnd)
+    → IsLeftOf (record { fed = fed; decoder = decoder }) before
+    → HandsFed hears old fed.traffic fed.fault new (Err end)
+    → Listens hears old before inflow inflow turns turns new None end
+listening_ends_first hears old new fed decoder inflow turns before end (feeds, limits) handed =
     let ends : PieceEnds hears old (before ++ []) before new end =
     subst (λ o. PieceEnds hears old o before new end) (sym (append-nil before))
     (piece_ends hears old old new fresh decoder [] before fed.traffic fed.fault end (heard_none hears old) feeds
     handed) in
     elim ends [
-      | inl out ↦ inl (out_ends hears old new before [] inflow inflow turns turns after end (leg_none inflow turns) out)
+      | inl out ↦ inl (out_ends hears old new before [] inflow inflow turns turns end (leg_none inflow turns) out)
       | inr off ↦ inr (record {
         octets = [];
         leg = leg_none inflow turns;
@@ -248,16 +294,17 @@ listening_ends_first hears old new fed decoder inflow turns before after end (fe
         harmless = off.harmless;
         ends = off.ends;
         prompt = inl refl;
+        over = refl;
       })
     ]
 
 -- one more piece, and it ends listening
-piece_ends_it : {Listener : Type 0} (hears : Hearing Listener) (old now new : Listener) (decoder decoder' : Decoding)
-    (one two three : Inflow) (turns between left : ℕ) (before : List ℕ) (after : Shaken) (end : SessionEnd)
+pub listening_ends : {Listener : Type 0} (hears : Hearing Listener) (old now new : Listener)
+    (decoder decoder' : Decoding) (one two three : Inflow) (turns between left : ℕ) (before : List ℕ) (end : SessionEnd)
     → ListeningSoFar hears old now decoder one two turns between before
     → HandsPiece hears now new decoder decoder' two three between left (Err end)
-    → Listens hears old before one three turns left new after end
-piece_ends_it hears old now new decoder decoder' one two three turns between left before after end so_far piece =
+    → Listens hears old before one three turns left new None end
+listening_ends hears old now new decoder decoder' one two three turns between left before end so_far piece =
     let octets = so_far.read ++ piece.octets in
     let leg = leg_on one two three turns between left so_far.read piece.octets so_far.leg piece.leg in
     let ends : PieceEnds hears old (before ++ octets) piece.octets new end =
@@ -265,7 +312,7 @@ piece_ends_it hears old now new decoder decoder' one two three turns between lef
     (piece_ends hears old now new decoder decoder' (before ++ so_far.read) piece.octets piece.traffic piece.fault end
     so_far.heard (piece.fed so_far.heard.alive) piece.hands) in
     elim ends [
-      | inl out ↦ inl (out_ends hears old new before octets one three turns left after end leg out)
+      | inl out ↦ inl (out_ends hears old new before octets one three turns left end leg out)
       | inr off ↦ inr (record {
         octets = octets;
         leg = leg;
@@ -279,14 +326,15 @@ piece_ends_it hears old now new decoder decoder' one two three turns between lef
           last = last_read one two three turns between left so_far.read piece.octets so_far.leg piece.leg piece.one;
           needed = off.needed;
         });
+        over = refl;
       })
     ]
 
--- what a decoder keeps can be gone on with
+-- what a decoder keeps is left to hear
 keeps_rest : {Listener : Type 0} (hears : Hearing Listener) (old now : Listener) (decoder : Decoding)
-    (octets : List ℕ) (after : Shaken) → HeardSoFar hears old now decoder octets → after.fed.traffic ≡ []
-    → after.fed.fault ≡ None → after.decoder ≡ decoder → IsFed after.fed after.decoder decoder.kept
-keeps_rest hears old now decoder octets after heard none calm same =
+    (octets : List ℕ) (unheard : Unheard) → HeardSoFar hears old now decoder octets → unheard.fed.traffic ≡ []
+    → unheard.fed.fault ≡ None → unheard.decoder ≡ decoder → IsLeftOf unheard decoder.kept
+keeps_rest hears old now decoder octets unheard heard none calm same =
     rw (none, calm, same) ((([], refl, refl), heard.unfinished, heard.alive), heard.limits)
 
 -- what was heard so far is all that was said so far
@@ -301,49 +349,41 @@ heard_so_far hears old now decoder octets heard = record {
 }
 
 -- reading stopped
-stop_ends_it : {Listener : Type 0} (hears : Hearing Listener) (old now new : Listener) (decoder decoder' : Decoding)
-    (one two three : Inflow) (turns between left : ℕ) (before : List ℕ) (after : Shaken) (end : SessionEnd)
-    → ListeningSoFar hears old now decoder one two turns between before
-    → HandsNone now new decoder decoder' two three between left end → after.fed.traffic ≡ [] → after.fed.fault ≡ None
-    → after.decoder ≡ decoder' → Listens hears old before one three turns left new after end
-stop_ends_it hears old now new decoder decoder' one two three turns between left before after end so_far stopped none
-    calm same = inl (record {
+pub listening_stops : {Listener : Type 0} (hears : Hearing Listener) (old now : Listener) (decoder : Decoding)
+    (one two three : Inflow) (turns between left : ℕ) (before : List ℕ) (unheard : Unheard) (end : SessionEnd)
+    → ListeningSoFar hears old now decoder one two turns between before → IsStop end
+    → Reading two three between left [] end
+    → (unheard.fed.traffic ≡ []) × (unheard.fed.fault ≡ None) × (unheard.decoder ≡ decoder)
+    → Listens hears old before one three turns left now (Some unheard) end
+listening_stops hears old now decoder one two three turns between left before unheard end so_far stop reading
+    (none, calm, same) = inl (record {
       octets = so_far.read;
-      reading = stop_on one two three turns between left so_far.read end so_far.leg stopped.reading;
-      heard = heard_so_far hears old new decoder (before ++ so_far.read)
-          (subst (λ l. HeardSoFar hears old l decoder (before ++ so_far.read)) (sym stopped.listener) so_far.heard);
-      ends = inl (inl stopped.stop, so_far.heard.unfinished);
-      kept = λ pause. keeps_rest hears old now decoder (before ++ so_far.read) after so_far.heard none calm
-          (same ∙ stopped.keeps);
+      reading = stop_on one two three turns between left so_far.read end so_far.leg reading;
+      heard = heard_so_far hears old now decoder (before ++ so_far.read) so_far.heard;
+      ends = inl (inl stop, so_far.heard.unfinished);
+      kept = λ pause. (
+        unheard,
+        refl,
+        keeps_rest hears old now decoder (before ++ so_far.read) unheard so_far.heard none calm same,
+      );
+      over = λ fault is. absurd (wire_no_pause end fault is (inl stop));
     })
-
--- no piece or one more piece, and it ends listening
-pub listening_ends : {Listener : Type 0} (hears : Hearing Listener) (old now new : Listener)
-    (decoder decoder' : Decoding) (one two three : Inflow) (turns between left : ℕ) (before : List ℕ) (after : Shaken)
-    (end : SessionEnd)
-    → ListeningSoFar hears old now decoder one two turns between before → after.fed.traffic ≡ []
-    → after.fed.fault ≡ None → after.decoder ≡ decoder'
-    → (HandsNone now new decoder decoder' two three between left end
-    ⊎ HandsPiece hears now new decoder decoder' two three between left (Err end))
-    → Listens hears old before one three turns left new after end
-listening_ends hears old now new decoder decoder' one two three turns between left before after end so_far none calm
-    same (inl stopped) =
-    stop_ends_it hears old now new decoder decoder' one two three turns between left before after end so_far stopped
-    none calm same
-listening_ends hears old now new decoder decoder' one two three turns between left before after end so_far none calm
-    same (inr piece) =
-    piece_ends_it hears old now new decoder decoder' one two three turns between left before after end so_far piece
 
 -- no room for pieces
 pub listening_cut : {Listener : Type 0} (hears : Hearing Listener) (old now : Listener) (decoder : Decoding)
-    (inflow : Inflow) (turns : ℕ) (before : List ℕ) (after : Shaken)
-    → ListeningSoFar hears old now decoder inflow inflow turns turns before → after.fed.traffic ≡ []
-    → after.fed.fault ≡ None → after.decoder ≡ decoder
-    → Listens hears old before inflow inflow turns turns now after (Failed Memory)
-listening_cut hears old now decoder inflow turns before after so_far none calm same = inl (record {
+    (inflow : Inflow) (turns : ℕ) (before : List ℕ) (unheard : Unheard)
+    → ListeningSoFar hears old now decoder inflow inflow turns turns before
+    → (unheard.fed.traffic ≡ []) × (unheard.fed.fault ≡ None) × (unheard.decoder ≡ decoder)
+    → Listens hears old before inflow inflow turns turns now (Some unheard) (Failed Memory)
+listening_cut hears old now decoder inflow turns before unheard so_far (none, calm, same) = inl (record {
   octets = so_far.read;
   reading = decided inflow inflow turns turns so_far.read (Failed Memory) memory_decided so_far.leg;
   heard = heard_so_far hears old now decoder (before ++ so_far.read) so_far.heard;
   ends = inl (inr refl, so_far.heard.unfinished);
-  kept = λ pause. keeps_rest hears old now decoder (before ++ so_far.read) after so_far.heard none calm same;
+  kept = λ pause. (
+    unheard,
+    refl,
+    keeps_rest hears old now decoder (before ++ so_far.read) unheard so_far.heard none calm same,
+  );
+  over = λ fault is. absurd (wire_no_pause (Failed Memory) fault is (inr refl));
 })

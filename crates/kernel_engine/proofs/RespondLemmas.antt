@@ -1,13 +1,13 @@
 -- A server that hears a peer at its writer.
-use Rattle.std.proofs.Common.{◌≡◌, ◌⊎◌, inl, inr, ℕ, ◌<◌, length, List, [], ◌∷◌, ◌++◌, Result, Ok, Err, IfErr, refl, sym}
-use Rattle.std.proofs.Common.{◌∙◌, ap, subst, append_assoc, arith, length-append}
+use Rattle.std.proofs.Common.{◌≡◌, ◌⊎◌, inl, inr, ℕ, ◌<◌, length, List, [], ◌∷◌, ◌++◌, Option, Result, Ok, Err, IfErr}
+use Rattle.std.proofs.Common.{refl, sym, ◌∙◌, ap, subst, append_assoc, arith, length-append}
 use Rattle.zmtp_wire.specs.declared.traffic.Traffic.{Traffic}
 use Rattle.zmtp_wire.specs.Device.{Inflow, Outflow, Puts}
 use Rattle.kernel_engine.specs.declared.server.Answered.{Answered}
 use Rattle.kernel_engine.specs.declared.end.SessionEnd.{SessionEnd}
 use Rattle.kernel_engine.specs.declared.end.SessionEnd.TheVariants.{Eof, Shutdown, Wire, Failed}
 use Rattle.kernel_block.specs.declared.fault.EngineFault.TheVariants.{OwedIdle, Memory, Read, Write, Turns, Worn}
-use Rattle.kernel_engine.specs.declared.shaking.Shaken.{Shaken}
+use Rattle.kernel_engine.specs.declared.shaking.Unheard.{Unheard}
 use Rattle.kernel_engine.specs.Exchange.{failed_writes}
 use Rattle.kernel_engine.specs.Fault.{IsServerEnd}
 use Rattle.kernel_engine.specs.Listen.{HearsAll, Listens, RunsOut, IsHeardOut, IsBrokenOff}
@@ -135,7 +135,7 @@ opens outflow server = record { outflow = outflow; serving = begins server }
 
 -- all that was heard was responded to
 out_responded : {Server : Type 0} (answers : Answering Server) (out : Outflow) (old : Server) (before : List ℕ)
-    (inflow inflow' : Inflow) (turns left : ℕ) (new : Seen Server) (after : Shaken) (end : SessionEnd)
+    (inflow inflow' : Inflow) (turns left : ℕ) (new : Seen Server) (after : Option Unheard) (end : SessionEnd)
     → IsHeardOut (Responds answers) (opens out old) before inflow inflow' turns left new after end
     → ConversesOn new.serving.dropped answers old before inflow inflow' out new.outflow turns left new.serving.server
     end
@@ -171,11 +171,11 @@ prompt_behind inflow inflow' turns left octets behind leg (inr prompt) = inr pro
 
 -- the session was ended at one traffic
 off_responded : {Server : Type 0} (answers : Answering Server) (out : Outflow) (old : Server) (before : List ℕ)
-    (inflow inflow' : Inflow) (turns left : ℕ) (new : Seen Server) (end : SessionEnd)
-    → IsBrokenOff (Responds answers) (opens out old) before inflow inflow' turns left new end
+    (inflow inflow' : Inflow) (turns left : ℕ) (new : Seen Server) (after : Option Unheard) (end : SessionEnd)
+    → IsBrokenOff (Responds answers) (opens out old) before inflow inflow' turns left new after end
     → ConversesOn new.serving.dropped answers old before inflow inflow' out new.outflow turns left new.serving.server
     end
-off_responded answers out old before inflow inflow' turns left new end off =
+off_responded answers out old before inflow inflow' turns left new after end off =
     let all = responded_all answers (opens out old) off.now off.heard.traffic off.heard.handed in
     let one = off.ends in
     let e = ended answers off.now off.last new end one.reply one.answered one.step one.mark one.end one.writes in
@@ -210,20 +210,20 @@ off_responded answers out old before inflow inflow' turns left new end off =
 
 -- what a peer says was responded to
 responded : {Server : Type 0} (answers : Answering Server) (out : Outflow) (old : Server) (before : List ℕ)
-    (inflow inflow' : Inflow) (turns left : ℕ) (new : Seen Server) (after : Shaken) (end : SessionEnd)
+    (inflow inflow' : Inflow) (turns left : ℕ) (new : Seen Server) (after : Option Unheard) (end : SessionEnd)
     → Listens (Responds answers) (opens out old) before inflow inflow' turns left new after end
     → ConversesOn new.serving.dropped answers old before inflow inflow' out new.outflow turns left new.serving.server
     end
 responded answers out old before inflow inflow' turns left new after end (inl heard) =
     out_responded answers out old before inflow inflow' turns left new after end heard
 responded answers out old before inflow inflow' turns left new after end (inr off) =
-    off_responded answers out old before inflow inflow' turns left new end off
+    off_responded answers out old before inflow inflow' turns left new after end off
 
 -- the same of a listener that is seen as a writer and a server
 pub responds_seen : {Listener Server : Type 0} (answers : Answering Server) (view : Listener → Seen Server)
     (old : Listener) (out : Outflow) (server : Server) → view old ≡ opens out server
     → (before : List ℕ) (inflow inflow' : Inflow) (turns left : ℕ) (new : Listener) (outflow : Outflow)
-    (state : Server) → outflow ≡ (view new).outflow → state ≡ (view new).serving.server → (after : Shaken)
+    (state : Server) → outflow ≡ (view new).outflow → state ≡ (view new).serving.server → (after : Option Unheard)
     (end : SessionEnd)
     → Listens (λ a traffic b result. Responds answers (view a) traffic (view b) result) old before inflow inflow' turns
     left new after end

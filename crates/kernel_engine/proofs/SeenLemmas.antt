@@ -1,9 +1,9 @@
 -- Listening, by what is seen of the listener.
-use Rattle.std.proofs.Common.{inl, inr, ℕ, List, [], ◌∷◌, ◌++◌, Result, Ok, Err, ap}
+use Rattle.std.proofs.Common.{inl, inr, ℕ, List, [], ◌∷◌, ◌++◌, Option, Result, Ok, Err, ap}
 use Rattle.zmtp_wire.specs.declared.traffic.Traffic.{Traffic}
 use Rattle.zmtp_wire.specs.Device.{Inflow}
 use Rattle.kernel_engine.specs.declared.end.SessionEnd.{SessionEnd}
-use Rattle.kernel_engine.specs.declared.shaking.Shaken.{Shaken}
+use Rattle.kernel_engine.specs.declared.shaking.Unheard.{Unheard}
 use Rattle.kernel_engine.specs.Listen.{Hearing, HearsAll, Heard, Listens, IsHeardOut, IsBrokenOff}
 
 -- each step of a listener is a step of what is seen of it
@@ -31,7 +31,7 @@ heard_seen view hears sees steps old new octets heard = record {
 
 abbrev pub out_seen : {Listener Other : Type 0} (view : Listener → Other) (hears : Hearing Listener)
     (sees : Hearing Other) → Sees view hears sees → (old : Listener) (before : List ℕ) (inflow inflow' : Inflow)
-    (turns left : ℕ) (new : Listener) (after : Shaken) (end : SessionEnd)
+    (turns left : ℕ) (new : Listener) (after : Option Unheard) (end : SessionEnd)
     → IsHeardOut hears old before inflow inflow' turns left new after end
     → IsHeardOut sees (view old) before inflow inflow' turns left (view new) after end
 out_seen view hears sees steps old before inflow inflow' turns left new after end out = record {
@@ -40,14 +40,15 @@ out_seen view hears sees steps old before inflow inflow' turns left new after en
   heard = heard_seen view hears sees steps old new (before ++ out.octets) out.heard;
   ends = out.ends;
   kept = out.kept;
+  over = out.over;
 }
 
 abbrev pub off_seen : {Listener Other : Type 0} (view : Listener → Other) (hears : Hearing Listener)
     (sees : Hearing Other) → Sees view hears sees → (old : Listener) (before : List ℕ) (inflow inflow' : Inflow)
-    (turns left : ℕ) (new : Listener) (end : SessionEnd)
-    → IsBrokenOff hears old before inflow inflow' turns left new end
-    → IsBrokenOff sees (view old) before inflow inflow' turns left (view new) end
-off_seen view hears sees steps old before inflow inflow' turns left new end off = record {
+    (turns left : ℕ) (new : Listener) (after : Option Unheard) (end : SessionEnd)
+    → IsBrokenOff hears old before inflow inflow' turns left new after end
+    → IsBrokenOff sees (view old) before inflow inflow' turns left (view new) after end
+off_seen view hears sees steps old before inflow inflow' turns left new after end off = record {
   octets = off.octets;
   leg = off.leg;
   now = view off.now;
@@ -57,15 +58,16 @@ off_seen view hears sees steps old before inflow inflow' turns left new end off 
   harmless = off.harmless;
   ends = steps off.now new off.last (Err end) off.ends;
   prompt = off.prompt;
+  over = off.over;
 }
 
 -- what a listener heard, by what is seen of it
 pub listens_seen : {Listener Other : Type 0} (view : Listener → Other) (hears : Hearing Listener)
     (sees : Hearing Other) → Sees view hears sees → (old : Listener) (before : List ℕ) (inflow inflow' : Inflow)
-    (turns left : ℕ) (new : Listener) (after : Shaken) (end : SessionEnd)
+    (turns left : ℕ) (new : Listener) (after : Option Unheard) (end : SessionEnd)
     → Listens hears old before inflow inflow' turns left new after end
     → Listens sees (view old) before inflow inflow' turns left (view new) after end
 listens_seen view hears sees steps old before inflow inflow' turns left new after end (inl out) =
     inl (out_seen view hears sees steps old before inflow inflow' turns left new after end out)
 listens_seen view hears sees steps old before inflow inflow' turns left new after end (inr off) =
-    inr (off_seen view hears sees steps old before inflow inflow' turns left new end off)
+    inr (off_seen view hears sees steps old before inflow inflow' turns left new after end off)

@@ -6,17 +6,16 @@ use Rattle.std.specs.Prelude.{⊤}
 use Rattle.std.proofs.lemmas.List.{append-nil}
 use Rattle.zmtp_wire.specs.declared.handshake.socket_type.SocketType.{SocketType}
 use Rattle.zmtp_wire.specs.declared.traffic.Traffic.{Traffic}
-use Rattle.zmtp_wire.specs.declared.traffic.decoder.Fed.{Fed}
 use Rattle.zmtp_wire.specs.Limits.{usual_limits}
 use Rattle.zmtp_wire.specs.Grammar.{ReadsUpTo}
-use Rattle.zmtp_wire.specs.Decoding.{Decoding}
 use Rattle.zmtp_wire.specs.Device.{Inflow, Outflow}
 use Rattle.kernel_engine.specs.declared.end.SessionEnd.{SessionEnd}
 use Rattle.kernel_engine.specs.Peer.{BeginsWith}
 use Rattle.kernel_engine.specs.Exchange.{Exchange, failed_writes}
 use Rattle.kernel_engine.specs.Respond.{ConversesOn}
 use Rattle.kernel_engine.specs.Server.{Answering, Serving, IsLast, ServesPeer}
-use Rattle.kernel_engine.specs.Steps.{Leg, IsPrompt, Meets, TurnsAway}
+use Rattle.kernel_engine.specs.Met.{Met, Meets}
+use Rattle.kernel_engine.specs.Steps.{Leg, IsPrompt, TurnsAway}
 use Rattle.kernel_engine.proofs.Legs.{leg_on, reading_on, puts_on}
 use Rattle.kernel_engine.proofs.MetLemmas.{met_more}
 use Rattle.kernel_engine.proofs.PromptLemmas.{prompt_on}
@@ -89,12 +88,11 @@ prompt_all answers now traffic rest replies written new end out one two three tu
 
 -- a peer was met, and responded to
 pub serve_met : {Server : Type 0} (dropped : Bool) (answers : Answering Server) (ours : SocketType) (old new : Server)
-    (fed : Fed) (decoder : Decoding) (peer : SocketType) (one two three : Inflow) (out middle last : Outflow)
-    (turns between left : ℕ) (end : SessionEnd) (meets : Meets ours one two out middle turns between peer fed decoder)
+    (shaken : Met) (one two three : Inflow) (out middle last : Outflow) (turns between left : ℕ) (end : SessionEnd)
+    (meets : Meets ours one two out middle turns between shaken)
     → ConversesOn dropped answers old meets.behind two three middle last between left new end
     → ServesPeer dropped answers ours old one three out last turns left new end
-serve_met dropped answers ours old new fed decoder peer one two three out middle last turns between left end meets said
-    =
+serve_met dropped answers ours old new shaken one two three out middle last turns between left end meets said =
     let e = said.exchange in
     let talk = e.outcome in
     record {
@@ -105,10 +103,10 @@ serve_met dropped answers ours old new fed decoder peer one two three out middle
         puts = puts_on out middle last meets.written e.written (failed_writes end) meets.puts e.puts;
         outcome = inr (record {
           opening = meets.written;
-          peer = peer;
+          peer = shaken.peer;
           behind = meets.behind ++ e.read;
           replies = e.written;
-          met = met_more ours meets.read e.read meets.written peer meets.behind meets.met;
+          met = met_more ours meets.read e.read meets.written shaken.peer meets.behind meets.met;
           converses = talk;
           all = refl;
         });

@@ -14,12 +14,13 @@ use Rattle.zmtp_wire.specs.Decoding.{Decoding, Feeds}
 use Rattle.zmtp_wire.specs.Device.{Inflow, Outflow, Puts}
 use Rattle.zmtp_wire.specs.declared.traffic.decoder.Fed.{Fed}
 use Rattle.kernel_engine.specs.declared.end.SessionEnd.{SessionEnd}
-use Rattle.kernel_engine.specs.declared.shaking.Shaken.{Shaken}
+use Rattle.kernel_engine.specs.declared.shaking.Unheard.{Unheard}
 use Rattle.kernel_engine.specs.declared.end.SessionEnd.TheVariants.{Eof, Wire, Failed}
 use Rattle.kernel_block.specs.declared.fault.EngineFault.TheVariants.{Memory, Write}
 use Rattle.kernel_engine.specs.Peer.{IsGreeted, IsTurnedAway}
 use Rattle.kernel_engine.specs.Exchange.{Reading, Exchange, ComesToByEnd, failed_writes}
-use Rattle.kernel_engine.specs.Steps.{Leg, IsStop, IsFed, Meets, TurnsAway, BringsNothing, ComesLate, IsPrompt}
+use Rattle.kernel_engine.specs.Met.{Met, IsLeft, Meets}
+use Rattle.kernel_engine.specs.Steps.{Leg, IsStop, IsFed, TurnsAway, BringsNothing, ComesLate, IsPrompt}
 use Rattle.kernel_engine.specs.Steps.{PutsAll, fresh}
 use Rattle.kernel_engine.proofs.Legs.{leg_none, leg_on, reading_on, decided, wire_decided, memory_decided}
 use Rattle.kernel_engine.proofs.Legs.{write_decided, puts_on}
@@ -270,13 +271,13 @@ ready_prompt old new turns left octets first front behind late split spelled = r
 
 -- the peer was met
 peer_met : (ours : SocketType) (one two three : Inflow) (before after : Outflow) (turns middle left : ℕ)
-    (opening octets : List ℕ) (fed fed' : Fed) (decoder : Decoding) (first : Traffic) (peer : SocketType)
+    (opening octets : List ℕ) (fed fed' : Fed) (decoder : Decoding) (first : Traffic) (shaken : Met)
     → Opened ours one two before after turns middle opening → Leg two three middle left octets
     → ComesLate two three middle left octets → IsFed fed decoder octets → fed.traffic ≡ first ∷ fed'.traffic
-    → fed'.fault ≡ fed.fault
-    → IsReady first ours (Ok (record { peer = peer })) → Meets ours one three before after turns left peer fed' decoder
-peer_met ours one two three before after turns middle left opening octets fed fed' decoder first peer o leg late
-    (feeds, limits) traffic_is fault_is accepted =
+    → fed'.fault ≡ fed.fault → shaken.unheard ≡ Some (record { fed = fed'; decoder = decoder })
+    → IsReady first ours (Ok (record { peer = shaken.peer })) → Meets ours one three before after turns left shaken
+peer_met ours one two three before after turns middle left opening octets fed fed' decoder first shaken o leg late
+    (feeds, limits) traffic_is fault_is unheard_is accepted =
     let feeds' : Feeds fresh octets (first ∷ fed'.traffic) fed'.fault decoder =
     subst (λ t. Feeds fresh octets t fed'.fault decoder) traffic_is
     (subst (λ f. Feeds fresh octets fed.traffic f decoder) (sym fault_is) feeds) in
@@ -293,6 +294,8 @@ peer_met ours one two three before after turns middle left opening octets fed fe
         comes = record { front = s.front; split = behind_64 opening octets o.whole ∙ s.split; spelled = s.spelled };
         accepted = accepted;
       };
+      unheard = record { fed = fed'; decoder = decoder };
+      waits = unheard_is;
       keeps = (s.feeds, limits);
       prompt = prompt_on one two three turns middle left opening octets s.behind o.leg
           (ready_prompt two three middle left octets first s.front s.behind late s.split s.spelled);
@@ -326,24 +329,33 @@ peer_refused ours one two three before after turns middle left opening octets fe
       }))));
     }
 
+-- what is left behind the first traffic is left of some octets
+pub left_behind : (fed : Fed) (decoder : Decoding) (first : Traffic) (others : List Traffic)
+    → (octets : List ℕ) × IsFed fed decoder octets → fed.traffic ≡ first ∷ others
+    → IsLeft (Some (record { fed = record { traffic = others; fault = fed.fault }; decoder = decoder }))
+left_behind fed decoder first others (octets, (feeds, limits)) traffic_is =
+    let s = split_first octets first others fed.fault decoder
+    (subst (λ t. Feeds fresh octets t fed.fault decoder) traffic_is feeds) in (s.behind, (s.feeds, limits))
+
 -- a peer whose READY was accepted was met
-pub judged_met : (result : Result Shaken SessionEnd) (ours : SocketType) (one two three : Inflow)
+pub judged_met : (result : Result Met SessionEnd) (ours : SocketType) (one two three : Inflow)
     (before after : Outflow) (turns middle left : ℕ) (opening octets : List ℕ) (fed : Fed) (decoder : Decoding)
     → Opened ours one two before after turns middle opening → Leg two three middle left octets
     → ComesLate two three middle left octets → IsFed fed decoder octets
-    → IfOk result (λ shaken. (first : Traffic) × (fed.traffic ≡ first ∷ shaken.fed.traffic)
-    × (shaken.fed.fault ≡ fed.fault) × (shaken.decoder ≡ decoder)
+    → IfOk result (λ shaken. (first : Traffic) × (unheard : Unheard) × (shaken.unheard ≡ Some unheard)
+    × (fed.traffic ≡ first ∷ unheard.fed.traffic) × (unheard.fed.fault ≡ fed.fault) × (unheard.decoder ≡ decoder)
     × IsReady first ours (Ok (record { peer = shaken.peer })))
-    → IfOk result (λ shaken. Meets ours one three before after turns left shaken.peer shaken.fed shaken.decoder)
+    → IfOk result (λ shaken. Meets ours one three before after turns left shaken)
 judged_met (Err end) ours one two three before after turns middle left opening octets fed decoder o leg late is judged
     = tt
 judged_met (Ok shaken) ours one two three before after turns middle left opening octets fed decoder o leg late is
-    (first, traffic_is, fault_is, decoder_is, accepted) = rw decoder_is
-    (peer_met ours one two three before after turns middle left opening octets fed shaken.fed decoder first shaken.peer
-    o leg late is traffic_is fault_is accepted)
+    (first, unheard, unheard_is, traffic_is, fault_is, decoder_is, accepted) =
+    peer_met ours one two three before after turns middle left opening octets fed unheard.fed decoder first shaken
+    o leg late is traffic_is fault_is
+    (unheard_is ∙ ap (λ (d : Decoding). Some (record { fed = unheard.fed; decoder = d })) decoder_is) accepted
 
 -- a peer whose READY was refused was turned away
-pub judged_refused : (result : Result Shaken SessionEnd) (ours : SocketType) (one two three : Inflow)
+pub judged_refused : (result : Result Met SessionEnd) (ours : SocketType) (one two three : Inflow)
     (before after : Outflow) (turns middle left : ℕ) (opening octets : List ℕ) (fed : Fed) (decoder : Decoding)
     → Opened ours one two before after turns middle opening → Leg two three middle left octets
     → IsFed fed decoder octets

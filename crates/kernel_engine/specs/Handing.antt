@@ -1,16 +1,12 @@
 -- The steps of listening, by what each of them handed on.
-use Rattle.std.specs.Prelude.{◌≡◌, ◌⊎◌, ℕ, ◌+◌, List, [], ◌∷◌, ◌++◌, true, false, Result, Ok, Err, Option, Some, None}
+use Rattle.std.specs.Prelude.{◌≡◌, ◌⊎◌, List, ◌∷◌, ◌++◌, true, false, Result, Ok, Err, Option, Some, None}
 use Rattle.zmtp_wire.specs.declared.fault.WireFault.{WireFault}
 use Rattle.zmtp_wire.specs.declared.fault.WireFault.TheVariants.{PeerError}
 use Rattle.zmtp_wire.specs.declared.traffic.Traffic.{Traffic}
 use Rattle.zmtp_wire.specs.Traffic.{is_error}
-use Rattle.zmtp_wire.specs.Decoding.{Decoding, Feeds}
-use Rattle.zmtp_wire.specs.Device.{Inflow}
 use Rattle.kernel_engine.specs.declared.end.SessionEnd.{SessionEnd}
 use Rattle.kernel_engine.specs.declared.end.SessionEnd.TheVariants.{Wire}
 use Rattle.kernel_engine.specs.Peer.{IsCalm}
-use Rattle.kernel_engine.specs.Exchange.{Reading}
-use Rattle.kernel_engine.specs.Steps.{Leg, IsStop}
 use Rattle.kernel_engine.specs.Listen.{Hearing, HearsAll}
 
 -- The traffic in front of one was handed on, and none of it ended listening.
@@ -42,23 +38,3 @@ abbrev pub HandsFed : {Listener : Type 0} → Hearing Listener → Listener → 
 HandsFed hears old traffic fault new (Ok done) = (fault ≡ None) × HandsSome hears old traffic new (Ok done)
 HandsFed hears old traffic fault new (Err end) = HandsFront hears old traffic new end
     ⊎ ((found : WireFault) × (fault ≡ Some found) × (end ≡ Wire found) × HandsSome hears old traffic new (Ok tt))
-
--- A piece was read in one turn, and what it brought was handed on.
-pub record HandsPiece {Listener : Type 0} (hears : Hearing Listener) (old new : Listener) (decoder decoder' : Decoding)
-    (inflow inflow' : Inflow) (turns left : ℕ) (result : Result Unit SessionEnd) : Type 0 where
-  pub octets : List ℕ
-  pub traffic : List Traffic
-  pub fault : Option WireFault
-  pub leg : Leg inflow inflow' turns left octets
-  pub one : turns ≡ left + 1
-  pub fed : decoder.spent ≡ false → Feeds decoder octets traffic fault decoder'
-  pub same : decoder'.limits ≡ decoder.limits
-  pub hands : HandsFed hears old traffic fault new result
-
--- no piece was read
-pub record HandsNone {Listener : Type 0} (old new : Listener) (decoder decoder' : Decoding) (inflow inflow' : Inflow)
-    (turns left : ℕ) (end : SessionEnd) : Type 0 where
-  pub stop : IsStop end
-  pub reading : Reading inflow inflow' turns left [] end
-  pub listener : new ≡ old
-  pub keeps : decoder' ≡ decoder

@@ -8,7 +8,7 @@ use Rattle.zmtp_wire.specs.Device.{Inflow}
 use Rattle.kernel_block.specs.declared.fault.EngineFault.TheVariants.{Memory}
 use Rattle.kernel_engine.specs.declared.end.SessionEnd.{SessionEnd}
 use Rattle.kernel_engine.specs.declared.end.SessionEnd.TheVariants.{Eof, Failed}
-use Rattle.kernel_engine.specs.declared.shaking.Shaken.{Shaken}
+use Rattle.kernel_engine.specs.declared.shaking.Unheard.{Unheard}
 use Rattle.kernel_engine.specs.Listen.{Listens}
 
 -- one step of an intake: what it was, the traffic, what it is then, and whether the traffic was put
@@ -46,8 +46,8 @@ FillsOne takes told old traffic new result =
 
 -- What a peer says was put into an intake, whole and in order, and the list of it grew by just that.
 pub record FillsAll {Intake : Type 0} (takes : Taking Intake) (told : Intake → Option (List Traffic)) (old : Intake)
-    (before : List ℕ) (inflow inflow' : Inflow) (turns left : ℕ) (new : Intake) (after : Shaken) (end : SessionEnd)
-    : Type 0 where
+    (before : List ℕ) (inflow inflow' : Inflow) (turns left : ℕ) (new : Intake) (after : Option Unheard)
+    (end : SessionEnd) : Type 0 where
   pub listens : Listens (Fills takes) old before inflow inflow' turns left new after end
   pub put : Grows (told old) (told new)
       (elim listens [ inl out ↦ out.heard.traffic | inr off ↦ off.heard.traffic ])

@@ -5,6 +5,7 @@ pub mod Handing
 pub mod Intake
 pub mod Laws
 pub mod Listen
+pub mod Met
 pub mod Peer
 pub mod Respond
 pub mod Server

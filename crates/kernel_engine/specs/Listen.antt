@@ -1,5 +1,5 @@
 -- Listening to what a peer says behind its READY: which traffic is handed on, and how listening ends.
-use Rattle.std.specs.Prelude.{◌≡◌, ◌⊎◌, ℕ, List, [], ◌∷◌, ◌++◌, false, Result, Ok, Err}
+use Rattle.std.specs.Prelude.{◌≡◌, ◌⊎◌, ℕ, List, [], ◌∷◌, ◌++◌, false, Result, Ok, Err, Option, Some, None}
 use Rattle.zmtp_wire.specs.declared.fault.WireFault.{WireFault}
 use Rattle.zmtp_wire.specs.declared.fault.WireFault.TheVariants.{OutOfMemory}
 use Rattle.zmtp_wire.specs.declared.traffic.Traffic.{Traffic}
@@ -10,10 +10,11 @@ use Rattle.zmtp_wire.specs.Device.{Inflow}
 use Rattle.kernel_block.specs.declared.fault.EngineFault.TheVariants.{Memory}
 use Rattle.kernel_engine.specs.declared.end.SessionEnd.{SessionEnd}
 use Rattle.kernel_engine.specs.declared.end.SessionEnd.TheVariants.{Wire, Failed}
-use Rattle.kernel_engine.specs.declared.shaking.Shaken.{Shaken}
+use Rattle.kernel_engine.specs.declared.shaking.Unheard.{Unheard}
 use Rattle.kernel_engine.specs.Peer.{IsCalm, BeginsWith, EndsBehind}
 use Rattle.kernel_engine.specs.Exchange.{Reading}
-use Rattle.kernel_engine.specs.Steps.{Leg, IsPrompt, IsStop, IsFed}
+use Rattle.kernel_engine.specs.Met.{IsLeftOf}
+use Rattle.kernel_engine.specs.Steps.{Leg, IsPrompt, IsStop}
 
 -- one step of a listener: what it was, the traffic that it hears, what it is then, and how it ends listening, if so
 abbrev pub Hearing : Type 0 → Type 1
@@ -44,18 +45,23 @@ abbrev pub RunsOut : List ℕ → SessionEnd → Type 0
 RunsOut rest end = (IsPause end × IsUnfinished usual_limits rest)
     ⊎ ((fault : WireFault) × (end ≡ Wire fault) × ((fault ≡ OutOfMemory) ⊎ EndsBehind rest end))
 
--- All that the octets say was heard. Unless they ended it, listening can go on with what they left.
+-- All that the octets say was heard. Where reading paused, listening can go on with what they left, and else nothing is
+-- left.
 pub record IsHeardOut {Listener : Type 0} (hears : Hearing Listener) (old : Listener) (before : List ℕ)
-    (inflow inflow' : Inflow) (turns left : ℕ) (new : Listener) (after : Shaken) (end : SessionEnd) : Type 0 where
+    (inflow inflow' : Inflow) (turns left : ℕ) (new : Listener) (after : Option Unheard) (end : SessionEnd)
+    : Type 0 where
   pub octets : List ℕ
   pub reading : Reading inflow inflow' turns left octets end
   pub heard : Heard hears old (before ++ octets) new
   pub ends : RunsOut heard.rest end
-  pub kept : IsPause end → IsFed after.fed after.decoder heard.rest
+  pub kept : IsPause end → (unheard : Unheard) × (after ≡ Some unheard) × IsLeftOf unheard heard.rest
+  pub over : (fault : WireFault) → end ≡ Wire fault → after ≡ None
 
--- The listener ended it at one traffic, which isn't the command ERROR. Nothing was read once that had come.
+-- The listener ended it at one traffic, which isn't the command ERROR. Nothing was read once that had come, and nothing
+-- is left to hear.
 pub record IsBrokenOff {Listener : Type 0} (hears : Hearing Listener) (old : Listener) (before : List ℕ)
-    (inflow inflow' : Inflow) (turns left : ℕ) (new : Listener) (end : SessionEnd) : Type 0 where
+    (inflow inflow' : Inflow) (turns left : ℕ) (new : Listener) (after : Option Unheard) (end : SessionEnd)
+    : Type 0 where
   pub octets : List ℕ
   pub leg : Leg inflow inflow' turns left octets
   pub now : Listener
@@ -65,10 +71,11 @@ pub record IsBrokenOff {Listener : Type 0} (hears : Hearing Listener) (old : Lis
   pub harmless : is_error last ≡ false
   pub ends : hears now last new (Err end)
   pub prompt : (octets ≡ []) ⊎ IsPrompt inflow inflow' turns left octets comes.behind
+  pub over : after ≡ None
 
--- what a listener heard of octets that are read behind these, and how it ended
+-- what a listener heard of octets that are read behind these, what is left to hear then, and how it ended
 abbrev pub Listens : {Listener : Type 0} → Hearing Listener → Listener → List ℕ → Inflow → Inflow → ℕ → ℕ → Listener
-    → Shaken → SessionEnd → Type 0
+    → Option Unheard → SessionEnd → Type 0
 Listens hears old before inflow inflow' turns left new after end =
     IsHeardOut hears old before inflow inflow' turns left new after end
-    ⊎ IsBrokenOff hears old before inflow inflow' turns left new end
+    ⊎ IsBrokenOff hears old before inflow inflow' turns left new after end

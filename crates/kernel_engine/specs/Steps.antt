@@ -11,7 +11,7 @@ use Rattle.zmtp_wire.specs.Device.{Inflow, Outflow, Draws, Puts}
 use Rattle.kernel_block.specs.declared.fault.EngineFault.TheVariants.{Read, Write, Turns}
 use Rattle.kernel_engine.specs.declared.end.SessionEnd.{SessionEnd}
 use Rattle.kernel_engine.specs.declared.end.SessionEnd.TheVariants.{Eof, Wire, Failed}
-use Rattle.kernel_engine.specs.Peer.{IsTurnedAway, IsMet}
+use Rattle.kernel_engine.specs.Peer.{IsTurnedAway}
 use Rattle.kernel_engine.specs.Exchange.{ComesToByEnd}
 
 -- These octets were read, one turn a read, with no more reads than octets, and none failed.
@@ -54,19 +54,6 @@ abbrev pub PutsAll : Outflow → Outflow → List ℕ → Result Unit SessionEnd
 PutsAll before after octets (Ok done) = Puts before after octets 0
 PutsAll before after octets (Err end) = (end ≡ Failed Write)
     × ((front : List ℕ) × (lost : List ℕ) × (octets ≡ front ++ lost) × (0 < length lost) × Puts before after front 1)
-
--- Hands were shaken with a peer: these octets were read and written, and these stand behind the peer's READY. No read
--- was made once that READY had come.
-pub record Meets (ours : SocketType) (inflow inflow' : Inflow) (outflow outflow' : Outflow) (turns left : ℕ)
-    (peer : SocketType) (fed : Fed) (decoder : Decoding) : Type 0 where
-  pub read : List ℕ
-  pub written : List ℕ
-  pub behind : List ℕ
-  pub leg : Leg inflow inflow' turns left read
-  pub puts : Puts outflow outflow' written 0
-  pub met : IsMet ours read written peer behind
-  pub keeps : IsFed fed decoder behind
-  pub prompt : IsPrompt inflow inflow' turns left read behind
 
 -- what a peer that wasn't met comes to
 abbrev pub TurnsAway : SocketType → List ℕ → List ℕ → ⊤ → SessionEnd → Type 0

@@ -1,8 +1,8 @@
 //! Hearing a peer: what it says behind its READY is put into an intake.
 
-ghost use Rattle.std.specs.Prelude.{◌≡◌, ℕ, List, Option};
+ghost use Rattle.std.specs.Prelude.{◌≡◌, ℕ, List, Option, None};
 ghost use Rattle.zmtp_wire.specs.declared.traffic.Traffic.{Traffic};
-ghost use Rattle.kernel_engine.specs.Steps.{IsFed};
+ghost use Rattle.kernel_engine.specs.Met.{OfUnheard};
 ghost use Rattle.kernel_engine.specs.Intake.{Taking, Grows, put_by, FillsAll};
 
 use crate::end::SessionEnd;
@@ -10,7 +10,7 @@ use crate::listening::{Listener, listen};
 use crate::shaking::Shaken;
 use kernel_block::EngineFault;
 use std::alloc::{AllocError, Global};
-use zmtp_wire::{Inlet, Traffic};
+use zmtp_wire::{Inlet, Traffic, WireFault};
 
 /// What the traffic of a peer is put into.
 pub trait Intake {
@@ -64,7 +64,8 @@ impl<I: Intake> Listener for Filling<'_, I> {
 /// `turns` reads are made.
 ///
 /// Where the peer's octets ended, a read failed, no turn was left or no memory to read into, hearing can go on with
-/// `shaken`: it keeps what was read of traffic that isn't whole.
+/// `shaken`: it keeps what was read of traffic that isn't whole. Any other end is for good: from then on nothing is
+/// read, nothing is put, and hearing ends as `Wire` with `Spent`.
 pub fn hear<R: Inlet, I: Intake>(
     alloc: Global,
     reader: &mut R,
@@ -74,9 +75,10 @@ pub fn hear<R: Inlet, I: Intake>(
 ) -> SessionEnd
     ensures names { I.names intake.new ≡ I.names intake.old }
     ensures peer { shaken.new.peer ≡ shaken.old.peer }
-    ensures fills { (before : List ℕ) → IsFed shaken.old.fed shaken.old.decoder before
-        → (left : ℕ) × FillsAll I.takes I.told intake.old before (R.inflow reader.old) (R.inflow reader.new)
-        turns left intake.new shaken.new result }
+    ensures fills { OfUnheard shaken.old.unheard (λ before. (left : ℕ) × FillsAll I.takes I.told intake.old before
+        (R.inflow reader.old) (R.inflow reader.new) turns left intake.new shaken.new.unheard result) }
+    ensures spent { shaken.old.unheard ≡ None → (result ≡ SessionEnd.Wire WireFault.Spent)
+        × (R.inflow reader.new ≡ R.inflow reader.old) × (intake.new ≡ intake.old) × (shaken.new ≡ shaken.old) }
 {
     let mut filling = Filling { intake };
     listen(alloc, reader, &mut filling, shaken, turns)

@@ -1,19 +1,18 @@
 //! Listening to a peer: one loop over what it says behind its READY, which hands each whole traffic to a listener.
 
-ghost use Rattle.std.specs.Prelude.{◌≡◌, ◌<◌, ◌+◌, ◌⊎◌, ◌++◌, ℕ, List, [], false, Option, None, length, IfOk, IfErr};
+ghost use Rattle.std.specs.Prelude.{◌≡◌, ℕ, List, None};
 ghost use Rattle.zmtp_wire.specs.declared.traffic.Traffic.{Traffic};
 ghost use Rattle.kernel_engine.specs.Listen.{Hearing, Listens};
-ghost use Rattle.kernel_engine.specs.Steps.{IsFed};
-ghost use Rattle.kernel_engine.specs.Handing.{HandsSome, HandsFed, HandsPiece, HandsNone};
+ghost use Rattle.kernel_engine.specs.Met.{IsLeftOf, OfUnheard};
+ghost use Rattle.kernel_engine.specs.Handing.{HandsSome, HandsFed};
 
 use crate::end::SessionEnd;
-use crate::shaking::Shaken;
+use crate::shaking::{Shaken, Unheard};
 use crate::turn::read_turn;
 use kernel_block::EngineFault;
 use listed::Row;
 use std::alloc::Global;
-use std::mem;
-use zmtp_wire::{Decoder, Fed, Inlet, Traffic, WireFault};
+use zmtp_wire::{Fed, Inlet, Traffic, WireFault};
 
 /// How many octets one read asks for. A connection holds as many while it waits.
 const PIECE: usize = 4_096;
@@ -42,7 +41,8 @@ pub trait Listener {
 /// turn is left. At most `turns` reads are made.
 ///
 /// Where the peer's octets ended, a read failed, no turn was left or no memory to read into, listening can go on with
-/// `shaken`: it keeps what was read of traffic that isn't whole.
+/// `shaken`: it keeps what was read of traffic that isn't whole. Any other end is for good: from then on nothing is
+/// read, nothing is handed on, and listening ends as `Wire` with `Spent`.
 pub fn listen<R: Inlet, L: Listener>(
     alloc: Global,
     reader: &mut R,
@@ -52,59 +52,50 @@ pub fn listen<R: Inlet, L: Listener>(
 ) -> SessionEnd
     ensures names { L.names listener.new ≡ L.names listener.old }
     ensures peer { shaken.new.peer ≡ shaken.old.peer }
-    ensures listens { (before : List ℕ) → IsFed shaken.old.fed shaken.old.decoder before
-        → (left : ℕ) × Listens L.hears listener.old before (R.inflow reader.old) (R.inflow reader.new) turns left
-        listener.new shaken.new result }
+    ensures listens { OfUnheard shaken.old.unheard (λ before. (left : ℕ) × Listens L.hears listener.old before
+        (R.inflow reader.old) (R.inflow reader.new) turns left listener.new shaken.new.unheard result) }
+    ensures spent { shaken.old.unheard ≡ None → (result ≡ SessionEnd.Wire WireFault.Spent)
+        × (R.inflow reader.new ≡ R.inflow reader.old) × (listener.new ≡ listener.old) × (shaken.new ≡ shaken.old) }
 {
-    let nothing = Fed {
-        traffic: Row::new(Vec::new(alloc)),
-        fault: None,
+    let Some(unheard) = shaken.take() else {
+        return SessionEnd::Wire(WireFault::Spent);
     };
-    let fed = mem::replace(&mut shaken.fed, nothing);
-    if let Err(end) = hand_fed(alloc, listener, fed) {
-        return end;
-    }
-    let Ok(mut piece) = vec![in alloc; 0u8; PIECE] else {
-        return SessionEnd::Failed(EngineFault::Memory);
-    };
-    let mut left = turns;
-    loop {
-        let heard = hand_piece(
-            alloc,
-            reader,
-            listener,
-            &mut shaken.decoder,
-            &mut piece,
-            &mut left,
-        );
-        if let Err(end) = heard {
-            return end;
-        }
-    }
+    let (end, kept) = listen_on(alloc, reader, listener, unheard, turns);
+    shaken.keep(kept);
+    end
 }
 
-/// Reads a piece, and hands on what it brings.
-fn hand_piece<R: Inlet, L: Listener>(
+/// Listens with what is left to hear, and gives what is left then.
+fn listen_on<R: Inlet, L: Listener>(
     alloc: Global,
     reader: &mut R,
     listener: &mut L,
-    decoder: &mut Decoder,
-    piece: &mut [u8],
-    turns: &mut u64,
-) -> Result<(), SessionEnd>
-    requires { 0 < length piece.old }
+    unheard: Unheard,
+    turns: u64,
+) -> (SessionEnd, Option<Unheard>)
     ensures names { L.names listener.new ≡ L.names listener.old }
-    ensures ok { IfOk result (λ _. (turns.new < turns.old)
-        × HandsPiece L.hears listener.old listener.new decoder.old decoder.new (R.inflow reader.old)
-        (R.inflow reader.new) turns.old turns.new result) }
-    ensures err { IfErr result (λ end. HandsNone listener.old listener.new decoder.old decoder.new
-        (R.inflow reader.old) (R.inflow reader.new) turns.old turns.new end
-        ⊎ HandsPiece L.hears listener.old listener.new decoder.old decoder.new (R.inflow reader.old)
-        (R.inflow reader.new) turns.old turns.new result) }
+    ensures listens { (before : List ℕ) → IsLeftOf unheard before → (left : ℕ) × Listens L.hears listener.old before
+        (R.inflow reader.old) (R.inflow reader.new) turns left listener.new result.1 result.0 }
 {
-    let count = read_turn(reader, piece, turns)?;
-    let (octets, _) = piece.split_at(count);
-    hand_fed(alloc, listener, decoder.feed(octets))
+    let Unheard { fed, mut decoder } = unheard;
+    if let Err(end) = hand_fed(alloc, listener, fed) {
+        return (end, None);
+    }
+    let Ok(mut piece) = vec![in alloc; 0u8; PIECE] else {
+        let end = SessionEnd::Failed(EngineFault::Memory);
+        return (end, Some(Unheard::kept(alloc, decoder)));
+    };
+    let mut left = turns;
+    loop {
+        let count = match read_turn(reader, &mut piece, &mut left) {
+            Ok(count) => count,
+            Err(end) => return (end, Some(Unheard::kept(alloc, decoder))),
+        };
+        let (octets, _) = piece.split_at(count);
+        if let Err(end) = hand_fed(alloc, listener, decoder.feed(octets)) {
+            return (end, None);
+        }
+    }
 }
 
 /// Hands on what a piece brought, and then its fault.

@@ -2,7 +2,7 @@
 
 ghost use Rattle.std.specs.Prelude.{◌≡◌, ℕ, List};
 ghost use Rattle.kernel_engine.specs.Server.{marked};
-ghost use Rattle.kernel_engine.specs.Steps.{IsFed};
+ghost use Rattle.kernel_engine.specs.Met.{OfUnheard};
 ghost use Rattle.kernel_engine.specs.Respond.{ConversesOn, Responds, went};
 
 use crate::end::SessionEnd;
@@ -121,9 +121,9 @@ pub(crate) fn respond<R: Inlet, W: Outlet, S: Server>(
     turns: u64,
 ) -> (SessionEnd, bool)
     ensures names { S.names server.new ≡ S.names server.old }
-    ensures responds { (before : List ℕ) → IsFed shaken.old.fed shaken.old.decoder before
-        → (left : ℕ) × ConversesOn result.1 S.answers server.old before (R.inflow reader.old) (R.inflow reader.new)
-        (W.outflow writer.old) (W.outflow writer.new) turns left server.new result.0 }
+    ensures responds { OfUnheard shaken.old.unheard (λ before. (left : ℕ) × ConversesOn result.1 S.answers server.old
+        before (R.inflow reader.old) (R.inflow reader.new) (W.outflow writer.old) (W.outflow writer.new) turns left
+        server.new result.0) }
 {
     let mut reply = Vec::new(alloc);
     let mut desk = Desk {

@@ -1,17 +1,20 @@
 //! Shaking hands with a peer: greetings, and then READY (ZMTP 3.0, "Greeting" and "The NULL Security Mechanism").
 
-ghost use Rattle.std.specs.Prelude.{◌≡◌, ◌≢◌, ◌<◌, ℕ, List, [], ◌∷◌, length, IfOk, IfErr};
+ghost use Rattle.std.specs.Prelude.{◌≡◌, ◌≢◌, ◌<◌, ℕ, List, [], ◌∷◌, length, Some, None, IfOk, IfErr};
 ghost use Rattle.zmtp_wire.specs.declared.fault.WireFault.{WireFault};
 ghost use Rattle.zmtp_wire.specs.declared.traffic.Traffic.{Traffic};
 ghost use Rattle.zmtp_wire.specs.Ready.{IsReady};
 ghost use Rattle.kernel_engine.specs.Exchange.{Reading, Exchange};
-ghost use Rattle.kernel_engine.specs.Steps.{Leg, IsStop, IsFed, Meets, TurnsAway, BringsNothing, ComesLate, fresh};
+ghost use Rattle.kernel_engine.specs.declared.shaking.Unheard.{Unheard};
+ghost use Rattle.kernel_engine.specs.Met.{IsLeft, Meets};
+ghost use Rattle.kernel_engine.specs.Steps.{Leg, IsStop, IsFed, TurnsAway, BringsNothing, ComesLate, fresh};
 
 use crate::end::SessionEnd;
 use crate::turn::{put, read_turn};
 use kernel_block::EngineFault;
 use listed::Row;
 use std::alloc::Global;
+use std::marker::Model;
 use zmtp_wire::{
     Decoder, Fed, Inlet, Limits, Outlet, SocketType, greeting, read_greeting, read_ready,
     ready_text,
@@ -20,15 +23,72 @@ use zmtp_wire::{
 /// How many octets one read asks for until the peer's READY came.
 const FIRST_PIECE: usize = 256;
 
-/// A connection whose peer was met: its greeting and its READY were accepted.
+/// What is left to hear of octets that came from a peer.
+#[derive(Debug, Drop)]
+pub(crate) struct Unheard {
+    /// What the octets brought.
+    pub(crate) fed: Fed,
+    /// The decoder that reads on behind them.
+    pub(crate) decoder: Decoder,
+}
+
+impl Unheard {
+    /// What a decoder keeps, where all that it brought was heard.
+    pub(crate) fn kept(alloc: Global, decoder: Decoder) -> Unheard
+        ensures { (result.fed.traffic ≡ []) × (result.fed.fault ≡ None) × (result.decoder ≡ decoder) }
+    {
+        let fed = Fed {
+            traffic: Row::new(Vec::new(alloc)),
+            fault: None,
+        };
+        Unheard { fed, decoder }
+    }
+}
+
+/// A connection whose peer was met: its greeting and its READY were accepted. Listening goes on with what is left to
+/// hear of the peer, and nothing is left once listening ended for good.
 #[derive(Debug, Drop)]
 pub struct Shaken {
     /// The socket type of the peer.
-    pub peer: SocketType,
-    /// What the octets brought that were read behind READY.
-    pub fed: Fed,
-    /// The decoder that reads on behind them.
-    pub decoder: Decoder,
+    peer: SocketType,
+    /// What is left to hear, or none where listening ended for good.
+    unheard: Option<Unheard>,
+}
+
+impl Model for Shaken {
+    ghost use Rattle.kernel_engine.specs.Met.{Met, IsLeft};
+
+    ghost Value = { Met };
+
+    ghost view = { λ shaken. record { peer = shaken.peer; unheard = shaken.unheard } };
+
+    ghost invariant = { λ shaken. IsLeft shaken.unheard };
+}
+
+impl Shaken {
+    /// The socket type of the peer.
+    pub fn peer(&self) -> SocketType
+        ensures { result ≡ self.now.peer }
+    {
+        self.peer
+    }
+
+    /// Takes what is left to hear, and leaves nothing.
+    pub(crate) fn take(&mut self) -> Option<Unheard>
+        ensures taken { result ≡ self.old.unheard }
+        ensures none { self.new ≡ record { peer = self.old.peer; unheard = None } }
+        ensures left { IsLeft result }
+    {
+        self.unheard.take()
+    }
+
+    /// Keeps this as what is left to hear.
+    pub(crate) fn keep(&mut self, unheard: Option<Unheard>)
+        requires { IsLeft unheard }
+        ensures { self.new ≡ record { peer = self.old.peer; unheard = unheard } }
+    {
+        self.unheard = unheard;
+    }
 }
 
 /// Shakes hands with a peer: writes our greeting whole before anything is read, reads the peer's, writes our READY
@@ -48,7 +108,7 @@ pub fn shake<R: Inlet, W: Outlet>(
     turns: u64,
 ) -> Result<Shaken, SessionEnd>
     ensures met { IfOk result (λ shaken. (left : ℕ) × Meets ours (R.inflow reader.old) (R.inflow reader.new)
-        (W.outflow writer.old) (W.outflow writer.new) turns left shaken.peer shaken.fed shaken.decoder) }
+        (W.outflow writer.old) (W.outflow writer.new) turns left shaken) }
     ensures turned_away { IfErr result (λ end. (left : ℕ) × Exchange (TurnsAway ours) (R.inflow reader.old)
         (R.inflow reader.new) (W.outflow writer.old) (W.outflow writer.new) turns left tt end) }
 {
@@ -65,7 +125,7 @@ pub(crate) fn shake_within<R: Inlet, W: Outlet>(
     turns: &mut u64,
 ) -> Result<Shaken, SessionEnd>
     ensures met { IfOk result (λ shaken. Meets ours (R.inflow reader.old) (R.inflow reader.new)
-        (W.outflow writer.old) (W.outflow writer.new) turns.old turns.new shaken.peer shaken.fed shaken.decoder) }
+        (W.outflow writer.old) (W.outflow writer.new) turns.old turns.new shaken) }
     ensures turned_away { IfErr result (λ end. Exchange (TurnsAway ours) (R.inflow reader.old)
         (R.inflow reader.new) (W.outflow writer.old) (W.outflow writer.new) turns.old turns.new tt end) }
 {
@@ -126,10 +186,11 @@ fn read_first<R: Inlet>(
 
 /// Judges the first traffic, which is to be READY, and keeps the others.
 fn meet(fed: Fed, decoder: Decoder, ours: SocketType) -> Result<Shaken, SessionEnd>
-    requires { fed.traffic ≢ [] }
-    ensures ok { IfOk result (λ shaken. (first : Traffic) × (fed.traffic ≡ first ∷ shaken.fed.traffic)
-        × (shaken.fed.fault ≡ fed.fault) × (shaken.decoder ≡ decoder)
-        × IsReady first ours (Ok (record { peer = shaken.peer }))) }
+    requires some { fed.traffic ≢ [] }
+    requires came { (octets : List ℕ) × IsFed fed decoder octets }
+    ensures ok { IfOk result (λ shaken. (first : Traffic) × (unheard : Unheard) × (shaken.unheard ≡ Some unheard)
+        × (fed.traffic ≡ first ∷ unheard.fed.traffic) × (unheard.fed.fault ≡ fed.fault)
+        × (unheard.decoder ≡ decoder) × IsReady first ours (Ok (record { peer = shaken.peer }))) }
     ensures err { IfErr result (λ end. (first : Traffic) × (others : List Traffic) × (fault : WireFault)
         × (fed.traffic ≡ first ∷ others) × IsReady first ours (Err fault) × (end ≡ SessionEnd.Wire fault)) }
 {
@@ -144,6 +205,8 @@ fn meet(fed: Fed, decoder: Decoder, ours: SocketType) -> Result<Shaken, SessionE
         traffic: Row::new(traffic),
         fault,
     };
-    let peer = ready.peer;
-    Ok(Shaken { peer, fed, decoder })
+    Ok(Shaken {
+        peer: ready.peer,
+        unheard: Some(Unheard { fed, decoder }),
+    })
 }

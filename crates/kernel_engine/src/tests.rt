@@ -6,11 +6,11 @@ mod laws;
 mod serving;
 mod shaking;
 
-use crate::{EngineFault, SessionEnd};
-use std::alloc::Global;
+use crate::{EngineFault, Intake, SessionEnd, Shaken, hear};
+use std::alloc::{AllocError, Global};
 use std::io::{self, ErrorKind, Read, Write};
 use std::test::Fail;
-use zmtp_wire::WireFault;
+use zmtp_wire::{Counted, Traffic, WireFault};
 
 /// Our greeting: signature, version 3.0, `NULL`, not as server, filler.
 const GREETING: &[u8] = b"\xFF\0\0\0\0\0\0\0\0\x7F\x03\0\
@@ -138,6 +138,82 @@ impl Write for Sink {
     fn flush(&mut self) -> io::Result<()> {
         Ok(())
     }
+}
+
+/// How an intake answers at its last place.
+#[derive(Clone, Copy, Debug)]
+enum Answer {
+    /// It says no.
+    No,
+    /// It has no memory.
+    Refused,
+}
+
+/// Keeps what is put as text, up to so many places.
+#[derive(Drop)]
+struct Shelf {
+    /// What was put: a message's frames each behind `|`, a command's name behind `/`.
+    text: Vec<u8>,
+    /// How many places are left.
+    places: u64,
+    /// How it answers when none is left.
+    last: Answer,
+    /// How often it was asked.
+    asked: u64,
+}
+
+impl Shelf {
+    /// A shelf with so many places.
+    fn of(alloc: Global, places: u64, last: Answer) -> Shelf {
+        Shelf {
+            text: Vec::new(alloc),
+            places,
+            last,
+            asked: 0,
+        }
+    }
+}
+
+impl Intake for Shelf {
+    ghost use Rattle.std.specs.Prelude.{⊤, None, []};
+
+    ghost takes = { λ _ _ _ _. ⊤ };
+
+    ghost told = { λ _. None };
+
+    ghost names = { λ _. [] };
+
+    fn put(&mut self, traffic: Traffic) -> Result<bool, AllocError> {
+        self.asked = self.asked.saturating_add(1);
+        if self.places == 0 {
+            return match self.last {
+                Answer::No => Ok(false),
+                Answer::Refused => Err(AllocError),
+            };
+        }
+        self.places -= 1;
+        match traffic {
+            Traffic::Message(frames) => {
+                for frame in frames.as_slice() {
+                    self.text.extend_from_slice(b"|")?;
+                    self.text.extend_from_slice(frame.as_slice())?;
+                }
+            }
+            Traffic::Command(name, _rest) => {
+                self.text.extend_from_slice(b"/")?;
+                self.text.extend_from_slice(name.as_slice())?;
+            }
+        }
+        Ok(true)
+    }
+}
+
+/// What is put of a peer that was met and sends these octets then, and how hearing ended.
+fn heard_then(alloc: Global, shaken: &mut Shaken, sent: &[u8]) -> (Ended, Vec<u8>) {
+    let mut shelf = Shelf::of(alloc, 100, Answer::No);
+    let mut reader = Counted::new(Peer::of(sent, b""));
+    let end = hear(alloc, &mut reader, shaken, &mut shelf, 100);
+    (Ended::from(end), shelf.text)
 }
 
 /// How an exchange ended, in values that compare.

@@ -1,100 +1,35 @@
 //! Traffic that is put into an intake.
 
 use super::{
-    ERROR, Ended, HELLO, PEER_GREETING, PING, Peer, READY_DEALER, READY_REQ, Sink, failed, join,
+    Answer, ERROR, Ended, HELLO, PEER_GREETING, PING, Peer, READY_DEALER, READY_REQ, Shelf, Sink,
+    failed, join,
 };
-use crate::{EngineFault, Intake, Shaken, hear, shake};
-use listed::Row;
-use std::alloc::{AllocError, Global};
+use crate::{EngineFault, Shaken, hear, shake};
+use std::alloc::Global;
 use std::test::Fail;
-use zmtp_wire::{Counted, Decoder, Fed, Limits, SocketType, Traffic, WireFault};
-
-/// How an intake answers at its last place.
-#[derive(Clone, Copy, Debug)]
-enum Answer {
-    /// It says no.
-    No,
-    /// It has no memory.
-    Refused,
-}
-
-/// Keeps what is put as text, up to so many places.
-#[derive(Drop)]
-struct Shelf {
-    /// What was put: a message's frames each behind `|`, a command's name behind `/`.
-    text: Vec<u8>,
-    /// How many places are left.
-    places: u64,
-    /// How it answers when none is left.
-    last: Answer,
-    /// How often it was asked.
-    asked: u64,
-}
-
-impl Shelf {
-    /// A shelf with so many places.
-    fn of(alloc: Global, places: u64, last: Answer) -> Shelf {
-        Shelf {
-            text: Vec::new(alloc),
-            places,
-            last,
-            asked: 0,
-        }
-    }
-}
-
-impl Intake for Shelf {
-    ghost use Rattle.std.specs.Prelude.{⊤, None, []};
-
-    ghost takes = { λ _ _ _ _. ⊤ };
-
-    ghost told = { λ _. None };
-
-    ghost names = { λ _. [] };
-
-    fn put(&mut self, traffic: Traffic) -> Result<bool, AllocError> {
-        self.asked = self.asked.saturating_add(1);
-        if self.places == 0 {
-            return match self.last {
-                Answer::No => Ok(false),
-                Answer::Refused => Err(AllocError),
-            };
-        }
-        self.places -= 1;
-        match traffic {
-            Traffic::Message(frames) => {
-                for frame in frames.as_slice() {
-                    self.text.extend_from_slice(b"|")?;
-                    self.text.extend_from_slice(frame.as_slice())?;
-                }
-            }
-            Traffic::Command(name, _rest) => {
-                self.text.extend_from_slice(b"/")?;
-                self.text.extend_from_slice(name.as_slice())?;
-            }
-        }
-        Ok(true)
-    }
-}
+use zmtp_wire::{Counted, SocketType, WireFault};
 
 /// A connection whose peer was met, and nothing came with its READY.
-fn met(alloc: Global) -> Shaken {
-    Shaken {
-        peer: SocketType::Dealer,
-        fed: Fed {
-            traffic: Row::new(Vec::new(alloc)),
-            fault: None,
-        },
-        decoder: Decoder::new(alloc, Limits::usual()),
-    }
+fn met(alloc: Global) -> Result<Shaken, Fail> {
+    let octets = join(alloc, &[PEER_GREETING, READY_DEALER])?;
+    let mut reader = Counted::new(Peer::of(&octets, b""));
+    let mut writer = Counted::new(Sink::new(alloc));
+    let met = shake(alloc, &mut reader, &mut writer, SocketType::Router, 5);
+    Ok(met.ok().ok_or("turned away")?)
 }
 
 /// What a peer that sends these octets behind READY puts into a shelf, and how hearing ended, by the octets a read.
-fn heard(alloc: Global, sent: &[u8], places: u64, last: Answer, width: usize) -> (Ended, Shelf) {
+fn heard(
+    alloc: Global,
+    sent: &[u8],
+    places: u64,
+    last: Answer,
+    width: usize,
+) -> Result<(Ended, Shelf), Fail> {
     let mut peer = Peer::of(sent, b"");
     peer.width = width;
     let mut shelf = Shelf::of(alloc, places, last);
-    let mut shaken = met(alloc);
+    let mut shaken = met(alloc)?;
     let end = hear(
         alloc,
         &mut Counted::new(peer),
@@ -102,7 +37,16 @@ fn heard(alloc: Global, sent: &[u8], places: u64, last: Answer, width: usize) ->
         &mut shelf,
         1_000_000,
     );
-    (Ended::from(end), shelf)
+    Ok((Ended::from(end), shelf))
+}
+
+/// Hears a peer once more, which goes on to send messages: how it ended, how often was read, and how often an intake
+/// was asked.
+fn once_more(alloc: Global, shaken: &mut Shaken) -> (Ended, u64, u64) {
+    let mut reader = Counted::new(Peer::of(PING, PING));
+    let mut shelf = Shelf::of(alloc, 100, Answer::No);
+    let end = Ended::from(hear(alloc, &mut reader, shaken, &mut shelf, 100));
+    (end, reader.into_inner().reads, shelf.asked)
 }
 
 #[test]
@@ -138,7 +82,7 @@ fn traffic_is_put_whole_and_in_order(rt: HostRuntime) -> Result<(), Fail> {
         ),
     ] {
         for width in [1, 2, 5, 1_000_000] {
-            let (end, shelf) = heard(alloc, sent, 100, Answer::No, width);
+            let (end, shelf) = heard(alloc, sent, 100, Answer::No, width)?;
             assert_eq!(rt; end, ending, "{sent:?}");
             assert_eq!(rt; shelf.text.as_slice(), put, "{sent:?}");
         }
@@ -172,7 +116,7 @@ fn every_cut_in_two_puts_the_same(rt: HostRuntime) -> Result<(), Fail> {
             assert_eq!(rt; end, ending, "cut at {cut}");
             let put = b"||ping/HELLO||A|BC|D".as_slice();
             assert_eq!(rt; shelf.text.as_slice(), put, "cut at {cut}");
-            assert_eq!(rt; shaken.peer, SocketType::Req, "cut at {cut}");
+            assert_eq!(rt; shaken.peer(), SocketType::Req, "cut at {cut}");
         }
     }
     Ok(())
@@ -193,7 +137,7 @@ fn an_intake_ends_hearing_at_each_place(rt: HostRuntime) -> Result<(), Fail> {
             (Answer::Refused, failed(EngineFault::Memory)),
         ] {
             for width in [1, 2, 5, 1_000_000] {
-                let (end, shelf) = heard(alloc, sent, places, last, width);
+                let (end, shelf) = heard(alloc, sent, places, last, width)?;
                 assert_eq!(rt; end, ending, "{places} places");
                 assert_eq!(rt; shelf.text.as_slice(), put, "{places} places");
                 assert_eq!(rt; shelf.asked, places + 1, "{places} places");
@@ -202,7 +146,7 @@ fn an_intake_ends_hearing_at_each_place(rt: HostRuntime) -> Result<(), Fail> {
     }
     // ERROR is no traffic that an intake could refuse.
     for last in [Answer::No, Answer::Refused] {
-        let (end, shelf) = heard(alloc, sent, 4, last, 3);
+        let (end, shelf) = heard(alloc, sent, 4, last, 3)?;
         assert_eq!(rt; end, Ended::Wire(WireFault::PeerError));
         assert_eq!(rt; shelf.asked, 4);
     }
@@ -220,7 +164,7 @@ fn nothing_is_read_once_an_intake_said_no(rt: HostRuntime) -> Result<(), Fail> {
         peer.fails_at = reads + 1;
         let mut reader = Counted::new(peer);
         let mut shelf = Shelf::of(alloc, 1, Answer::No);
-        let mut shaken = met(alloc);
+        let mut shaken = met(alloc)?;
         let end = Ended::from(hear(alloc, &mut reader, &mut shaken, &mut shelf, 100));
         assert_eq!(rt; end, Ended::Eof, "{width} octets a read");
         assert_eq!(rt; reader.into_inner().reads, reads, "{width} octets a read");
@@ -283,10 +227,109 @@ fn an_endless_peer_is_heard_as_often_as_there_are_turns(rt: HostRuntime) -> Resu
         peer.again = PING;
         let mut reader = Counted::new(peer);
         let mut shelf = Shelf::of(alloc, 100, Answer::No);
-        let mut shaken = met(alloc);
+        let mut shaken = met(alloc)?;
         let end = Ended::from(hear(alloc, &mut reader, &mut shaken, &mut shelf, turns));
         assert_eq!(rt; end, failed(EngineFault::Turns));
         assert_eq!(rt; reader.into_inner().reads, turns);
+    }
+    Ok(())
+}
+
+#[test]
+fn nothing_is_heard_once_an_intake_said_no(rt: HostRuntime) -> Result<(), Fail> {
+    let alloc = rt.alloc();
+    let sent = b"\x00\x01A\x00\x01B\x00\x01C".as_slice();
+    for (last, ending) in [
+        (Answer::No, Ended::Eof),
+        (Answer::Refused, failed(EngineFault::Memory)),
+    ] {
+        for places in 0..3u64 {
+            let mut reader = Counted::new(Peer::of(sent, PING));
+            let mut shelf = Shelf::of(alloc, places, last);
+            let mut shaken = met(alloc)?;
+            let end = Ended::from(hear(alloc, &mut reader, &mut shaken, &mut shelf, 100));
+            assert_eq!(rt; end, ending, "{places} places");
+            for _ in 0..2u64 {
+                let (end, reads, asked) = once_more(alloc, &mut shaken);
+                assert_eq!(rt; end, Ended::Wire(WireFault::Spent), "{places} places");
+                assert_eq!(rt; reads, 0, "{places} places");
+                assert_eq!(rt; asked, 0, "{places} places");
+            }
+            assert_eq!(rt; shaken.peer(), SocketType::Dealer);
+        }
+    }
+    Ok(())
+}
+
+#[test]
+fn nothing_is_heard_once_the_octets_were_refused(rt: HostRuntime) -> Result<(), Fail> {
+    let alloc = rt.alloc();
+    for (last, fault) in [
+        (b"\x80".as_slice(), WireFault::Flags),
+        (ERROR, WireFault::PeerError),
+    ] {
+        // The fault comes with READY, or behind it.
+        let octets = join(alloc, &[PEER_GREETING, READY_DEALER, HELLO, last])?;
+        for cut in 64 + READY_DEALER.len()..=octets.len() {
+            let (front, behind) = octets.split_at(cut);
+            let mut reader = Counted::new(Peer::of(front, behind));
+            let mut writer = Counted::new(Sink::new(alloc));
+            let met = shake(alloc, &mut reader, &mut writer, SocketType::Router, 5);
+            let mut shaken = met.ok().ok_or("turned away")?;
+            let mut shelf = Shelf::of(alloc, 100, Answer::No);
+            let end = Ended::from(hear(alloc, &mut reader, &mut shaken, &mut shelf, 100));
+            assert_eq!(rt; end, Ended::Wire(fault), "cut at {cut}");
+            assert_eq!(rt; shelf.text.as_slice(), b"/HELLO".as_slice(), "cut at {cut}");
+            for _ in 0..2u64 {
+                let (end, reads, asked) = once_more(alloc, &mut shaken);
+                assert_eq!(rt; end, Ended::Wire(WireFault::Spent), "cut at {cut}");
+                assert_eq!(rt; reads, 0, "cut at {cut}");
+                assert_eq!(rt; asked, 0, "cut at {cut}");
+            }
+        }
+    }
+    Ok(())
+}
+
+#[test]
+fn a_message_cut_by_a_pause_at_every_place_comes_whole(rt: HostRuntime) -> Result<(), Fail> {
+    let alloc = rt.alloc();
+    let octets = b"\x01\x00\x03\0\0\0\0\0\0\0\x01A\x00\x02BC\x04\x06\x05HELLO\x00\x01D".as_slice();
+    // As many as the octets in front of the cut, each of which takes a read.
+    let mut reads = 0u64;
+    for cut in 0..=octets.len() {
+        let (front, behind) = octets.split_at(cut);
+        for pause in [
+            Ended::Eof,
+            failed(EngineFault::Read),
+            failed(EngineFault::Turns),
+        ] {
+            let mut peer = Peer::of(front, b"");
+            peer.width = 1;
+            let mut turns = 100;
+            if pause == failed(EngineFault::Read) {
+                peer.fails_at = reads.saturating_add(1);
+            }
+            if pause == failed(EngineFault::Turns) {
+                turns = reads;
+            }
+            let mut shelf = Shelf::of(alloc, 100, Answer::No);
+            let mut shaken = met(alloc)?;
+            let end = hear(
+                alloc,
+                &mut Counted::new(peer),
+                &mut shaken,
+                &mut shelf,
+                turns,
+            );
+            assert_eq!(rt; Ended::from(end), pause, "cut at {cut}");
+            let mut peer = Counted::new(Peer::of(behind, b""));
+            let end = hear(alloc, &mut peer, &mut shaken, &mut shelf, 100);
+            assert_eq!(rt; Ended::from(end), Ended::Eof, "cut at {cut}");
+            let put = b"||A|BC/HELLO|D".as_slice();
+            assert_eq!(rt; shelf.text.as_slice(), put, "cut at {cut}");
+        }
+        reads = reads.saturating_add(1);
     }
     Ok(())
 }

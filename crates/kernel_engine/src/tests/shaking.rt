@@ -2,7 +2,7 @@
 
 use super::{
     ERROR, Ended, GREETING, HELLO, PEER_GREETING, PING, Peer, READY_DEALER, READY_REP, READY_REQ,
-    READY_ROUTER, Sink, failed, join,
+    READY_ROUTER, Sink, failed, heard_then, join,
 };
 use crate::{EngineFault, shake};
 use std::alloc::Global;
@@ -21,7 +21,7 @@ fn shaken(
     let mut writer = Counted::new(sink);
     let met = shake(alloc, &mut reader, &mut writer, SocketType::Rep, turns);
     let end = match met {
-        Ok(shaken) => Ok(shaken.peer),
+        Ok(shaken) => Ok(shaken.peer()),
         Err(end) => Err(Ended::from(end)),
     };
     (end, writer.into_inner().octets, reader.into_inner().reads)
@@ -51,12 +51,13 @@ fn hands_are_shaken_octet_by_octet(rt: HostRuntime) -> Result<(), Fail> {
         sender.width = 1;
         let mut reader = Counted::new(sender);
         let mut writer = Counted::new(Vec::new(alloc));
-        let met = shake(alloc, &mut reader, &mut writer, ours, 1000)
+        let mut met = shake(alloc, &mut reader, &mut writer, ours, 1000)
             .ok()
             .ok_or("met")?;
-        assert_eq!(rt; met.peer, peer);
-        assert!(rt; met.fed.traffic.is_empty());
-        assert_eq!(rt; met.fed.fault, None);
+        assert_eq!(rt; met.peer(), peer);
+        let (end, put) = heard_then(alloc, &mut met, b"");
+        assert_eq!(rt; end, Ended::Eof);
+        assert!(rt; put.is_empty());
         assert_eq!(rt; reader.into_inner().front, PING);
         let written = join(alloc, &[GREETING, ready])?;
         assert_eq!(rt; writer.into_inner().as_slice(), written.as_slice());
@@ -170,28 +171,10 @@ fn what_stands_behind_ready_is_kept(rt: HostRuntime) -> Result<(), Fail> {
     let mut writer = Counted::new(Sink::new(alloc));
     let met = shake(alloc, &mut reader, &mut writer, SocketType::Rep, 2);
     let mut met = met.ok().ok_or("met")?;
-    assert_eq!(rt; met.peer, SocketType::Req);
-    assert_eq!(rt; met.fed.fault, None);
-    let [Traffic::Message(frames), Traffic::Command(name, rest)] = met.fed.traffic.as_slice() else {
-        return Err(Fail::from("a message and a command"));
-    };
-    let [first, second] = frames.as_slice() else {
-        return Err(Fail::from("two frames"));
-    };
-    assert!(rt; first.is_empty());
-    assert_eq!(rt; second.as_slice(), b"ping".as_slice());
-    assert_eq!(rt; name.as_slice(), b"HELLO".as_slice());
-    assert!(rt; rest.is_empty());
-    let later = met.decoder.feed(b"\x02BC\x08");
-    assert_eq!(rt; later.fault, Some(WireFault::Flags));
-    let [Traffic::Message(frames)] = later.traffic.as_slice() else {
-        return Err(Fail::from("a message"));
-    };
-    let [first, second] = frames.as_slice() else {
-        return Err(Fail::from("two frames"));
-    };
-    assert_eq!(rt; first.as_slice(), b"A".as_slice());
-    assert_eq!(rt; second.as_slice(), b"BC".as_slice());
+    assert_eq!(rt; met.peer(), SocketType::Req);
+    let (end, put) = heard_then(alloc, &mut met, b"\x02BC\x08");
+    assert_eq!(rt; end, Ended::Wire(WireFault::Flags));
+    assert_eq!(rt; put.as_slice(), b"||ping/HELLO|A|BC".as_slice());
     Ok(())
 }
 
@@ -203,9 +186,12 @@ fn a_fault_behind_ready_is_kept(rt: HostRuntime) -> Result<(), Fail> {
     let mut writer = Counted::new(Sink::new(alloc));
     let met = shake(alloc, &mut reader, &mut writer, SocketType::Rep, 2);
     let mut met = met.ok().ok_or("met")?;
-    assert_eq!(rt; met.fed.traffic.len(), 1);
-    assert_eq!(rt; met.fed.fault, Some(WireFault::Flags));
-    assert_eq!(rt; met.decoder.feed(PING).fault, Some(WireFault::Spent));
+    let (end, put) = heard_then(alloc, &mut met, PING);
+    assert_eq!(rt; end, Ended::Wire(WireFault::Flags));
+    assert_eq!(rt; put.as_slice(), b"|A".as_slice());
+    let (end, put) = heard_then(alloc, &mut met, PING);
+    assert_eq!(rt; end, Ended::Wire(WireFault::Spent));
+    assert!(rt; put.is_empty());
     Ok(())
 }
 
@@ -309,9 +295,11 @@ fn a_publisher_meets_a_subscriber(rt: HostRuntime) -> Result<(), Fail> {
     let mut reader = Counted::new(octets.as_slice());
     let mut writer = Counted::new(Vec::new(alloc));
     let met = shake(alloc, &mut reader, &mut writer, SocketType::Pub, 10);
-    let met = met.ok().ok_or("met")?;
-    assert_eq!(rt; met.peer, SocketType::Sub);
-    assert_eq!(rt; met.fed.traffic.len(), 1);
+    let mut met = met.ok().ok_or("met")?;
+    assert_eq!(rt; met.peer(), SocketType::Sub);
+    let (end, put) = heard_then(alloc, &mut met, b"");
+    assert_eq!(rt; end, Ended::Eof);
+    assert_eq!(rt; put.as_slice(), b"|\x01".as_slice());
     let ready_pub = b"\x04\x19\x05READY\x0BSocket-Type\0\0\0\x03PUB".as_slice();
     let both = join(alloc, &[GREETING, ready_pub])?;
     assert_eq!(rt; writer.into_inner().as_slice(), both.as_slice());
