@@ -73,3 +73,20 @@ module _ {A : Type 0} where
   -- agreement goes both ways
   pub agree_back : (one other : List A) → Agree one other → Agree other one
   agree_back one other = ⊎_elim (λ of_one. inr of_one) (λ of_other. inl of_other)
+
+  -- what agrees with a list agrees with a beginning of it
+  pub agree_front : (whole told other : List A) → Agree whole other → StartsWith whole told → Agree told other
+  agree_front whole told other agree starts = ⊎_elim
+      (λ (of_whole : StartsWith whole other). beginnings_agree whole told other starts of_whole)
+      (λ (of_other : StartsWith other whole). inr (starts_on other whole told of_other starts))
+      agree
+
+  nothing_last : (front rest : List A) → front ++ rest ≡ [] → rest ≡ []
+  nothing_last [] rest is = is
+  nothing_last (x ∷ front) rest is = cc
+
+  -- the end of a list is empty, or has its last element
+  pub last_of : (front rest before : List A) (x : A) → front ++ rest ≡ before ++ x ∷ [] → (rest ≡ []) ⊎ ((r : List A) × (rest ≡ r ++ x ∷ []))
+  last_of [] rest before x is = inr (before, is)
+  last_of (y ∷ front) rest [] x is = let none : front ++ rest ≡ [] = cc in inl (nothing_last front rest none)
+  last_of (y ∷ front) rest (z ∷ before) x is = let tails : front ++ rest ≡ before ++ x ∷ [] = cc in last_of front rest before x tails

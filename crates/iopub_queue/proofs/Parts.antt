@@ -75,7 +75,8 @@ module _ {T : Type 0} where
     nothing (x ∷ front) next behind is = cc
   front_is_open (Some item ∷ front) next behind last = front_is_open front next behind last
 
-  empty_front : (front behind : List (Option T)) → front ++ behind ≡ [] → front ≡ []
+  -- what is in front of nothing is nothing
+  pub empty_front : (front behind : List (Option T)) → front ++ behind ≡ [] → front ≡ []
   empty_front [] behind is = refl
   empty_front (x ∷ front) behind is = cc
 

@@ -19,8 +19,3 @@ module _ {T : Type 0} where
   Runs n events (Ok ended) = EndsIn n events ended
   Runs n events (Err (NotAllowed place)) = IsFirstNotAllowed n events place
   Runs n events (Err OutOfMemory) = ⊤
-
--- the number of a fault of the core
-abbrev pub core_fault_number : CoreFault → ℕ
-core_fault_number (NotAllowed place) = 63
-core_fault_number OutOfMemory = 64

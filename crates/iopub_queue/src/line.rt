@@ -24,7 +24,7 @@ pub type Line<T> = RuledArrayQueue<Entry<T>, View<T>, InOrder>;
 pub type Seat<T> = Pass<Entry<T>, View<T>>;
 
 /// A queue of this many places, and the taker's seat.
-pub fn open_line<T: Drop>(alloc: Global, capacity: usize) -> Result<(Line<T>, Seat<T>), AllocError>
+pub fn open_line<T>(alloc: Global, capacity: usize) -> Result<(Line<T>, Seat<T>), AllocError>
     requires { 0 < capacity }
     ensures { IfOk result (λ made. IsPassOf made.0 made.1 × (view made.1 ≡ taking)) }
 {
@@ -32,7 +32,7 @@ pub fn open_line<T: Drop>(alloc: Global, capacity: usize) -> Result<(Line<T>, Se
 }
 
 /// Pushes an entry of the seat's number. Where the queue is full it is tried again.
-pub fn push<T: Drop, R: Wait>(rt: &R, line: &Line<T>, seat: &mut Seat<T>, entry: Entry<T>)
+pub fn push<T, R: Wait>(rt: &R, line: &Line<T>, seat: &mut Seat<T>, entry: Entry<T>)
     requires seat { IsPassOf line.now seat.old }
     requires role { (view seat.old).role ≡ Publishes }
     requires number { entry.0 ≡ (view seat.old).number }
@@ -52,7 +52,7 @@ pub fn push<T: Drop, R: Wait>(rt: &R, line: &Line<T>, seat: &mut Seat<T>, entry:
 }
 
 /// Pops the entry that waits first.
-pub fn pop<T: Drop, R: Wait>(rt: &R, line: &Line<T>, seat: &mut Seat<T>) -> Option<Entry<T>>
+pub fn pop<T, R: Wait>(rt: &R, line: &Line<T>, seat: &mut Seat<T>) -> Option<Entry<T>>
     requires seat { IsPassOf line.now seat.old }
     requires role { (view seat.old).role ≡ Takes }
     ensures seat { IsSamePass seat.old seat.new }
@@ -62,7 +62,7 @@ pub fn pop<T: Drop, R: Wait>(rt: &R, line: &Line<T>, seat: &mut Seat<T>) -> Opti
 }
 
 /// What the taker can know at one moment.
-pub fn look<T: Drop>(line: &Line<T>, seat: &mut Seat<T>)
+pub fn look<T>(line: &Line<T>, seat: &mut Seat<T>)
     requires seat { IsPassOf line.now seat.old }
     requires role { (view seat.old).role ≡ Takes }
     ensures seat { IsSamePass seat.old seat.new × (view seat.new ≡ view seat.old) }
@@ -72,7 +72,7 @@ pub fn look<T: Drop>(line: &Line<T>, seat: &mut Seat<T>)
 }
 
 /// Splits the next number's seat off the taker's.
-pub fn split_publisher<T: Drop>(line: &Line<T>, taker: &mut Seat<T>) -> Seat<T>
+pub fn split_publisher<T>(line: &Line<T>, taker: &mut Seat<T>) -> Seat<T>
     requires seat { IsPassOf line.now taker.old }
     requires role { (view taker.old).role ≡ Takes }
     ensures seat { IsSamePass taker.old taker.new × IsPassOf line.now result }
@@ -83,7 +83,7 @@ pub fn split_publisher<T: Drop>(line: &Line<T>, taker: &mut Seat<T>) -> Seat<T>
 }
 
 /// Splits a word's seat off.
-pub fn split_word<T: Drop>(line: &Line<T>, seat: &mut Seat<T>) -> Seat<T>
+pub fn split_word<T>(line: &Line<T>, seat: &mut Seat<T>) -> Seat<T>
     requires seat { IsPassOf line.now seat.old }
     ensures seat { IsSamePass seat.old seat.new × IsPassOf line.now result }
     ensures same { view seat.new ≡ view seat.old }
@@ -93,7 +93,7 @@ pub fn split_word<T: Drop>(line: &Line<T>, seat: &mut Seat<T>) -> Seat<T>
 }
 
 /// Takes a word in.
-pub fn join_word<T: Drop>(line: &Line<T>, seat: &mut Seat<T>, word: Seat<T>)
+pub fn join_word<T>(line: &Line<T>, seat: &mut Seat<T>, word: Seat<T>)
     requires seat { IsPassOf line.now seat.old × IsPassOf line.now word }
     ensures seat { IsSamePass seat.old seat.new }
     ensures learnt { view seat.new ≡ learnt (view seat.old) (view word) }
@@ -102,7 +102,7 @@ pub fn join_word<T: Drop>(line: &Line<T>, seat: &mut Seat<T>, word: Seat<T>)
 }
 
 /// Takes a publisher's seat in.
-pub fn join_publisher<T: Drop>(line: &Line<T>, taker: &mut Seat<T>, closed: Seat<T>)
+pub fn join_publisher<T>(line: &Line<T>, taker: &mut Seat<T>, closed: Seat<T>)
     requires seat { IsPassOf line.now taker.old × IsPassOf line.now closed }
     requires roles { ((view taker.old).role ≡ Takes) × ((view closed).role ≡ Publishes) }
     ensures seat { IsSamePass taker.old taker.new }

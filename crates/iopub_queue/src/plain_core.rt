@@ -1,9 +1,10 @@
 //! The queue's core, without threads: what the queue does with a list of events.
 
 ghost use Rattle.std.specs.Prelude.{◌≡◌, ◌≤◌, length, take, drop, IfOk, IfErr, MatchBool};
+ghost use Rattle.iopub_queue.specs.Fault.{core_fault_number};
 ghost use Rattle.iopub_queue.specs.Marks.{IsOpenMark, Steps};
 ghost use Rattle.iopub_queue.specs.declared.plain_core.CoreEvent.TheVariants.{Publish, Close};
-ghost use Rattle.iopub_queue.specs.Running.{Runs, core_fault_number};
+ghost use Rattle.iopub_queue.specs.Running.{Runs};
 ghost use Rattle.iopub_queue.specs.declared.plain_core.CoreFault.TheVariants.{OutOfMemory};
 
 use listed::Row;
