@@ -1,17 +1,16 @@
 -- The running core follows the core's states.
-use Rattle.std.proofs.Common.{◌≡◌, ℕ, zero, suc, ◌+◌, ◌<◌, ◌≤◌, Bool, true, false, true≢false, List, [], ◌∷◌, ◌++◌, length, take, drop, get_or, set, replicate, refl, sym, ap, ◌∙◌, subst, append_assoc}
+use Rattle.std.proofs.Common.{◌≡◌, ℕ, zero, suc, ◌+◌, ◌<◌, ◌≤◌, false, List, [], ◌∷◌, ◌++◌, length, take, drop, get_or, replicate, refl, sym, ap, ◌∙◌, subst, append_assoc}
 use Rattle.std.proofs.Common.{arith, length-append}
-use Rattle.std.specs.Prelude.{Option, Some, None}
 use Rattle.std.proofs.lemmas.List.{append-nil, take-append-le, drop-append-le, drop-drop, length-replicate, get_or-replicate}
 use Rattle.iopub_queue.specs.declared.plain_core.Core.{Core}
 use Rattle.iopub_queue.specs.declared.plain_core.CoreEvent.{CoreEvent}
-use Rattle.iopub_queue.specs.declared.plain_core.CoreEvent.TheVariants.{Publish, Close, Take}
-use Rattle.iopub_queue.specs.Entries.{Entry, HasNoClose, EndsWithClose}
+use Rattle.iopub_queue.specs.declared.plain_core.CoreEvent.TheVariants.{Take}
+use Rattle.iopub_queue.specs.Entries.{Entry}
 use Rattle.iopub_queue.specs.Lawful.{Lists, Lawful, grown, entered, happened, IsOpen, IsAllowed, start, after, AreAllowed, IsFirstNotAllowed}
 use Rattle.iopub_queue.specs.declared.plain_core.CoreState.{CoreState}
 use Rattle.iopub_queue.specs.Running.{EndsIn}
-use Rattle.iopub_queue.specs.Marks.{IsMarked, Marks, IsOpenMark, Follows}
-use Rattle.iopub_queue.proofs.Marking.{unmarked_is_open, open_is_unmarked, marks_item, marks_close}
+use Rattle.iopub_queue.specs.Marks.{Marks, IsOpenMark, Follows}
+use Rattle.iopub_queue.proofs.Marking.{unmarked_is_open, open_is_unmarked}
 use Rattle.iopub_queue.proofs.Lawfulness.{lawful_entered, lawful_take, lawful_start, after_more, allowed_more}
 
 module _ {T : Type 0} where
@@ -37,12 +36,12 @@ module _ {T : Type 0} where
       → Marks n new.closed.items (grown state.published entry.0 entry.1) → Follows n (entered state entry) new
   follows_entered n state old new entry follows free longer same marks =
       let within : old.taken ≤ length old.entries.items = follows.within in record {
-    marks = marks;
-    within = rw (longer, same) (omega (arith, length-append old.entries.items (entry ∷ [])));
-    taken = rw (longer, same, take-append-le old.taken old.entries.items (entry ∷ []) within) follows.taken;
-    waiting = rw (longer, same, drop-append-le old.taken old.entries.items (entry ∷ []) within) (ap (λ l. l ++ entry ∷ []) follows.waiting);
-    lawful = lawful_entered n state entry follows.lawful free;
-  }
+        marks = marks;
+        within = rw (longer, same) (omega (arith, length-append old.entries.items (entry ∷ [])));
+        taken = rw (longer, same, take-append-le old.taken old.entries.items (entry ∷ []) within) follows.taken;
+        waiting = rw (longer, same, drop-append-le old.taken old.entries.items (entry ∷ []) within) (ap (λ l. l ++ entry ∷ []) follows.waiting);
+        lawful = lawful_entered n state entry follows.lawful free;
+      }
 
   first_taken : (k : ℕ) (entries : List (Entry T)) → k < length entries → take k entries ++ take 1 (drop k entries) ≡ take (k + 1) entries
   first_taken zero [] within = absurd (omega arith)
@@ -67,12 +66,12 @@ module _ {T : Type 0} where
   pub follows_nothing : (n : ℕ) (state : Lists T) (core : Core T) → Follows n state core → length core.entries.items ≤ core.taken → Follows n (happened state Take) core
   follows_nothing n state core follows above =
       let none : state.waiting ≡ [] = follows.waiting ∙ nothing_left core.taken core.entries.items above in record {
-    marks = follows.marks;
-    within = follows.within;
-    taken = rw none (append-nil state.taken ∙ follows.taken);
-    waiting = rw none (sym (nothing_left core.taken core.entries.items above));
-    lawful = lawful_take n state follows.lawful;
-  }
+        marks = follows.marks;
+        within = follows.within;
+        taken = rw none (append-nil state.taken ∙ follows.taken);
+        waiting = rw none (sym (nothing_left core.taken core.entries.items above));
+        lawful = lawful_take n state follows.lawful;
+      }
     where
       nothing_left : (k : ℕ) (entries : List (Entry T)) → length entries ≤ k → drop k entries ≡ []
       nothing_left zero [] above = refl
@@ -105,7 +104,7 @@ module _ {T : Type 0} where
   pub ran_more : (n : ℕ) (events done left rest : List (CoreEvent T)) (event : CoreEvent T) (place : ℕ) (old new : Core T)
       → Ran n events done left place old → left ≡ event ∷ rest
       → ((state : Lists T) → Follows (length old.closed.items) state old
-          → IsAllowed (length old.closed.items) state event × Follows (length old.closed.items) (happened state event) new)
+      → IsAllowed (length old.closed.items) state event × Follows (length old.closed.items) (happened state event) new)
       → Ran n events (done ++ event ∷ []) rest (place + 1) new
   ran_more n events done left rest event place old new ran is step =
       let wide : length old.closed.items ≡ n = ran.follows.marks.counted in

@@ -1,9 +1,9 @@
 -- Events that are allowed keep a state lawful.
-use Rattle.std.proofs.Common.{◌≡◌, ◌≢◌, ℕ, ◌<◌, ◌≤◌, Bool, true, false, List, [], ◌∷◌, ◌++◌, length, take, drop, refl, sym, ap, ◌∙◌, subst, append_assoc}
-use Rattle.std.proofs.Common.{arith, eqb, eq-eqb, ne_eqb}
+use Rattle.std.proofs.Common.{◌≡◌, ◌≢◌, ℕ, ◌<◌, List, [], ◌∷◌, ◌++◌, take, drop, refl, sym, ap, ◌∙◌, subst, append_assoc}
+use Rattle.std.proofs.Common.{arith}
 use Rattle.std.specs.Prelude.{Option, Some, None, ◌==◌}
-use Rattle.std.proofs.lemmas.List.{take-append-drop, append_cancel_left}
-use Rattle.std.proofs.lemmas.Bool.{cond_both, eqb-true, eqb-false}
+use Rattle.std.proofs.lemmas.List.{take-append-drop}
+use Rattle.std.proofs.lemmas.Bool.{cond_both, eqb-true}
 use Rattle.iopub_queue.specs.declared.plain_core.CoreEvent.{CoreEvent}
 use Rattle.iopub_queue.specs.declared.plain_core.CoreEvent.TheVariants.{Publish, Close, Take}
 use Rattle.iopub_queue.specs.Entries.{Entry, of, HasNoClose, CloseIsLast}
@@ -24,7 +24,7 @@ module _ {T : Type 0} where
   lawful_entered n state entry lawful free =
       let regroup : state.taken ++ (state.waiting ++ entry ∷ []) ≡ history state ++ entry ∷ [] = sym (append_assoc state.taken state.waiting (entry ∷ [])) in
       let part_of : (number : ℕ) → of number (history (entered state entry)) ≡ grown (λ other. of other (history state)) entry.0 entry.1 number =
-          λ number. ap (of number) regroup ∙ of_more (history state) entry number in
+      λ number. ap (of number) regroup ∙ of_more (history state) entry number in
       record {
         parts = λ number below. part_of number ∙ same_grown entry.0 entry.1 number (lawful.parts number below);
         closes = λ number below. cond_both (entry.0 == number) (state.published number ++ entry.1 ∷ []) (state.published number) CloseIsLast

@@ -1,8 +1,8 @@
 -- Beginnings of lists.
-use Rattle.std.proofs.Common.{◌≡◌, ℕ, ◌<◌, ◌≤◌, List, [], ◌∷◌, ◌++◌, ◌⊎◌, inl, inr, ⊎_elim, length, refl, sym, ap, ◌∙◌, subst, append_assoc}
+use Rattle.std.proofs.Common.{◌≡◌, ◌<◌, ◌≤◌, List, [], ◌∷◌, ◌++◌, ◌⊎◌, inl, inr, ⊎_elim, length, refl, sym, ap, ◌∙◌, subst, append_assoc}
 use Rattle.std.proofs.Common.{arith, length-append}
 use Rattle.std.specs.Prelude.{nat_lt}
-use Rattle.std.proofs.lemmas.List.{append-nil, append_cancel_left}
+use Rattle.std.proofs.lemmas.List.{append-nil}
 use Rattle.std.proofs.lemmas.Bool.{cond_both, ltb-true, ltb-false}
 use Rattle.iopub_queue.specs.Entries.{StartsWith, Agree, longer}
 
@@ -32,8 +32,8 @@ module _ {A : Type 0} where
   fronts_agree (x ∷ one) (y ∷ other) rest others is =
       let same : x ≡ y = cc in let tails : one ++ rest ≡ other ++ others = cc in
       ⊎_elim (λ (longer_one : StartsWith one other). inl (longer_one.0, λ k. same k ∷ longer_one.1 k))
-          (λ (longer_other : StartsWith other one). inr (longer_other.0, λ k. sym same k ∷ longer_other.1 k))
-          (fronts_agree one other rest others tails)
+      (λ (longer_other : StartsWith other one). inr (longer_other.0, λ k. sym same k ∷ longer_other.1 k))
+      (fronts_agree one other rest others tails)
 
   -- of two beginnings of one list, one is a beginning of the other
   pub beginnings_agree : (all one other : List A) → StartsWith all one → StartsWith all other → Agree one other
@@ -56,9 +56,9 @@ module _ {A : Type 0} where
   pub longer_starts : (one other : List A) → Agree one other → StartsWith (longer one other) one
   longer_starts one other agree = cond_both (nat_lt (length one) (length other)) other one (λ l. StartsWith l one)
       (λ is. let below : length one < length other = ltb-true _ _ is in ⊎_elim
-          (λ (of_one : StartsWith one other). let is_one : one ≡ other ++ of_one.0 = of_one.1 in
-              absurd (omega (arith, ap length is_one, length-append other of_one.0)))
-          (λ (of_other : StartsWith other one). of_other) agree)
+      (λ (of_one : StartsWith one other). let is_one : one ≡ other ++ of_one.0 = of_one.1 in
+      absurd (omega (arith, ap length is_one, length-append other of_one.0)))
+      (λ (of_other : StartsWith other one). of_other) agree)
       (λ _. starts_itself one)
 
   -- and with the second
@@ -66,9 +66,9 @@ module _ {A : Type 0} where
   longer_starts_too one other agree = cond_both (nat_lt (length one) (length other)) other one (λ l. StartsWith l other)
       (λ _. starts_itself other)
       (λ is. let above : length other ≤ length one = ltb-false _ _ is in ⊎_elim
-          (λ (of_one : StartsWith one other). of_one)
-          (λ (of_other : StartsWith other one). subst (λ l. StartsWith one l) (no_longer one other of_other above) (starts_itself one))
-          agree)
+      (λ (of_one : StartsWith one other). of_one)
+      (λ (of_other : StartsWith other one). subst (λ l. StartsWith one l) (no_longer one other of_other above) (starts_itself one))
+      agree)
 
   -- agreement goes both ways
   pub agree_back : (one other : List A) → Agree one other → Agree other one

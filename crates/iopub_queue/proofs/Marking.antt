@@ -1,7 +1,7 @@
 -- Marks of closes stay right as parts grow.
-use Rattle.std.proofs.Common.{◌≡◌, ◌≢◌, ℕ, zero, suc, ◌+◌, ◌<◌, ◌≤◌, Bool, true, false, true≢false, List, [], ◌∷◌, ◌++◌, length, set, get_or, refl, sym, ap, ◌∙◌, subst, ⊎_elim, ◌⊎◌, inl, inr}
+use Rattle.std.proofs.Common.{◌≡◌, ◌≢◌, ℕ, zero, suc, ◌+◌, ◌<◌, Bool, true, false, true≢false, List, [], ◌∷◌, length, set, get_or, refl, sym, ◌∙◌, subst, ⊎_elim}
 use Rattle.std.proofs.Common.{arith, length-set}
-use Rattle.std.specs.Prelude.{Option, Some, None, ◌==◌}
+use Rattle.std.specs.Prelude.{Option, Some, None}
 use Rattle.std.proofs.lemmas.List.{get_or-set_same, get_or-set_other}
 use Rattle.std.proofs.lemmas.Bool.{cases_eq}
 use Rattle.iopub_queue.specs.Entries.{HasNoClose, EndsWithClose}
@@ -32,12 +32,12 @@ module _ {T : Type 0} where
     counted = marked.counted;
     each = λ other below. ⊎_elim
         (λ (same : number ≡ other).
-            let own : HasNoClose (grown part number (Some item) other) =
-                subst (λ at. HasNoClose (grown part number (Some item) at)) same
-                (rw (grown_own part number (Some item)) (item_keeps_open (part number) item free)) in
-            let mark : get_or marks other false ≡ false = open_is_unmarked (get_or marks other false) (part other)
-                (subst (λ at. HasNoClose (part at)) same free) (marked.each other below) in
-            rw mark own)
+        let own : HasNoClose (grown part number (Some item) other) =
+        subst (λ at. HasNoClose (grown part number (Some item) at)) same
+        (rw (grown_own part number (Some item)) (item_keeps_open (part number) item free)) in
+        let mark : get_or marks other false ≡ false = open_is_unmarked (get_or marks other false) (part other)
+        (subst (λ at. HasNoClose (part at)) same free) (marked.each other below) in
+        rw mark own)
         (λ (apart : number ≢ other). rw (grown_other part number (Some item) other apart) (marked.each other below))
         (cases_eq number other);
   }
@@ -49,10 +49,10 @@ module _ {T : Type 0} where
     counted = length-set marks number true ∙ marked.counted;
     each = λ other below. ⊎_elim
         (λ (same : number ≡ other).
-            subst (λ at. IsMarked (get_or (set marks number true) at false) (grown part number None at)) same
-            (rw (get_or-set_same marks number true false (rw marked.counted known), grown_own part number None) (part number, refl)))
+        subst (λ at. IsMarked (get_or (set marks number true) at false) (grown part number None at)) same
+        (rw (get_or-set_same marks number true false (rw marked.counted known), grown_own part number None) (part number, refl)))
         (λ (apart : number ≢ other). rw (get_or-set_other marks number other true false (λ is. apart (sym is)), grown_other part number None other apart)
-            (marked.each other below))
+        (marked.each other below))
         (cases_eq number other);
   }
 

@@ -1,25 +1,23 @@
 -- Each step, split and join keeps the rule of the queue.
-use Rattle.std.proofs.Common.{◌≡◌, ◌≢◌, ℕ, zero, suc, ◌+◌, ◌<◌, ◌≤◌, List, [], ◌∷◌, ◌++◌, length, set, refl, sym, ap, ◌∙◌, subst, ⊎_elim, ◌⊎◌, append_assoc}
-use Rattle.std.proofs.Common.{arith, eqb, eq-eqb, ne_eqb}
-use Rattle.std.specs.Prelude.{Option, Some, None, ◌==◌, if◌then◌else◌, All}
-use Rattle.std.proofs.lemmas.Bool.{cond_both, cases_eq, eqb-true, eqb-false}
+use Rattle.std.proofs.Common.{◌≡◌, ◌≢◌, ℕ, zero, suc, ◌+◌, ◌<◌, List, [], ◌∷◌, ◌++◌, length, set, refl, sym, ap, ◌∙◌, subst, append_assoc}
+use Rattle.std.proofs.Common.{arith, eq-eqb, ne_eqb}
+use Rattle.std.specs.Prelude.{Some, None, ◌==◌, if◌then◌else◌, All}
+use Rattle.std.proofs.lemmas.Bool.{cond_both, eqb-true, eqb-false}
 use Rattle.std.proofs.lemmas.List.Elements.{All-append}
 use mathlib.Core.Option.{some, some-injective, some-ne-none}
 use lib.ListN.{get_elem?}
 use Rattle.crossbeam_queue.specs.Fifo.{Pushes, Pops, Forks, Merges, Learns}
-use Rattle.iopub_queue.specs.declared.plain_core.CoreEvent.TheVariants.{Take}
-use Rattle.iopub_queue.specs.declared.view.Role.{Role}
 use Rattle.iopub_queue.specs.declared.view.Role.TheVariants.{Publishes, Takes, Tells, Spent}
 use Rattle.iopub_queue.specs.declared.view.Ended.{Ended}
 use Rattle.iopub_queue.specs.declared.view.View.{View}
 use Rattle.iopub_queue.specs.Entries.{Entry, StartsWith, of, HasNoClose, CloseIsLast}
-use Rattle.iopub_queue.specs.Lawful.{Lists, Lawful, history, grown, entered, happened, event_of, IsOpen, IsAllowed}
+use Rattle.iopub_queue.specs.Lawful.{Lawful, history, grown, entered, IsOpen}
 use Rattle.iopub_queue.specs.Views.{taking, spent, told_of, one_more, newcomer, word_of, learnt, settled_with}
-use Rattle.iopub_queue.specs.Rule.{Standing, core_of, HoldsNumber, IsSettled, HoldsTaken, Knows, Kept}
-use Rattle.iopub_queue.specs.Steps.{Published, Took, IsEnded, Sees}
+use Rattle.iopub_queue.specs.Rule.{Standing, core_of, HoldsNumber, IsSettled, Knows, Kept}
+use Rattle.iopub_queue.specs.Steps.{Published, Took, Sees}
 use Rattle.iopub_queue.proofs.Lists.{starts_itself, starts_more, longer_has}
 use Rattle.iopub_queue.proofs.Parts.{grown_other}
-use Rattle.iopub_queue.proofs.Lawfulness.{lawful_by, lawful_entered, lawful_take}
+use Rattle.iopub_queue.proofs.Lawfulness.{lawful_entered, lawful_take}
 use Rattle.iopub_queue.proofs.Seats.{Each, each_set, was_there, each_more}
 
 -- a number that was there is what it was
@@ -52,6 +50,7 @@ module _ {T : Type 0} where
     where
       at_first : Standing T
       at_first = record { numbers = 0; taker = 0; seat = λ _. 0; published = λ _. []; taken = [] }
+
       knows : Knows at_first [] 0 taking
       knows = record {
         seen = ([], refl);
@@ -59,6 +58,7 @@ module _ {T : Type 0} where
         publishes = λ is. absurd (let both : Takes ≡ Publishes = is in cc);
         takes = λ _. record { own = refl; numbers = refl; taken = refl; settled = λ k d within. absurd (omega arith) };
       }
+
       first_seat : Each (Knows at_first []) (taking ∷ [])
       first_seat zero view at = subst (λ v. Knows at_first [] 0 v) (some-injective taking view at) knows
       first_seat (suc seat) view at = absurd (some-ne-none view (sym at))
@@ -73,8 +73,8 @@ module _ {T : Type 0} where
       → Knows (pushed standing entry) (waiting ++ entry ∷ []) other view
   knows_pushed standing waiting entry seat other view own apart knows =
       let stays : (number : ℕ) → standing.seat number ≡ other → grown standing.published entry.0 entry.1 number ≡ standing.published number =
-          λ number of_other. grown_other standing.published entry.0 entry.1 number
-              (λ same. apart (sym of_other ∙ ap standing.seat (sym same) ∙ own)) in
+      λ number of_other. grown_other standing.published entry.0 entry.1 number
+      (λ same. apart (sym of_other ∙ ap standing.seat (sym same) ∙ own)) in
       record {
         seen = starts_more standing.taken waiting (entry ∷ []) view.seen knows.seen;
         heard = starts_more standing.taken waiting (entry ∷ []) view.heard knows.heard;
@@ -291,24 +291,24 @@ module _ {T : Type 0} where
         lawful = lawful_opened standing waiting new kept.lawful;
         each = each_more (Knows (opened standing new) waiting) others (newcomer view)
             (each_set (Knows (opened standing new) waiting) views seat (one_more view)
-              record {
-                seen = knows.seen;
-                heard = knows.heard;
-                publishes = λ is. absurd (not_both view is role);
-                takes = λ _. record {
-                  own = holds.own;
-                  numbers = ap (λ n. n + 1) holds.numbers;
-                  taken = holds.taken;
-                  settled = λ k d within. let ended = holds.settled k d within in record {
-                    known = let known = ended.known in omega arith;
-                    own = as_before standing.numbers _ new _ ended.known ∙ ended.own;
-                    list = as_before standing.numbers _ [] _ ended.known ∙ ended.list;
-                    told = ended.told;
-                  };
+            record {
+              seen = knows.seen;
+              heard = knows.heard;
+              publishes = λ is. absurd (not_both view is role);
+              takes = λ _. record {
+                own = holds.own;
+                numbers = ap (λ n. n + 1) holds.numbers;
+                taken = holds.taken;
+                settled = λ k d within. let ended = holds.settled k d within in record {
+                  known = let known = ended.known in omega arith;
+                  own = as_before standing.numbers _ new _ ended.known ∙ ended.own;
+                  list = as_before standing.numbers _ [] _ ended.known ∙ ended.list;
+                  told = ended.told;
                 };
-              }
-              (λ other there apart at_other. knows_opened standing waiting new other there
-                (λ is. apart (((kept.each other there at_other).takes is).own ∙ sym holds.own)) (kept.each other there at_other)))
+              };
+            }
+            (λ other there apart at_other. knows_opened standing waiting new other there
+            (λ is. apart (((kept.each other there at_other).takes is).own ∙ sym holds.own)) (kept.each other there at_other)))
             record {
               seen = (_, refl);
               heard = (_, refl);
@@ -330,10 +330,10 @@ module _ {T : Type 0} where
         each = each_more (Knows standing waiting) (set views seat view) (word_of view)
             (each_set (Knows standing waiting) views seat view knows (λ other there apart at_other. kept.each other there at_other))
             (only_saw standing waiting _ (word_of view)
-              (longer_has (StartsWith (history (core_of standing waiting))) view.seen view.heard knows.seen knows.heard)
-              (_, refl)
-              (λ is. let both : Tells ≡ Publishes = is in cc)
-              (λ is. let both : Tells ≡ Takes = is in cc));
+            (longer_has (StartsWith (history (core_of standing waiting))) view.seen view.heard knows.seen knows.heard)
+            (_, refl)
+            (λ is. let both : Tells ≡ Publishes = is in cc)
+            (λ is. let both : Tells ≡ Takes = is in cc));
       }
 
   -- a word is taken in
@@ -345,20 +345,20 @@ module _ {T : Type 0} where
         lawful = kept.lawful;
         each = each_set (Knows standing waiting) (set views seat (learnt view word)) other spent
             (only_saw standing waiting other spent (_, refl) (_, refl)
-              (λ is. let both : Spent ≡ Publishes = is in cc) (λ is. let both : Spent ≡ Takes = is in cc))
+            (λ is. let both : Spent ≡ Publishes = is in cc) (λ is. let both : Spent ≡ Takes = is in cc))
             (λ third there _ at_third. each_set (Knows standing waiting) views seat (learnt view word)
-              record {
-                seen = longer_has (StartsWith (history (core_of standing waiting))) view.seen view.heard knows.seen knows.heard;
-                heard = longer_has (StartsWith (history (core_of standing waiting))) word.seen word.heard theirs.seen theirs.heard;
-                publishes = λ is. let holds = knows.publishes is in record { known = holds.known; own = holds.own; list = holds.list };
-                takes = λ is. let holds = knows.takes is in record {
-                  own = holds.own;
-                  numbers = holds.numbers;
-                  taken = holds.taken;
-                  settled = holds.settled;
-                };
-              }
-              (λ fourth were _ at_fourth. kept.each fourth were at_fourth) third there at_third);
+            record {
+              seen = longer_has (StartsWith (history (core_of standing waiting))) view.seen view.heard knows.seen knows.heard;
+              heard = longer_has (StartsWith (history (core_of standing waiting))) word.seen word.heard theirs.seen theirs.heard;
+              publishes = λ is. let holds = knows.publishes is in record { known = holds.known; own = holds.own; list = holds.list };
+              takes = λ is. let holds = knows.takes is in record {
+                own = holds.own;
+                numbers = holds.numbers;
+                taken = holds.taken;
+                settled = holds.settled;
+              };
+            }
+            (λ fourth were _ at_fourth. kept.each fourth were at_fourth) third there at_third);
       }
 
   -- what the rule keeps after a settling: the number's seat is the taker's
@@ -377,42 +377,42 @@ module _ {T : Type 0} where
         lawful = record { parts = kept.lawful.parts; closes = kept.lawful.closes; others = kept.lawful.others };
         each = each_set (Knows new waiting) (set views seat (settled_with view closed)) other spent
             (only_saw new waiting other spent (_, refl) (_, refl)
-              (λ is. let both : Spent ≡ Publishes = is in cc) (λ is. let both : Spent ≡ Takes = is in cc))
+            (λ is. let both : Spent ≡ Publishes = is in cc) (λ is. let both : Spent ≡ Takes = is in cc))
             (λ third there not_other at_third. each_set (λ at_seat v. at_seat ≢ other → Knows new waiting at_seat v) views seat (settled_with view closed)
-              (λ _. record {
-                seen = knows.seen;
-                heard = knows.heard;
-                publishes = λ is. absurd (not_both view is role);
-                takes = λ _. record {
-                  own = holds.own;
-                  numbers = holds.numbers;
-                  taken = holds.taken;
-                  settled = All-append (IsSettled new waiting) view.settled (ended ∷ [])
-                      (λ k d within. let old = holds.settled k d within in record {
-                        known = old.known;
-                        own = cond_both (closed.number == _) standing.taker (standing.seat _) (λ s. s ≡ standing.taker) (λ _. refl) (λ _. old.own);
-                        list = old.list;
-                        told = old.told;
-                      })
-                      (only_one (IsSettled new waiting) ended record {
-                        known = number.known;
-                        own = rw (eq-eqb closed.number closed.number refl) refl;
-                        list = number.list;
-                        told = longer_has (StartsWith (history (core_of standing waiting))) closed.seen closed.heard theirs.seen theirs.heard;
-                      });
-                };
-              })
-              (λ fourth were not_seat at_fourth not_closed. let known = kept.each fourth were at_fourth in record {
-                seen = known.seen;
-                heard = known.heard;
-                publishes = λ is. let own = known.publishes is in
-                    let differs : closed.number ≢ were.number = λ same. not_closed (sym own.own ∙ ap standing.seat (sym same) ∙ number.own) in record {
-                      known = own.known;
-                      own = rw (ne_eqb closed.number were.number differs) own.own;
-                      list = own.list;
-                    };
-                takes = λ is. absurd (not_seat ((known.takes is).own ∙ sym holds.own));
-              }) third there at_third not_other);
+            (λ _. record {
+              seen = knows.seen;
+              heard = knows.heard;
+              publishes = λ is. absurd (not_both view is role);
+              takes = λ _. record {
+                own = holds.own;
+                numbers = holds.numbers;
+                taken = holds.taken;
+                settled = All-append (IsSettled new waiting) view.settled (ended ∷ [])
+                    (λ k d within. let old = holds.settled k d within in record {
+                      known = old.known;
+                      own = cond_both (closed.number == _) standing.taker (standing.seat _) (λ s. s ≡ standing.taker) (λ _. refl) (λ _. old.own);
+                      list = old.list;
+                      told = old.told;
+                    })
+                    (only_one (IsSettled new waiting) ended record {
+                      known = number.known;
+                      own = rw (eq-eqb closed.number closed.number refl) refl;
+                      list = number.list;
+                      told = longer_has (StartsWith (history (core_of standing waiting))) closed.seen closed.heard theirs.seen theirs.heard;
+                    });
+              };
+            })
+            (λ fourth were not_seat at_fourth not_closed. let known = kept.each fourth were at_fourth in record {
+              seen = known.seen;
+              heard = known.heard;
+              publishes = λ is. let own = known.publishes is in
+                  let differs : closed.number ≢ were.number = λ same. not_closed (sym own.own ∙ ap standing.seat (sym same) ∙ number.own) in record {
+                    known = own.known;
+                    own = rw (ne_eqb closed.number were.number differs) own.own;
+                    list = own.list;
+                  };
+              takes = λ is. absurd (not_seat ((known.takes is).own ∙ sym holds.own));
+            }) third there at_third not_other);
       }
     where
       only_one : {X : Type 0} (P : X → Type 0) (x : X) → P x → All P (x ∷ [])

@@ -1,9 +1,8 @@
 -- How a queue is opened, one number after the other.
-use Rattle.std.proofs.Common.{◌≡◌, ◌≢◌, ℕ, suc, ◌+◌, ◌<◌, ◌≤◌, Bool, true, false, List, [], ◌∷◌, ◌++◌, length, get_or, replicate, refl, sym, ap, ◌∙◌, subst, ⊎_elim, ◌⊎◌, inl, zero}
+use Rattle.std.proofs.Common.{◌≡◌, ℕ, suc, ◌+◌, Bool, false, List, [], ◌∷◌, ◌++◌, length, get_or, replicate, refl, sym, ap, ◌∙◌, subst, inl, zero}
 use Rattle.std.proofs.Common.{arith, add-zero}
-use Rattle.std.specs.Prelude.{Option, Some, None}
-use Rattle.std.proofs.lemmas.List.{length-replicate, get_or-replicate, get_or_append_left, get_or_at}
-use Rattle.std.proofs.lemmas.Bool.{cases_lt}
+use Rattle.std.specs.Prelude.{Option}
+use Rattle.std.proofs.lemmas.List.{length-replicate, get_or-replicate}
 use Rattle.crossbeam_queue.specs.declared.array_queue.Doing.{Doing}
 use Rattle.crossbeam_queue.specs.declared.array_queue.Slotted.{Slotted}
 use Rattle.atomic_table.specs.Seated.{TableId}
@@ -12,9 +11,9 @@ use Rattle.iopub_queue.specs.declared.view.View.{View}
 use Rattle.iopub_queue.specs.Entries.{Entry, Agree, of, HasNoClose, CloseIsLast}
 use Rattle.iopub_queue.specs.Views.{taking, told_of, one_more, newcomer}
 use Rattle.iopub_queue.specs.Marks.{IsMarked, Marks, unmarked}
-use Rattle.iopub_queue.specs.Values.{Publishing, Taking, publishing, taking_by}
-use Rattle.iopub_queue.specs.Held.{HoldsSeat, MayPublish, MayTake}
-use Rattle.iopub_queue.specs.Calls.{newcomers, beginner, Opens}
+use Rattle.iopub_queue.specs.Values.{Publishing, publishing, taking_by}
+use Rattle.iopub_queue.specs.Held.{MayPublish, MayTake}
+use Rattle.iopub_queue.specs.Calls.{newcomers, Opens}
 use Rattle.iopub_queue.proofs.Tokens.{stays_of}
 
 -- where nothing is marked, as many aren't as there are
@@ -26,13 +25,13 @@ module _ {T : Type 0} where
   -- one more newcomer
   one_newcomer : (queue : TableId) (first more : ℕ)
       → newcomers {T = T} queue first (more + 1)
-          ≡ newcomers queue first more ++ record { queue = queue; number = first + more; published = []; told = [] } ∷ []
+      ≡ newcomers queue first more ++ record { queue = queue; number = first + more; published = []; told = [] } ∷ []
   one_newcomer queue first zero = λ k. record { queue = queue; number = sym (add-zero first) k; published = []; told = [] } ∷ []
   one_newcomer queue first (suc more) =
       let next : suc more + 1 ≡ suc (more + 1) = omega arith in let far : first + 1 + more ≡ first + suc more = omega arith in
       ap (newcomers {T = T} queue first) next
       ∙ ap (λ l. record { queue = queue; number = first; published = []; told = [] } ∷ l) (one_newcomer queue (first + 1) more
-        ∙ ap (λ n. newcomers queue (first + 1) more ++ record { queue = queue; number = n; published = []; told = [] } ∷ []) far)
+      ∙ ap (λ n. newcomers queue (first + 1) more ++ record { queue = queue; number = n; published = []; told = [] } ∷ []) far)
 
   -- the taker with so many numbers
   abbrev pub begun : ℕ → View T

@@ -1,11 +1,10 @@
 -- Parts of lists of entries, and where a close stands in them.
-use Rattle.std.proofs.Common.{◌≡◌, ◌≢◌, ℕ, ◌<◌, ◌≤◌, Bool, true, false, List, [], ◌∷◌, ◌++◌, ◌⊎◌, inl, inr, ⊎_elim, length, map, refl, sym, ap, ◌∙◌, subst, append_assoc}
-use Rattle.std.proofs.Common.{arith, eq-eqb, ne_eqb}
+use Rattle.std.proofs.Common.{◌≡◌, ◌≢◌, ℕ, Bool, true, false, List, [], ◌∷◌, ◌++◌, map, refl, ap, ◌∙◌, subst, append_assoc}
+use Rattle.std.proofs.Common.{eq-eqb, ne_eqb}
 use Rattle.std.specs.Prelude.{Option, Some, None, filter, ◌==◌, if◌then◌else◌, cond}
 use Rattle.std.proofs.lemmas.List.{append-nil, map-append}
 use Rattle.std.proofs.lemmas.List.Elements.{filter-append}
-use Rattle.std.proofs.lemmas.Bool.{cond_both}
-use Rattle.iopub_queue.specs.Entries.{Entry, StartsWith, of, HasNoClose, CloseIsLast, EndsWithClose}
+use Rattle.iopub_queue.specs.Entries.{Entry, of, HasNoClose, CloseIsLast, EndsWithClose}
 use Rattle.iopub_queue.specs.Lawful.{grown}
 
 module _ {T : Type 0} where
@@ -14,7 +13,7 @@ module _ {T : Type 0} where
   of_append number xs ys =
       ap (map (λ (entry : Entry T). entry.1)) (filter-append (λ (entry : Entry T). entry.0 == number) xs ys)
       ∙ map-append (λ (entry : Entry T). entry.1) (filter (λ (entry : Entry T). entry.0 == number) xs)
-          (filter (λ (entry : Entry T). entry.0 == number) ys)
+      (filter (λ (entry : Entry T). entry.0 == number) ys)
 
   -- an entry of the number begins its part
   pub of_own : (number : ℕ) (part : Option T) (rest : List (Entry T)) → of number ((number, part) ∷ rest) ≡ part ∷ of number rest

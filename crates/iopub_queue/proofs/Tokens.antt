@@ -1,5 +1,5 @@
 -- What the steps of the queue mean for the tokens.
-use Rattle.std.proofs.Common.{◌≡◌, ◌≢◌, ℕ, zero, suc, ◌+◌, ◌<◌, ◌≤◌, Bool, true, false, List, [], ◌∷◌, ◌++◌, length, take, get_or, set, refl, sym, ap, ◌∙◌, subst, ⊎_elim, ◌⊎◌, append_assoc}
+use Rattle.std.proofs.Common.{◌≡◌, ◌≢◌, ℕ, ◌+◌, ◌<◌, ◌≤◌, Bool, true, false, List, [], ◌∷◌, ◌++◌, length, take, get_or, set, refl, sym, ap, ◌∙◌, subst, ⊎_elim, append_assoc}
 use Rattle.std.proofs.Common.{arith, length-append}
 use Rattle.std.specs.Prelude.{Option, Some, None, All}
 use Rattle.std.proofs.lemmas.List.{append-nil, get_or_at, get_or_default}
@@ -7,24 +7,23 @@ use Rattle.std.proofs.lemmas.Bool.{cases_lt, cases_Bool}
 use Rattle.crossbeam_queue.specs.declared.array_queue.Doing.{Doing}
 use Rattle.crossbeam_queue.specs.declared.array_queue.Slotted.{Slotted}
 use Rattle.crossbeam_queue.specs.Passes.{Pass, view, IsSamePass, IsPassOf}
-use Rattle.iopub_queue.specs.declared.plain_core.CoreEvent.TheVariants.{Take}
 use Rattle.iopub_queue.specs.declared.taken.Settled.{Settled}
 use Rattle.iopub_queue.specs.declared.taken.Settled.TheVariants.{Whole, Beginning}
-use Rattle.iopub_queue.specs.declared.view.Role.TheVariants.{Publishes, Takes}
+use Rattle.iopub_queue.specs.declared.view.Role.TheVariants.{Publishes}
 use Rattle.iopub_queue.specs.declared.view.Ended.{Ended}
 use Rattle.iopub_queue.specs.declared.view.View.{View}
 use Rattle.iopub_queue.specs.Entries.{Entry, StartsWith, Agree, longer, of, HasNoClose, CloseIsLast, EndsWithClose, IsComplete, StandsBehind}
-use Rattle.iopub_queue.specs.Lawful.{Lists, Lawful, history, grown, entered, happened, event_of}
+use Rattle.iopub_queue.specs.Lawful.{Lists, history, grown, entered, happened, event_of}
 use Rattle.iopub_queue.specs.Marks.{IsMarked, Marks, unmarked}
 use Rattle.iopub_queue.specs.Views.{told_of, learnt, settled_with}
 use Rattle.iopub_queue.specs.Steps.{Published, Took, IsEnded, Sees}
-use Rattle.iopub_queue.specs.Values.{Publishing, Told, Taking, publishing, telling, taking_by}
+use Rattle.iopub_queue.specs.Values.{publishing, telling, taking_by}
 use Rattle.iopub_queue.specs.Held.{HoldsSeat, MayPublish, MayTake}
 use Rattle.iopub_queue.specs.Calls.{Adds, TakesOne, FindsNothing, Learns, IsSettledBy, Settles}
-use Rattle.iopub_queue.proofs.Lists.{starts_itself, longer_has, longer_starts, longer_starts_too, beginnings_agree}
+use Rattle.iopub_queue.proofs.Lists.{longer_has, longer_starts, longer_starts_too, beginnings_agree}
 use Rattle.iopub_queue.proofs.Parts.{of_append, of_own, of_more, grown_own, item_keeps_open, front_is_open, front_is_last, nothing_behind, closed_is_not_open, empty_front}
 use Rattle.iopub_queue.proofs.Lawfulness.{lawful_stays}
-use Rattle.iopub_queue.proofs.Marking.{marked_ends, unmarked_is_open, open_is_unmarked, marks_item, marks_close, unmarked_less, all_marked, none_unmarked}
+use Rattle.iopub_queue.proofs.Marking.{marked_ends, open_is_unmarked, marks_item, marks_close, unmarked_less, all_marked, none_unmarked}
 
 -- the longer of a list and none
 pub longer_nil : {A : Type 0} (all : List A) → longer all [] ≡ all
@@ -75,7 +74,7 @@ module _ {T : Type 0} where
     published = pushed_list (view old) (view new) (number, part) pushed;
     behind = subst (λ i. StandsBehind (told_of (view new)) (i, part) (told_of (view old))) (sym named)
         (pushed_behind (view old) (view new) (number, part) pushed (told_of (view old))
-          (longer_has (StartsWith (history pushed.state)) (view old).seen (view old).heard pushed.seen pushed.heard));
+        (longer_has (StartsWith (history pushed.state)) (view old).seen (view old).heard pushed.seen pushed.heard));
     own_part = subst (λ i. of i (told_of (view new)) ≡ (view new).published) (sym named)
         (pushed_part (view old) (view new) (number, part) pushed (known_by (view old) (view new) (number, part) pushed));
   }
@@ -87,8 +86,8 @@ module _ {T : Type 0} where
       → Adds (publishing old) part (publishing new) × StandsBehind (told_of (view new)) ((view old).number, part) (told_of word)
   adds_after old heard new word number part named same is same_too pushed =
       let behind : (front : List (Entry T)) → StartsWith (history pushed.state) front → StandsBehind (told_of (view new)) ((view old).number, part) front =
-          λ front starts. subst (λ i. StandsBehind (told_of (view new)) (i, part) front) (sym named)
-              (pushed_behind (view heard) (view new) (number, part) pushed front starts) in (
+      λ front starts. subst (λ i. StandsBehind (told_of (view new)) (i, part) front) (sym named)
+      (pushed_behind (view heard) (view new) (number, part) pushed front starts) in (
         record {
           queue = same_too.0 ∙ same.0;
           number = ap (λ (v : View T). v.number) (pushed.after) ∙ ap (λ (v : View T). v.number) is;
@@ -126,7 +125,7 @@ module _ {T : Type 0} where
   pub took_known : (old new : View T) (number : ℕ) (part : Option T) → Took old (number, part) new → number < old.number
   took_known old new number part took = ⊎_elim (λ (below : number < old.number). below)
       (λ (above : old.number ≤ number). absurd (not_nothing (of number old.taken) part (of number took.behind)
-        (sym (took_part old new number part took) ∙ took.lawful.others number above)))
+      (sym (took_part old new number part took) ∙ took.lawful.others number above)))
       (cases_lt number old.number)
 
   -- its close wasn't taken
@@ -139,13 +138,13 @@ module _ {T : Type 0} where
   pub took_closes : (old new : View T) (entry : Entry T) → Took old entry new → (other : ℕ) → CloseIsLast (of other new.taken)
   took_closes old new entry took other =
       let whole : of other (history took.state) ≡ of other new.taken ++ of other took.behind =
-          ap (of other) (took_whole old new entry took) ∙ of_append other new.taken took.behind in
+      ap (of other) (took_whole old new entry took) ∙ of_append other new.taken took.behind in
       ⊎_elim
-          (λ (below : other < old.number). front_is_last (of other new.taken) (of other took.behind)
-            (subst CloseIsLast (sym (took.lawful.parts other below) ∙ whole) (took.lawful.closes other below)))
-          (λ (above : old.number ≤ other). subst CloseIsLast
-            (sym (empty_front (of other new.taken) (of other took.behind) (sym whole ∙ took.lawful.others other above))) tt)
-          (cases_lt other old.number)
+      (λ (below : other < old.number). front_is_last (of other new.taken) (of other took.behind)
+      (subst CloseIsLast (sym (took.lawful.parts other below) ∙ whole) (took.lawful.closes other below)))
+      (λ (above : old.number ≤ other). subst CloseIsLast
+      (sym (empty_front (of other new.taken) (of other took.behind) (sym whole ∙ took.lawful.others other above))) tt)
+      (cases_lt other old.number)
 
   -- what was told and what was taken agree
   pub took_agree : (old new : View T) (entry : Entry T) → Took old entry new → Agree (told_of old) new.taken
@@ -206,7 +205,7 @@ module _ {T : Type 0} where
   -- what the taker knows of a publisher that it settled with last
   pub ended_last : (old new closed : View T) (waiting : List (Entry T)) → new ≡ settled_with old closed → (sees : Sees new waiting)
       → IsEnded new.number record { taken = new.taken; waiting = waiting; published = sees.published }
-          record { number = closed.number; published = closed.published; told = told_of closed }
+      record { number = closed.number; published = closed.published; told = told_of closed }
   ended_last old new closed waiting is sees =
       let ended : Ended T = record { number = closed.number; published = closed.published; told = told_of closed } in
       let P : Ended T → Type 0 = IsEnded new.number record { taken = new.taken; waiting = waiting; published = sees.published } in
@@ -217,19 +216,19 @@ module _ {T : Type 0} where
   -- what was published is what was taken of it and what waits of it
   pub settled_whole : (view closed : View T) (waiting : List (Entry T)) (sees : Sees view waiting)
       → IsEnded view.number record { taken = view.taken; waiting = waiting; published = sees.published }
-          record { number = closed.number; published = closed.published; told = told_of closed }
+      record { number = closed.number; published = closed.published; told = told_of closed }
       → closed.published ≡ of closed.number view.taken ++ of closed.number waiting
   settled_whole view closed waiting sees ended =
       sym ended.list ∙ sym (sees.lawful.parts closed.number ended.known) ∙ of_append closed.number view.taken waiting
 
   settles_facts : (view closed : View T) (waiting : List (Entry T)) (sees : Sees view waiting)
       → (ended : IsEnded view.number record { taken = view.taken; waiting = waiting; published = sees.published }
-          record { number = closed.number; published = closed.published; told = told_of closed })
+      record { number = closed.number; published = closed.published; told = told_of closed })
       → EndsWithClose (of closed.number view.taken) → of closed.number view.taken ≡ closed.published
   settles_facts view closed waiting sees ended ends =
       let whole = settled_whole view closed waiting sees ended in
       let none : of closed.number waiting ≡ [] = nothing_behind (of closed.number view.taken) (of closed.number waiting)
-          (subst CloseIsLast (ended.list ∙ whole) (sees.lawful.closes closed.number ended.known)) ends in
+      (subst CloseIsLast (ended.list ∙ whole) (sees.lawful.closes closed.number ended.known)) ends in
       sym (append-nil (of closed.number view.taken)) ∙ ap (λ l. of closed.number view.taken ++ l) (sym none) ∙ sym whole
 
   module _ {Q A : Type 0} (line : Slotted (Option (Entry T)) (Doing (Entry T) (View T)) Q A) where
@@ -320,7 +319,7 @@ module _ {T : Type 0} where
     takes_item old new number item marks left may same took =
         takes_marked old new number (Some item) marks marks left left may same took
         (marks_item (view old).number marks (λ at. of at (view old).taken) number item
-            (took_open (view old) (view new) number (Some item) took) may.marked)
+        (took_open (view old) (view new) number (Some item) took) may.marked)
         may.counted
 
     -- the number's close isn't marked
@@ -345,7 +344,7 @@ module _ {T : Type 0} where
         let counted : left ≡ unmarked marks = may.counted in
         takes_marked old new number None marks (set marks number true) left now_left may same took
         (marks_close (view old).number marks (λ at. of at (view old).taken) number
-            (took_known (view old) (view new) number None took) may.marked)
+        (took_known (view old) (view new) number None took) may.marked)
         (omega arith)
 
     -- where no close is left, all is complete
@@ -362,8 +361,8 @@ module _ {T : Type 0} where
     incomplete_by seat marks left may some complete =
         let wide : length marks ≡ (view seat).number = may.marked.counted in
         some (may.counted ∙ none_unmarked marks (λ number within.
-          let below : number < (view seat).number = omega arith in
-          ends_is_marked (get_or marks number false) (of number (view seat).taken) (complete number below) (may.marked.each number below)))
+        let below : number < (view seat).number = omega arith in
+        ends_is_marked (get_or marks number false) (of number (view seat).taken) (complete number below) (may.marked.each number below)))
       where
         ends_is_marked : (mark : Bool) (part : List (Option T)) → EndsWithClose part → IsMarked mark part → mark ≡ true
         ends_is_marked true part ends marked = refl

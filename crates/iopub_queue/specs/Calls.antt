@@ -8,7 +8,7 @@ use Rattle.iopub_queue.specs.declared.taken.Settled.{Settled}
 use Rattle.iopub_queue.specs.declared.taken.Settled.TheVariants.{Whole, Beginning}
 use Rattle.iopub_queue.specs.declared.fault.OpenFault.{OpenFault}
 use Rattle.iopub_queue.specs.declared.fault.OpenFault.TheVariants.{Count, Capacity, OutOfMemory}
-use Rattle.iopub_queue.specs.Entries.{Entry, StartsWith, Agree, of, HasNoClose, CloseIsLast, EndsWithClose, IsComplete, StandsBehind}
+use Rattle.iopub_queue.specs.Entries.{StartsWith, Agree, of, HasNoClose, CloseIsLast, EndsWithClose, IsComplete, StandsBehind}
 use Rattle.iopub_queue.specs.Values.{Publishing, Told, Taking}
 
 -- how many publishers a queue may have

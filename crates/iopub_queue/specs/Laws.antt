@@ -1,5 +1,5 @@
 -- What follows from the definitions.
-use Rattle.std.specs.Prelude.{◌≡◌, ℕ, ◌≤◌, List, ◌∷◌, ◌++◌, length}
+use Rattle.std.specs.Prelude.{◌≡◌, ◌≤◌, List, ◌∷◌, ◌++◌, length}
 use Rattle.iopub_queue.specs.Entries.{Entry, StartsWith, Agree, of, StandsBehind}
 
 -- an entry is taken, and the front stands before it

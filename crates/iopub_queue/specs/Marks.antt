@@ -4,7 +4,7 @@ use Rattle.iopub_queue.specs.declared.plain_core.Core.{Core}
 use Rattle.iopub_queue.specs.declared.plain_core.CoreEvent.{CoreEvent}
 use Rattle.iopub_queue.specs.declared.plain_core.CoreFault.{CoreFault}
 use Rattle.iopub_queue.specs.declared.plain_core.CoreFault.TheVariants.{NotAllowed, OutOfMemory}
-use Rattle.iopub_queue.specs.Entries.{Entry, HasNoClose, EndsWithClose}
+use Rattle.iopub_queue.specs.Entries.{HasNoClose, EndsWithClose}
 use Rattle.iopub_queue.specs.Lawful.{Lists, Lawful, happened, IsAllowed}
 
 module _ {T : Type 0} where

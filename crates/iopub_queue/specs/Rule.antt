@@ -1,9 +1,8 @@
 -- The rule of the queue: at each moment there is one lawful state of the core, whose waiting list is what the queue
 -- holds, and each seat knows what its role lets it know of that state.
-use Rattle.std.specs.Prelude.{◌≡◌, ℕ, ◌<◌, Option, List, [], ◌∷◌, ◌++◌, All}
+use Rattle.std.specs.Prelude.{◌≡◌, ℕ, ◌<◌, Option, List, All}
 use mathlib.Core.Option.{some}
 use lib.ListN.{get_elem?}
-use Rattle.iopub_queue.specs.declared.view.Role.{Role}
 use Rattle.iopub_queue.specs.declared.view.Role.TheVariants.{Publishes, Takes}
 use Rattle.iopub_queue.specs.declared.view.Ended.{Ended}
 use Rattle.iopub_queue.specs.declared.view.View.{View}

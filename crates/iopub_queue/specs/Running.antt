@@ -4,7 +4,7 @@ use Rattle.iopub_queue.specs.declared.plain_core.CoreEvent.{CoreEvent}
 use Rattle.iopub_queue.specs.declared.plain_core.CoreState.{CoreState}
 use Rattle.iopub_queue.specs.declared.plain_core.CoreFault.{CoreFault}
 use Rattle.iopub_queue.specs.declared.plain_core.CoreFault.TheVariants.{NotAllowed, OutOfMemory}
-use Rattle.iopub_queue.specs.Lawful.{Lists, Lawful, start, after, AreAllowed, IsFirstNotAllowed}
+use Rattle.iopub_queue.specs.Lawful.{Lawful, start, after, AreAllowed, IsFirstNotAllowed}
 
 module _ {T : Type 0} where
   -- each event was allowed, the lists are those after the events, and the state after them is lawful

@@ -1,5 +1,5 @@
 -- What contracts see of the tokens: of a publisher and its closing token, of a word, and of the taker.
-use Rattle.std.specs.Prelude.{◌≡◌, ℕ, Option, List}
+use Rattle.std.specs.Prelude.{ℕ, Option, List}
 use Rattle.atomic_table.specs.Seated.{TableId}
 use Rattle.crossbeam_queue.specs.Passes.{Pass, view}
 use Rattle.iopub_queue.specs.declared.view.View.{View}

@@ -8,5 +8,4 @@ ghost use Rattle.iopub_queue.specs.Laws.{OrderIsKept};
 /// taken, and the front stands before it.
 pub fn stands_behind<T>()
     ensures { OrderIsKept T }
-{
-}
+{}

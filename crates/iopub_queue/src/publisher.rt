@@ -88,7 +88,8 @@ impl<T, R: Wait> Publisher<T, R> {
         ensures done { result ≡ Ok tt }
         ensures adds { Adds self.old (Some item) self.new }
     {
-        push(&self.rt, &self.line, &mut self.seat, (self.number, Some(item)));
+        let entry = (self.number, Some(item));
+        push(&self.rt, &self.line, &mut self.seat, entry);
         Ok(())
     }
 
@@ -104,7 +105,8 @@ impl<T, R: Wait> Publisher<T, R> {
         ensures behind { StandsBehind self.new.told (self.old.number, Some item) word.list }
     {
         join_word(&self.line, &mut self.seat, word.seat);
-        push(&self.rt, &self.line, &mut self.seat, (self.number, Some(item)));
+        let behind = (self.number, Some(item));
+        push(&self.rt, &self.line, &mut self.seat, behind);
         Ok(())
     }
 }

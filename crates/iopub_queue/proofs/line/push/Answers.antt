@@ -1,6 +1,5 @@
 use Rattle.std.proofs.Common.{◌≡◌, sym, ap, ◌∙◌, subst}
 use Rattle.crossbeam_queue.specs.Passes.{view}
-use Rattle.iopub_queue.specs.declared.view.Role.TheVariants.{Publishes}
 use Rattle.iopub_queue.specs.Entries.{HasNoClose}
 use Rattle.iopub_queue.proofs.Moves.{publishes}
 use Rattle.iopub_queue.proofs.line.push.Goals as goal

@@ -1,7 +1,7 @@
-use Rattle.std.proofs.Common.{◌≡◌, ℕ, arith, subst, rules}
+use Rattle.std.proofs.Common.{◌≡◌, arith, subst, rules}
 use Rattle.crossbeam_queue.specs.Passes.{IsPassOf}
 use Rattle.std.specs.Arc.{arc_value}
-use Rattle.iopub_queue.proofs.Opening.{Opened, opened_none, may_publish, opened_more, may_take, opens_all}
+use Rattle.iopub_queue.proofs.Opening.{Opened, opened_more, may_take}
 use Rattle.iopub_queue.proofs.open.open_queue.Goals as goal
 
 pub returns-then-n-eq0 : goal.returns-then-n-eq0

@@ -12,7 +12,7 @@ returns-then-not-is_open g c = (
 pub returns : goal.returns
 returns g c = λ state follows.
     let free = open_by_mark _ state _ _ refl follows c.if-not-is_open.ensures in (
-  free,
-  follows_entered _ state _ _ (c.args.number, Some c.args.item) follows free c.in-Ok.ensures.items refl
-      (marks_item _ _ state.published c.args.number c.args.item free.open_list follows.marks),
-)
+      free,
+      follows_entered _ state _ _ (c.args.number, Some c.args.item) follows free c.in-Ok.ensures.items refl
+          (marks_item _ _ state.published c.args.number c.args.item free.open_list follows.marks),
+    )

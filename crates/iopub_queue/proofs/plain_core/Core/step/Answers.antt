@@ -1,4 +1,4 @@
-use Rattle.std.proofs.Common.{refl, ℕ, ◌<◌, length, arith}
+use Rattle.std.proofs.Common.{refl, ◌<◌, length, arith}
 use Rattle.iopub_queue.proofs.CoreLemmas.{follows_take}
 use Rattle.iopub_queue.proofs.plain_core.Core.step.Goals as goal
 

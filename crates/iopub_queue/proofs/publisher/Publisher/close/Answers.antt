@@ -1,5 +1,5 @@
 use Rattle.std.specs.Prelude.{None}
-use Rattle.iopub_queue.proofs.Tokens.{adds_by, holds_after}
+use Rattle.iopub_queue.proofs.Tokens.{adds_by}
 use Rattle.iopub_queue.proofs.publisher.Publisher.close.Goals as goal
 
 pub returns : goal.returns

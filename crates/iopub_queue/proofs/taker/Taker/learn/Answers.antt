@@ -1,4 +1,3 @@
-use Rattle.std.proofs.Common.{ap, ◌∙◌, subst, sym}
 use Rattle.crossbeam_queue.specs.Passes.{view}
 use Rattle.iopub_queue.proofs.Tokens.{takes_on, learns_of}
 use Rattle.iopub_queue.proofs.taker.Taker.learn.Goals as goal

@@ -1,4 +1,4 @@
-use Rattle.std.proofs.Common.{refl, arith, ℕ, ◌+◌, ◌≡◌}
+use Rattle.std.proofs.Common.{refl, arith}
 use Rattle.iopub_queue.proofs.Tokens.{complete_by, finds_nothing, takes_item, takes_close, takes_one, took_unmarked}
 use Rattle.iopub_queue.proofs.taker.Taker.take.Goals as goal
 
