@@ -1,13 +1,35 @@
-//! What publications go out by: sinks that publish one item after the other, and a sink that keeps a list.
+//! The queue between the publishers of a kernel's publications and the one that takes them. In every schedule of its
+//! threads, what was taken is, publisher by publisher, a beginning of what each published, in its order; and all of it
+//! once the taker says that it is complete. And the interface by which anybody publishes, with a sink that keeps a list.
 #![tactic(auto)]
 
+mod closed;
+mod fault;
+pub mod laws;
+mod line;
 mod list_sink;
+mod open;
+mod plain_core;
 mod publish;
+mod publisher;
 mod refused;
+mod rule;
+mod taken;
+mod taker;
+mod view;
+mod word;
 
+pub use closed::Closed;
+pub use fault::OpenFault;
 pub use list_sink::ListSink;
+pub use open::open_queue;
+pub use plain_core::{CoreEvent, CoreFault, CoreState, run_core};
 pub use publish::Publish;
+pub use publisher::Publisher;
 pub use refused::Refused;
+pub use taken::{Settled, Taken};
+pub use taker::Taker;
+pub use word::Word;
 
 #[cfg(test)]
 mod tests;

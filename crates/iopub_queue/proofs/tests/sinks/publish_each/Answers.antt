@@ -1,7 +1,7 @@
 -- The items in front of the one that comes back are those that were taken before it.
 use Rattle.std.proofs.Common.{refl}
 use Rattle.std.proofs.lemmas.Result.{err_from_is_err_and}
-use Rattle.iopub_queue.proofs.tests.publish_each.Goals as goal
+use Rattle.iopub_queue.proofs.tests.sinks.publish_each.Goals as goal
 
 pub returns-in_err-publish-clause-front : goal.returns-in_err-publish-clause-front
 returns-in_err-publish-clause-front g c =

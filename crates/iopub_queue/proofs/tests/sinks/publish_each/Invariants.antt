@@ -1,6 +1,6 @@
 -- What holds between two items.
 use Rattle.std.proofs.Common.{◌≡◌, ◌++◌, List, Option, Some, map}
-use Rattle.iopub_queue.proofs.tests.publish_each.Given as goal
+use Rattle.iopub_queue.proofs.tests.sinks.publish_each.Given as goal
 
 -- of all items some were taken, in front of the rest; the sink that was there first grew by these, and is the same
 pub record HasPublished {P T : Type 0} (items_of : P → List (Option T)) (is_same : P → P → Type 0) (first now : P)

@@ -1,0 +1,10 @@
+pub mod CoreLemmas
+pub mod Lists
+pub mod Opening
+pub mod Order
+pub mod Parts
+pub mod Lawfulness
+pub mod Marking
+pub mod Seats
+pub mod Tokens
+pub mod Moves

@@ -1,0 +1,37 @@
+-- What is true of every token, by its type.
+use Rattle.std.specs.Prelude.{◌≡◌, ℕ, Bool, Option, List}
+use Rattle.crossbeam_queue.specs.declared.array_queue.Doing.{Doing}
+use Rattle.crossbeam_queue.specs.declared.array_queue.Slotted.{Slotted}
+use Rattle.crossbeam_queue.specs.Passes.{Pass, view, IsPassOf}
+use Rattle.iopub_queue.specs.declared.view.Role.TheVariants.{Publishes, Takes}
+use Rattle.iopub_queue.specs.declared.view.View.{View}
+use Rattle.iopub_queue.specs.Entries.{Entry, Agree, of, HasNoClose, CloseIsLast}
+use Rattle.iopub_queue.specs.Views.{told_of}
+use Rattle.iopub_queue.specs.Marks.{Marks, unmarked}
+
+module _ {T Q A : Type 0} where
+  -- A publisher or a closing token holds the seat of its number at the queue, and what it was told of has all that it
+  -- published.
+  pub record HoldsSeat (line : Slotted (Option (Entry T)) (Doing (Entry T) (View T)) Q A) (seat : Pass (Entry T) (View T))
+      (number : ℕ) : Type 0 where
+    pub seat_of : IsPassOf line seat
+    pub role : (view seat).role ≡ Publishes
+    pub named : (view seat).number ≡ number
+    pub own_part : of number (told_of (view seat)) ≡ (view seat).published
+
+  -- a publisher isn't closed
+  pub record MayPublish (line : Slotted (Option (Entry T)) (Doing (Entry T) (View T)) Q A) (seat : Pass (Entry T) (View T))
+      (number : ℕ) : Type 0 where
+    pub holds : HoldsSeat line seat number
+    pub open_list : HasNoClose (view seat).published
+
+  -- The taker holds the taker's seat. It marked the numbers whose close it took, and counts the others. In each part of
+  -- what it took a close stands last, and what it took and what it was told of are one a beginning of the other.
+  pub record MayTake (line : Slotted (Option (Entry T)) (Doing (Entry T) (View T)) Q A) (seat : Pass (Entry T) (View T))
+      (marks : List Bool) (left : ℕ) : Type 0 where
+    pub seat_of : IsPassOf line seat
+    pub role : (view seat).role ≡ Takes
+    pub marked : Marks (view seat).number marks (λ number. of number (view seat).taken)
+    pub counted : left ≡ unmarked marks
+    pub closes : (number : ℕ) → CloseIsLast (of number (view seat).taken)
+    pub agree : Agree (told_of (view seat)) (view seat).taken

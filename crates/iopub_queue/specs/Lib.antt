@@ -1,0 +1,12 @@
+pub mod Calls
+pub mod Entries
+pub mod Fault
+pub mod Held
+pub mod Lawful
+pub mod Laws
+pub mod Marks
+pub mod Rule
+pub mod Running
+pub mod Steps
+pub mod Values
+pub mod Views

@@ -1,0 +1,51 @@
+-- What contracts see of the tokens: of a publisher and its closing token, of a word, and of the taker.
+use Rattle.std.specs.Prelude.{ℕ, Option, List}
+use Rattle.atomic_table.specs.Seated.{TableId}
+use Rattle.crossbeam_queue.specs.Passes.{Pass, view}
+use Rattle.iopub_queue.specs.declared.view.View.{View}
+use Rattle.iopub_queue.specs.Entries.{Entry}
+use Rattle.iopub_queue.specs.Views.{told_of}
+
+-- A publisher, or its closing token: its queue, its number, what it published, a close among it, and all that it
+-- published or was told of, in the queue's order.
+pub record Publishing (T : Type 0) : Type 0 where
+  pub queue : TableId
+  pub number : ℕ
+  pub published : List (Option T)
+  pub told : List (Entry T)
+
+-- A word: its queue, and what it tells. That is a beginning of what was taken and what waits, when the word is made and
+-- at every later moment.
+pub record Told (T : Type 0) : Type 0 where
+  pub queue : TableId
+  pub list : List (Entry T)
+
+-- The taker: its queue, how many publishers were opened, what it took, and the longest word that it learnt.
+pub record Taking (T : Type 0) : Type 0 where
+  pub queue : TableId
+  pub count : ℕ
+  pub taken : List (Entry T)
+  pub told : List (Entry T)
+
+module _ {T : Type 0} where
+  -- what a publisher's seat is seen as
+  abbrev pub publishing : Pass (Entry T) (View T) → Publishing T
+  publishing seat = record {
+    queue = seat.table_id;
+    number = (view seat).number;
+    published = (view seat).published;
+    told = told_of (view seat);
+  }
+
+  -- what a word's seat is seen as
+  abbrev pub telling : Pass (Entry T) (View T) → Told T
+  telling seat = record { queue = seat.table_id; list = told_of (view seat) }
+
+  -- what the taker's seat is seen as
+  abbrev pub taking_by : Pass (Entry T) (View T) → Taking T
+  taking_by seat = record {
+    queue = seat.table_id;
+    count = (view seat).number;
+    taken = (view seat).taken;
+    told = told_of (view seat);
+  }
