@@ -11,7 +11,7 @@ ghost use Rattle.std.specs.Prelude.{◌≡◌, []};
 
 use interp_core::Interpreter;
 use iopub_queue::{ListSink, Publish, Refused};
-use iopub_relay::Event;
+use iopub_event::Event;
 use jmsg_envelope::{Envelope, Signer, Stamp};
 use kernel_block::{Engine, Side, Stop};
 use listed::{Frames, Octets, Text};

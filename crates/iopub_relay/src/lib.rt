@@ -1,6 +1,17 @@
-//! What a relay takes: messages, and what its subscribers come, ask for and leave by.
+//! What a relay takes: messages, and what its subscribers come, ask for and leave by; and what each subscriber gets.
 #![tactic(auto)]
 
-mod event;
+mod door;
+mod feed;
+mod laws;
+mod subscriber;
+mod table;
+mod topics;
 
-pub use event::Event;
+pub use door::door_event;
+pub use feed::feed_core;
+pub use iopub_event::Event;
+pub use laws::subscriber_of_everything;
+
+#[cfg(test)]
+mod tests;

@@ -11,8 +11,8 @@ use Rattle.zmtp_wire.specs.Device.{Inflow, Outflow}
 use Rattle.zmtp_wire.specs.Frame.{text}
 use Rattle.arith_value.specs.Variables.{Bindings}
 use Rattle.arith_shell.specs.ShellArithmetic.{shell_meaning}
-use Rattle.iopub_relay.specs.declared.event.Event.{Event}
-use Rattle.iopub_relay.specs.declared.event.Event.TheVariants as events
+use Rattle.iopub_event.specs.declared.event.Event.{Event}
+use Rattle.iopub_event.specs.declared.event.Event.TheVariants as events
 use Rattle.jmsg_envelope.specs.Stamp.{StampMeaning, numbered}
 use Rattle.kernel_block.specs.declared.fault.EngineFault.{EngineFault}
 use Rattle.kernel_block.specs.declared.parts.Parts.{Parts}

@@ -2,8 +2,8 @@
 use Rattle.std.specs.Prelude.{ℕ, List, [], ◌∷◌, ◌++◌, Bool, not, ◌||◌, ◌==◌, Option, codes, decimal, filter}
 use Rattle.std.specs.Result.{result_ok}
 use Rattle.hex.specs.Hex.{decode_of, encode_lower}
-use Rattle.iopub_relay.specs.declared.event.Event.{Event}
-use Rattle.iopub_relay.specs.declared.event.Event.TheVariants.{Message, Attach, Subscribe, Cancel, Detach}
+use Rattle.iopub_event.specs.declared.event.Event.{Event}
+use Rattle.iopub_event.specs.declared.event.Event.TheVariants.{Message, Attach, Subscribe, Cancel, Detach}
 use Rattle.zmtp_wire.specs.Frame.{text}
 use Rattle.zmtp_wire.specs.Fault.{wire_fault_number}
 use Rattle.jkernel.specs.declared.lines.Ending.{Ending}

@@ -5,8 +5,8 @@ use Rattle.std.specs.List.{flat_map}
 use Rattle.zmtp_wire.specs.Frame.{text}
 use Rattle.arith_value.specs.Variables.{Bindings}
 use Rattle.arith_shell.specs.ShellArithmetic.{shell_meaning}
-use Rattle.iopub_relay.specs.declared.event.Event.{Event}
-use Rattle.iopub_relay.specs.declared.event.Event.TheVariants as events
+use Rattle.iopub_event.specs.declared.event.Event.{Event}
+use Rattle.iopub_event.specs.declared.event.Event.TheVariants as events
 use Rattle.kernel_block.specs.declared.parts.Parts.{Parts}
 use Rattle.kernel_block.specs.declared.side.Side.TheVariants.{Shell}
 use Rattle.kernel_block.specs.Block.{starting}

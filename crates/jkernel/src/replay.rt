@@ -15,7 +15,7 @@ use crate::stamp::ReplayStamp;
 use crate::status::Status;
 use arith_shell::ShellArith;
 use iopub_queue::ListSink;
-use iopub_relay::Event;
+use iopub_event::Event;
 use jmsg_envelope::Signer;
 use kernel_engine::{Engine, EngineFault, SessionEnd, Side, Stop, one_session, session};
 use std::alloc::{AllocError, Global};

@@ -2,7 +2,7 @@
 use Rattle.std.proofs.Common.{arith, ◌≡◌, ℕ, suc, ◌+◌, List, [], ◌∷◌, ◌++◌, length, map, Bool, true, false, Option}
 use Rattle.std.proofs.Common.{sym, ◌∙◌, ap, append_assoc}
 use Rattle.std.proofs.lemmas.List.{append-nil, map-append, length-append}
-use Rattle.iopub_relay.specs.declared.event.Event.{Event}
+use Rattle.iopub_event.specs.declared.event.Event.{Event}
 use Rattle.jmsg_envelope.specs.Stamp.{StampMeaning}
 use Rattle.jmsg_types.specs.declared.publication.Publication.{Publication}
 use Rattle.kernel_block.specs.declared.heading.Heading.{Heading}

@@ -1,6 +1,6 @@
 -- The ends of a block: it is opened by busy, with a new date, and its reply is made behind what it published.
 use Rattle.std.specs.Prelude.{◌≡◌, ℕ, ◌+◌, List, [], ◌∷◌, ◌++◌, Bool, true, Option, Some, None}
-use Rattle.iopub_relay.specs.declared.event.Event.{Event}
+use Rattle.iopub_event.specs.declared.event.Event.{Event}
 use Rattle.jmsg_envelope.specs.Stamp.{StampMeaning}
 use Rattle.jmsg_types.specs.declared.reply.Reply.{Reply}
 use Rattle.kernel_block.specs.declared.heading.Heading.{Heading}

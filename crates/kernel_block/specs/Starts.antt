@@ -1,6 +1,6 @@
 -- How an engine begins and ends.
 use Rattle.std.specs.Prelude.{◌≡◌, ◌≢◌, ◌⊎◌, ℕ, List, [], Bool, Option}
-use Rattle.iopub_relay.specs.declared.event.Event.{Event}
+use Rattle.iopub_event.specs.declared.event.Event.{Event}
 use Rattle.jmsg_envelope.specs.Stamp.{StampMeaning}
 use Rattle.kernel_block.specs.declared.fault.EngineFault.{EngineFault}
 use Rattle.kernel_block.specs.declared.fault.EngineFault.TheVariants.{Memory}

@@ -3,8 +3,8 @@
 use Rattle.std.specs.Prelude.{◌≡◌, ⊤, ℕ, ◌+◌, ◌≤◌, List, [], ◌∷◌, ◌++◌, length, map, Bool, true, false}
 use Rattle.std.specs.Prelude.{Option, Some, None, IfSome}
 use Rattle.interp_core.specs.Interpreter.{Meaning}
-use Rattle.iopub_relay.specs.declared.event.Event.{Event}
-use Rattle.iopub_relay.specs.declared.event.Event.TheVariants as events
+use Rattle.iopub_event.specs.declared.event.Event.{Event}
+use Rattle.iopub_event.specs.declared.event.Event.TheVariants as events
 use Rattle.jmsg_envelope.specs.Stamp.{StampMeaning}
 use Rattle.jmsg_types.specs.declared.message_type.MessageType.{MessageType}
 use Rattle.jmsg_types.specs.declared.publication.Publication.{Publication}

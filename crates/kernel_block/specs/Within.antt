@@ -1,7 +1,7 @@
 -- What an engine and its end hold: their parts, and what these keep.
 use Rattle.std.specs.Prelude.{ℕ, List, Option}
 use Rattle.interp_core.specs.Interpreter.{Meaning}
-use Rattle.iopub_relay.specs.declared.event.Event.{Event}
+use Rattle.iopub_event.specs.declared.event.Event.{Event}
 use Rattle.jmsg_envelope.specs.Stamp.{StampMeaning}
 use Rattle.kernel_block.specs.declared.engine.Engine.TheInside as engine
 use Rattle.kernel_block.specs.declared.engine_end.EngineEnd.TheInside as end

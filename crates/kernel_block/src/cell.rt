@@ -14,7 +14,7 @@ use crate::stop::Stop;
 use crate::words::error_words;
 use interp_core::{InterpFault, Interpreter, Next, Stepped};
 use iopub_queue::Publish;
-use iopub_relay::Event;
+use iopub_event::Event;
 use jmsg_envelope::Stamp;
 use jmsg_types::Publication;
 use listed::Text;

@@ -13,7 +13,7 @@ use crate::side::Side;
 use crate::stop::Stop;
 use interp_core::Interpreter;
 use iopub_queue::Publish;
-use iopub_relay::Event;
+use iopub_event::Event;
 use jmsg_envelope::{Envelope, Signer, Stamp};
 use std::alloc::Global;
 use std::marker::Model;

@@ -6,7 +6,7 @@ ghost use Rattle.kernel_block.specs.WellBlocked.{KeepsBlocks};
 use crate::parts::Parts;
 use interp_core::Interpreter;
 use iopub_queue::Publish;
-use iopub_relay::Event;
+use iopub_event::Event;
 use jmsg_envelope::Stamp;
 use std::marker::Model;
 

@@ -12,7 +12,7 @@ use crate::stop::Stop;
 use crate::words::error_words;
 use interp_core::Interpreter;
 use iopub_queue::Publish;
-use iopub_relay::Event;
+use iopub_event::Event;
 use jmsg_envelope::Stamp;
 use jmsg_types::Reply;
 use listed::{Row, Text};

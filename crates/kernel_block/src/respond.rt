@@ -23,7 +23,7 @@ use crate::stop::Stop;
 use crate::words::own_words;
 use interp_core::{Completeness, Completion, Info, InterpFault, Interpreter};
 use iopub_queue::Publish;
-use iopub_relay::Event;
+use iopub_event::Event;
 use jmsg_envelope::Stamp;
 use jmsg_types::{
     ContentFault, MessageType, Publication, Reply, Request, Verdict, content_words, read_known,

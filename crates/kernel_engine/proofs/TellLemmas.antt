@@ -8,8 +8,8 @@ use Rattle.zmtp_wire.specs.declared.traffic.Traffic.{Traffic}
 use Rattle.zmtp_wire.specs.declared.traffic.Traffic.TheVariants as traffic
 use Rattle.zmtp_wire.specs.Device.{Inflow, Outflow}
 use Rattle.interp_core.specs.Interpreter.{Meaning}
-use Rattle.iopub_relay.specs.declared.event.Event.{Event}
-use Rattle.iopub_relay.specs.declared.event.Event.TheVariants as events
+use Rattle.iopub_event.specs.declared.event.Event.{Event}
+use Rattle.iopub_event.specs.declared.event.Event.TheVariants as events
 use Rattle.jmsg_envelope.specs.Stamp.{StampMeaning}
 use Rattle.kernel_block.specs.declared.fault.EngineFault.TheVariants.{OwedIdle, Memory, Read, Write, Turns, Worn}
 use Rattle.kernel_block.specs.declared.handled.Handled.{Handled}

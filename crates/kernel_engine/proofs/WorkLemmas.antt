@@ -2,7 +2,7 @@
 use Rattle.std.proofs.Common.{◌≡◌, ◌≢◌, ◌⊎◌, inl, inr, ℕ, ◌<◌, List, length, Option, Some, None}
 use Rattle.std.proofs.Common.{IfSome, sym, subst, arith, length-append, Bool, Result, Ok, Err}
 use Rattle.interp_core.specs.Interpreter.{Meaning}
-use Rattle.iopub_relay.specs.declared.event.Event.{Event}
+use Rattle.iopub_event.specs.declared.event.Event.{Event}
 use Rattle.jmsg_envelope.specs.Stamp.{StampMeaning}
 use Rattle.jmsg_envelope.specs.declared.envelope.Envelope.{Envelope}
 use Rattle.jmsg_envelope.specs.declared.fault.EnvelopeFault.{EnvelopeFault}

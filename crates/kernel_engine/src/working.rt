@@ -14,7 +14,7 @@ use crate::server::{Answered, Server};
 use crate::serving::serve;
 use interp_core::Interpreter;
 use iopub_queue::Publish;
-use iopub_relay::Event;
+use iopub_event::Event;
 use jmsg_envelope::{EnvelopeFault, Stamp, open_envelope};
 use kernel_block::{Engine, EngineFault, Handled, Stop};
 use std::alloc::Global;

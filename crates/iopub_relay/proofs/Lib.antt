@@ -1,0 +1,11 @@
+pub mod BeginningLemmas
+pub mod CountLemmas
+pub mod EditLemmas
+pub mod FeedLemmas
+pub mod HearLemmas
+pub mod LawLemmas
+pub mod LifeLemmas
+pub mod PlaceLemmas
+pub mod RowLemmas
+pub mod ServeLemmas
+pub mod TableLemmas

@@ -1,0 +1,53 @@
+-- The feed of a subscriber: what is due to it of the messages of its life.
+use Rattle.std.specs.Prelude.{◌≡◌, ◌⊎◌, ⊤, ℕ, ◌<◌, nat_eq, if◌then◌else◌, List, [], ◌∷◌, ◌++◌, length, Option}
+use Rattle.std.specs.Prelude.{Some, None}
+use Rattle.zmtp_wire.specs.Frame.{text}
+use Rattle.zmtp_wire.specs.Device.{Outflow, Puts}
+use Rattle.iopub_event.specs.declared.event.Event.{Event}
+use Rattle.iopub_event.specs.declared.event.Event.TheVariants.{Message, Attach, Subscribe, Cancel, Detach}
+use Rattle.iopub_relay.specs.Life.{Life, life}
+use Rattle.iopub_relay.specs.Topics.{Holding, held, matches}
+
+-- what an event brings to whom holds these topics: the text of a message that matches them
+abbrev pub brings : {Writer : Type 0} → Holding → Event Writer → List ℕ
+brings topics (Message frames) = if matches topics frames then text frames else []
+brings topics (Attach id writer) = []
+brings topics (Subscribe id topic) = []
+brings topics (Cancel id topic) = []
+brings topics (Detach id) = []
+
+-- what events bring to a subscriber, each under the topics that it holds by then, behind others of its life
+abbrev pub feed_behind : {Writer : Type 0} → ℕ → List (Event Writer) → List (Event Writer) → List ℕ
+feed_behind id before [] = []
+feed_behind id before (event ∷ events) = brings (held id before) event ++ feed_behind id (before ++ event ∷ []) events
+
+-- the feed of a subscriber: what the events of its life bring to it, joined in their order
+abbrev pub feed : {Writer : Type 0} → ℕ → List (Event Writer) → List ℕ
+feed id events = feed_behind id [] events
+
+-- A writer got these octets; or a beginning of them, and then one write failed or took nothing.
+abbrev pub Gets : Outflow → Outflow → List ℕ → Type 0
+Gets old new octets = Puts old new octets 0
+    ⊎ ((front : List ℕ) × (lost : List ℕ) × (octets ≡ front ++ lost) × (0 < length lost) × Puts old new front 1)
+
+-- the writer of a subscriber among those that are left
+abbrev pub writer_of : {Writer : Type 0} → ℕ → List (ℕ × Writer) → Option Writer
+writer_of id [] = None
+writer_of id ((other, writer) ∷ writers) = if nat_eq id other then Some writer else writer_of id writers
+
+-- each id is above this one
+abbrev pub AreAboveId : {Writer : Type 0} → ℕ → List (ℕ × Writer) → Type 0
+AreAboveId id [] = ⊤
+AreAboveId id ((other, writer) ∷ writers) = (id < other) × AreAboveId id writers
+
+-- the ids rise
+abbrev pub AreRisingIds : {Writer : Type 0} → List (ℕ × Writer) → Type 0
+AreRisingIds [] = ⊤
+AreRisingIds ((id, writer) ∷ writers) = AreAboveId id writers × AreRisingIds writers
+
+-- a subscriber has a writer where it is there, and none where it isn't; the writer that it came with got its feed
+abbrev pub IsFed : {Writer : Type 0} → (Writer → Outflow) → ℕ → Option (Life Writer) → Option Writer → Type 0
+IsFed outflow id None None = ⊤
+IsFed outflow id None (Some writer) = ⊥
+IsFed outflow id (Some life) None = ⊥
+IsFed outflow id (Some life) (Some writer) = Gets (outflow life.writer) (outflow writer) (feed id life.events)

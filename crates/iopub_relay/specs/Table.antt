@@ -1,0 +1,122 @@
+-- A table of subscribers, and the events that it fits.
+use Rattle.std.specs.Prelude.{◌≡◌, ◌⊎◌, ⊤, ℕ, ◌<◌, Bool, true, false, List, [], ◌∷◌, ◌++◌, length, Option, Some, None}
+use Rattle.zmtp_wire.specs.Frame.{text}
+use Rattle.zmtp_wire.specs.Device.{Outflow, Puts}
+use Rattle.iopub_event.specs.declared.event.Event.{Event}
+use Rattle.iopub_event.specs.declared.event.Event.TheVariants.{Message, Attach, Subscribe}
+use Rattle.iopub_relay.specs.declared.subscriber.Standing.{Standing}
+use Rattle.iopub_relay.specs.declared.subscriber.Standing.TheVariants.{Served, Broken, Starved}
+use Rattle.iopub_relay.specs.declared.subscriber.Subscriber.{Subscriber}
+use Rattle.iopub_relay.specs.declared.table.Outcome.{Outcome}
+use Rattle.iopub_relay.specs.declared.table.Outcome.TheVariants.{Done, NoTopic, NoRoom}
+use Rattle.iopub_relay.specs.Counts.{holding_of}
+use Rattle.iopub_relay.specs.Life.{Life, life}
+use Rattle.iopub_relay.specs.Topics.{held, matches}
+use Rattle.iopub_relay.specs.Feed.{feed}
+use Rattle.iopub_relay.specs.Rows.{row_of}
+
+-- A write of a message that matches failed or took nothing: the writer got the feed up to there, and some of the text.
+pub record BreaksOff {Writer : Type 0} (old new : Outflow) (id : ℕ) (events : List (Event Writer)) : Type 0 where
+  pub before : List (Event Writer)
+  pub message : List (List ℕ)
+  pub behind : List (Event Writer)
+  pub split : events ≡ before ++ Message message ∷ behind
+  pub due : matches (held id before) message ≡ true
+  pub front : List ℕ
+  pub lost : List ℕ
+  pub cut : text message ≡ front ++ lost
+  pub some : 0 < length lost
+  pub puts : Puts old new (feed id before ++ front) 1
+
+-- There was no memory for a topic: the writer got the feed up to there.
+pub record GoesWithout {Writer : Type 0} (old new : Outflow) (id : ℕ) (events : List (Event Writer)) : Type 0 where
+  pub before : List (Event Writer)
+  pub topic : List ℕ
+  pub behind : List (Event Writer)
+  pub split : events ≡ before ++ Subscribe id topic ∷ behind
+  pub puts : Puts old new (feed id before) 0
+
+-- what the writer of a subscriber got since it came, by how the subscriber stands
+abbrev pub GetsBy : {Writer : Type 0} → Standing → Outflow → Outflow → ℕ → List (Event Writer) → Type 0
+GetsBy Served old new id events = Puts old new (feed id events) 0
+GetsBy Broken old new id events = BreaksOff old new id events
+GetsBy Starved old new id events = GoesWithout old new id events
+
+-- A subscriber of a table lives this life: its writer got what is due, and it holds these topics while it is served.
+pub record Lives {Writer : Type 0} (outflow : Writer → Outflow) (id : ℕ) (row : Subscriber Writer)
+    (now : Life Writer) : Type 0 where
+  pub gets : GetsBy row.standing (outflow now.writer) (outflow row.writer) id now.events
+  pub topics : row.standing ≡ Served → (topic : List ℕ) → holding_of row.topics topic ≡ held id now.events topic
+
+-- what a writer got of a text, by how its subscriber stands then: all of it, or a beginning before a write failed
+abbrev pub GetsText : Standing → Outflow → Outflow → List ℕ → Type 0
+GetsText Served old new octets = Puts old new octets 0
+GetsText Broken old new octets =
+    (front : List ℕ) × (lost : List ℕ) × (octets ≡ front ++ lost) × (0 < length lost) × Puts old new front 1
+GetsText Starved old new octets = ⊥
+
+-- A message that matches came to a subscriber: its writer got the text.
+pub record Delivers {Writer : Type 0} (outflow : Writer → Outflow) (frames : List (List ℕ))
+    (old new : Subscriber Writer) : Type 0 where
+  pub same : new.id ≡ old.id
+  pub topics : new.topics ≡ old.topics
+  pub gets : GetsText new.standing (outflow old.writer) (outflow new.writer) (text frames)
+
+-- what a message makes of a subscriber, by how it stands and whether the message matches
+abbrev pub HearsBy : {Writer : Type 0} → (Writer → Outflow) → Standing → Bool → List (List ℕ) → Subscriber Writer
+    → Subscriber Writer → Type 0
+HearsBy outflow Served true frames old new = Delivers outflow frames old new
+HearsBy outflow Served false frames old new = new ≡ old
+HearsBy outflow Broken due frames old new = new ≡ old
+HearsBy outflow Starved due frames old new = new ≡ old
+
+-- what a message makes of a subscriber: the text goes to whom it matches, and nothing to one that has failed
+abbrev pub Hears : {Writer : Type 0} → (Writer → Outflow) → List (List ℕ) → Subscriber Writer → Subscriber Writer
+    → Type 0
+Hears outflow frames old new =
+    HearsBy outflow old.standing (matches (holding_of old.topics) frames) frames old new
+
+-- what a message makes of subscribers
+abbrev pub AllHear : {Writer : Type 0} → (Writer → Outflow) → List (List ℕ) → List (Subscriber Writer)
+    → List (Subscriber Writer) → Type 0
+AllHear outflow frames [] [] = ⊤
+AllHear outflow frames [] (new ∷ news) = ⊥
+AllHear outflow frames (old ∷ olds) [] = ⊥
+AllHear outflow frames (old ∷ olds) (new ∷ news) = Hears outflow frames old new × AllHear outflow frames olds news
+
+-- a subscriber is in a table where it is there, and else it isn't
+abbrev pub LivesAt : {Writer : Type 0} → (Writer → Outflow) → ℕ → Option (Subscriber Writer) → Option (Life Writer)
+    → Type 0
+LivesAt outflow id None None = ⊤
+LivesAt outflow id None (Some now) = ⊥
+LivesAt outflow id (Some row) None = ⊥
+LivesAt outflow id (Some row) (Some now) = Lives outflow id row now
+
+-- a table fits events: it has the subscribers that are there behind them, each with what is due to it
+abbrev pub Fits : {Writer : Type 0} → (Writer → Outflow) → List (Subscriber Writer) → List (Event Writer) → Type 0
+Fits outflow rows events = (id : ℕ) → LivesAt outflow id (row_of id rows) (life id events)
+
+-- a table that fitted events fits them with one more
+abbrev pub FitsMore : {Writer : Type 0} → (Writer → Outflow) → List (Subscriber Writer) → List (Subscriber Writer)
+    → Event Writer → Type 0
+FitsMore {Writer} outflow old new event =
+    (events : List (Event Writer)) → Fits outflow old events → Fits outflow new (events ++ event ∷ [])
+
+-- whether a subscriber is in a table and found no memory for a topic
+abbrev pub IsStarved : {Writer : Type 0} → Option (Subscriber Writer) → Type 0
+IsStarved None = ⊥
+IsStarved (Some row) = row.standing ≡ Starved
+
+-- no subscriber found no memory for a topic that hadn't before, but for this one
+abbrev pub StarvesOnly : {Writer : Type 0} → (ℕ → Type 0) → List (Subscriber Writer) → List (Subscriber Writer)
+    → Type 0
+StarvesOnly May old new = (id : ℕ) → IsStarved (row_of id new) → IsStarved (row_of id old) ⊎ May id
+
+-- what a table is after an event, by what came of it
+abbrev pub Serves : {Writer : Type 0} → (Writer → Outflow) → List (Subscriber Writer) → List (Subscriber Writer)
+    → Event Writer → Outcome → Type 0
+Serves outflow old new event Done = FitsMore outflow old new event × StarvesOnly (λ id. ⊥) old new
+Serves outflow old new event (NoTopic id) = ((topic : List ℕ) × (event ≡ Subscribe id topic))
+    × (FitsMore outflow old new event × StarvesOnly (λ other. other ≡ id) old new)
+Serves {Writer} outflow old new event (NoRoom id) =
+    ((writer : Writer) × (event ≡ Attach id writer)) × (new ≡ old)

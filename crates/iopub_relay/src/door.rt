@@ -1,0 +1,32 @@
+//! What a subscriber's traffic is to a relay.
+
+ghost use Rattle.std.specs.Prelude.{◌≡◌, ◌≢◌, None, IfOk, OnErr};
+ghost use Rattle.iopub_relay.specs.Door.{event_of};
+
+use iopub_event::Event;
+use listed::Octets;
+use std::alloc::{AllocError, Global};
+use zmtp_wire::Traffic;
+
+/// The event that traffic of this subscriber is (ZMTP 3.0): a message of one frame that begins with 1 subscribes to
+/// the rest as topic, and with 0 gives it up. All other traffic is no event.
+///
+/// # Errors
+///
+/// Where there is an event and memory was refused for its topic.
+pub fn door_event<W>(
+    alloc: Global,
+    id: u64,
+    traffic: &Traffic,
+) -> Result<Option<Event<W>>, AllocError>
+    ensures event { IfOk result (λ event. event ≡ event_of id traffic.now) }
+    ensures err { OnErr result (event_of {Writer = W} id traffic.now ≢ None) }
+{
+    if let Some(topic) = traffic.subscribed_topic() {
+        return Ok(Some(Event::Subscribe(id, Octets::new(topic.to_vec(alloc)?))));
+    }
+    if let Some(topic) = traffic.cancelled_topic() {
+        return Ok(Some(Event::Cancel(id, Octets::new(topic.to_vec(alloc)?))));
+    }
+    Ok(None)
+}

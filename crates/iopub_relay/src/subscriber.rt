@@ -1,0 +1,70 @@
+//! A subscriber of a relay.
+
+ghost use Rattle.std.specs.Prelude.{◌≡◌, IfSome};
+ghost use Rattle.listed.specs.Bodies.{bodies};
+ghost use Rattle.zmtp_wire.specs.Frame.{text};
+ghost use Rattle.zmtp_wire.specs.Device.{AddsAll};
+ghost use Rattle.iopub_relay.specs.Table.{Hears};
+
+use crate::topics::Topics;
+use zmtp_wire::{Outlet, WriteFailed, write_all, write_frames};
+
+/// How a subscriber stands.
+#[derive(Clone, Copy, Debug, PartialEq, Eq)]
+pub(crate) enum Standing {
+    /// It is served.
+    Served,
+    /// A write failed or took nothing: it gets nothing more.
+    Broken,
+    /// There was no memory for a topic: it gets nothing more.
+    Starved,
+}
+
+/// A subscriber: what its octets are written to, and the topics that it holds.
+#[derive(Drop)]
+pub(crate) struct Subscriber<W> {
+    /// Which one it is.
+    pub(crate) id: u64,
+    /// What its octets are written to.
+    pub(crate) writer: W,
+    /// The topics that it holds. They stay as they are once it has failed.
+    pub(crate) topics: Topics,
+    /// How it stands.
+    pub(crate) standing: Standing,
+}
+
+impl<W: Outlet> Subscriber<W> {
+    /// Hears a message: it gets its text where one of its topics is a beginning of the first frame.
+    pub(crate) fn hear(&mut self, frames: &[Vec<u8>], octets: Option<&[u8]>)
+        requires { IfSome octets (λ octets. octets.now ≡ text (bodies frames.now)) }
+        ensures { Hears W.outflow (bodies frames.now) self.old self.new }
+    {
+        let Standing::Served = self.standing else {
+            return;
+        };
+        let Some(first) = frames.first() else {
+            return;
+        };
+        if !self.topics.begin_in(first) {
+            return;
+        }
+        if write_text(&mut self.writer, frames, octets).is_err() {
+            self.standing = Standing::Broken;
+        }
+    }
+}
+
+/// Writes the text of a message: as it was built, or frame by frame where it wasn't.
+fn write_text<W: Outlet>(
+    writer: &mut W,
+    frames: &[Vec<u8>],
+    octets: Option<&[u8]>,
+) -> Result<(), WriteFailed>
+    requires { IfSome octets (λ octets. octets.now ≡ text (bodies frames.now)) }
+    ensures { AddsAll (W.outflow writer.old) (W.outflow writer.new) result (text (bodies frames.now)) }
+{
+    match octets {
+        Some(octets) => write_all(writer, octets),
+        None => write_frames(writer, frames),
+    }
+}

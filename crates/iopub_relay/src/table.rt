@@ -1,0 +1,204 @@
+//! The subscribers of a relay.
+
+ghost use Rattle.std.specs.Prelude.{◌≡◌, [], map, IfOk, IfErr, IfSome};
+ghost use Rattle.listed.specs.Bodies.{bodies};
+ghost use Rattle.zmtp_wire.specs.Frame.{text};
+ghost use Rattle.iopub_relay.specs.Feed.{AreRisingIds};
+ghost use Rattle.iopub_relay.specs.Rows.{AreRising, IsAt, IsFree};
+ghost use Rattle.iopub_relay.specs.Table.{Serves, AllHear};
+
+use crate::subscriber::{Standing, Subscriber};
+use crate::topics::Topics;
+use iopub_event::Event;
+use listed::{Frames, Octets};
+use std::alloc::{AllocError, Global};
+use std::marker::Model;
+use zmtp_wire::{Outlet, write_message};
+
+/// What came of an event.
+#[derive(Clone, Copy, Debug)]
+pub(crate) enum Outcome {
+    /// What the event asks for.
+    Done,
+    /// There was no memory for a topic of this subscriber, which has failed so.
+    NoTopic(u64),
+    /// There was no memory for this subscriber: it didn't come, and its writer was dropped.
+    NoRoom(u64),
+}
+
+/// The subscribers of a relay, by rising ids. A contract sees the list of them.
+#[derive(Drop)]
+pub(crate) struct Table<W> {
+    /// The subscribers.
+    rows: Vec<Subscriber<W>>,
+    /// What gives the memory.
+    alloc: Global,
+}
+
+impl<W> Model for Table<W> {
+    ghost use Rattle.std.specs.Prelude.{List};
+    ghost use Rattle.iopub_relay.specs.declared.subscriber.Subscriber.{Subscriber};
+    ghost use Rattle.iopub_relay.specs.Rows.{AreRising};
+
+    ghost Value = { List (Subscriber W) };
+
+    ghost view = { λ table. table.rows.items };
+
+    ghost invariant = { λ table. AreRising table.rows.items };
+}
+
+impl<W> Table<W> {
+    /// No subscribers.
+    pub(crate) fn new(alloc: Global) -> Table<W>
+        ensures { result ≡ [] }
+    {
+        Table {
+            rows: Vec::new(alloc),
+            alloc,
+        }
+    }
+}
+
+impl<W: Outlet + Drop> Table<W> {
+    /// Serves an event.
+    pub(crate) fn serve(&mut self, event: Event<W>) -> Outcome
+        ensures { Serves W.outflow self.old self.new event result }
+    {
+        match event {
+            Event::Message(frames) => self.message(frames),
+            Event::Attach(id, writer) => self.attach(id, writer),
+            Event::Subscribe(id, topic) => self.subscribe(id, topic),
+            Event::Cancel(id, topic) => self.cancel(id, topic),
+            Event::Detach(id) => self.detach(id),
+        }
+    }
+
+    /// Serves a message: each subscriber with a topic that its first frame begins with gets its text. That is built
+    /// once for all where there is memory for it, also where nobody gets it.
+    pub(crate) fn message(&mut self, frames: Frames) -> Outcome
+        ensures { Serves W.outflow self.old self.new (Event.Message frames) result }
+    {
+        let frames = frames.as_slice();
+        let built = text_of(self.alloc, frames);
+        let octets = match &built {
+            Some(octets) => Some(octets.as_slice()),
+            None => None,
+        };
+        hear_all(&mut self.rows, frames, octets);
+        Outcome::Done
+    }
+
+    /// Serves that a subscriber comes. Where it is there already its new writer is dropped.
+    pub(crate) fn attach(&mut self, id: u64, writer: W) -> Outcome
+        ensures { Serves W.outflow self.old self.new (Event.Attach id writer) result }
+    {
+        let Err(place) = place_of(&self.rows, id) else {
+            return Outcome::Done;
+        };
+        let row = Subscriber {
+            id,
+            writer,
+            topics: Topics::new(self.alloc),
+            standing: Standing::Served,
+        };
+        if let Err(_) = self.rows.insert(place, row) {
+            return Outcome::NoRoom(id);
+        }
+        Outcome::Done
+    }
+
+    /// Serves that a subscriber subscribes to a topic.
+    pub(crate) fn subscribe(&mut self, id: u64, topic: Octets) -> Outcome
+        ensures { Serves W.outflow self.old self.new (Event.Subscribe id topic) result }
+    {
+        let Ok(place) = place_of(&self.rows, id) else {
+            return Outcome::Done;
+        };
+        let row = &mut self.rows[place];
+        let Standing::Served = row.standing else {
+            return Outcome::Done;
+        };
+        if row.topics.add(topic).is_err() {
+            row.standing = Standing::Starved;
+            return Outcome::NoTopic(id);
+        }
+        Outcome::Done
+    }
+
+    /// Serves that a subscriber gives a topic up.
+    pub(crate) fn cancel(&mut self, id: u64, topic: Octets) -> Outcome
+        ensures { Serves W.outflow self.old self.new (Event.Cancel id topic) result }
+    {
+        let Ok(place) = place_of(&self.rows, id) else {
+            return Outcome::Done;
+        };
+        let row = &mut self.rows[place];
+        row.topics.take_out(topic.as_slice());
+        Outcome::Done
+    }
+
+    /// Serves that a subscriber leaves.
+    pub(crate) fn detach(&mut self, id: u64) -> Outcome
+        ensures { Serves W.outflow self.old self.new (Event.Detach id) result }
+    {
+        if let Ok(place) = place_of(&self.rows, id) {
+            self.rows.remove(place);
+        }
+        Outcome::Done
+    }
+}
+
+impl<W> Table<W> {
+    /// The subscribers, each with its writer.
+    ///
+    /// # Errors
+    ///
+    /// Where memory was refused.
+    pub(crate) fn into_writers(self) -> Result<Vec<(u64, W)>, AllocError>
+    where
+        W: Drop,
+        ensures rising { IfOk result (λ left. AreRisingIds left.items) }
+        ensures writers { IfOk result (λ left. left.items ≡ map (λ row. (row.id, row.writer)) self) }
+    {
+        let mut left = Vec::with_capacity(self.alloc, self.rows.len())?;
+        for row in self.rows {
+            left.push((row.id, row.writer))?;
+        }
+        Ok(left)
+    }
+}
+
+/// The text of a message, where it has a frame and there is memory for it.
+fn text_of(alloc: Global, frames: &[Vec<u8>]) -> Option<Vec<u8>>
+    ensures { IfSome result (λ octets. octets.items ≡ text (bodies frames.now)) }
+{
+    let mut octets = Vec::new(alloc);
+    if frames.is_empty() || write_message(alloc, frames, &mut octets).is_err() {
+        return None;
+    }
+    Some(octets)
+}
+
+/// Has each subscriber hear a message.
+fn hear_all<W: Outlet>(rows: &mut Vec<Subscriber<W>>, frames: &[Vec<u8>], octets: Option<&[u8]>)
+    requires { IfSome octets (λ octets. octets.now ≡ text (bodies frames.now)) }
+    ensures { AllHear W.outflow (bodies frames.now) rows.old.items rows.new.items }
+{
+    for place in 0..rows.len() {
+        let row = &mut rows[place];
+        row.hear(frames, octets);
+    }
+}
+
+/// The place of a subscriber, or the one at which it belongs.
+fn place_of<W>(rows: &[Subscriber<W>], id: u64) -> Result<usize, usize>
+    requires { AreRising rows.now }
+    ensures there { IfOk result (λ place. IsAt id place rows.now) }
+    ensures absent { IfErr result (λ place. IsFree id place rows.now) }
+{
+    let place = rows.partition_point(|row| row.id < id);
+    match rows.get(place) {
+        Some(row) if row.id == id => Ok(place),
+        _ => Err(place),
+    }
+}
