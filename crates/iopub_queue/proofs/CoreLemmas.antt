@@ -1,12 +1,15 @@
 -- The running core follows the core's states.
-use Rattle.std.proofs.Common.{◌≡◌, ℕ, zero, suc, ◌+◌, ◌<◌, ◌≤◌, false, List, [], ◌∷◌, ◌++◌, length, take, drop, get_or, replicate, refl, sym, ap, ◌∙◌, subst, append_assoc}
+use Rattle.std.proofs.Common.{◌≡◌, ℕ, zero, suc, ◌+◌, ◌<◌, ◌≤◌, false, List, [], ◌∷◌, ◌++◌, length, take, drop, get_or}
+use Rattle.std.proofs.Common.{replicate, refl, sym, ap, ◌∙◌, subst, append_assoc}
 use Rattle.std.proofs.Common.{arith, length-append}
-use Rattle.std.proofs.lemmas.List.{append-nil, take-append-le, drop-append-le, drop-drop, length-replicate, get_or-replicate}
+use Rattle.std.proofs.lemmas.List.{append-nil, take-append-le, drop-append-le, drop-drop, length-replicate}
+use Rattle.std.proofs.lemmas.List.{get_or-replicate}
 use Rattle.iopub_queue.specs.declared.plain_core.Core.{Core}
 use Rattle.iopub_queue.specs.declared.plain_core.CoreEvent.{CoreEvent}
 use Rattle.iopub_queue.specs.declared.plain_core.CoreEvent.TheVariants.{Take}
 use Rattle.iopub_queue.specs.Entries.{Entry}
-use Rattle.iopub_queue.specs.Lawful.{Lists, Lawful, grown, entered, happened, IsOpen, IsAllowed, start, after, AreAllowed, IsFirstNotAllowed}
+use Rattle.iopub_queue.specs.Lawful.{Lists, Lawful, grown, entered, happened, IsOpen, IsAllowed, start, after}
+use Rattle.iopub_queue.specs.Lawful.{AreAllowed, IsFirstNotAllowed}
 use Rattle.iopub_queue.specs.declared.plain_core.CoreState.{CoreState}
 use Rattle.iopub_queue.specs.Running.{EndsIn}
 use Rattle.iopub_queue.specs.Marks.{Marks, IsOpenMark, Follows}

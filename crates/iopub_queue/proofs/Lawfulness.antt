@@ -1,5 +1,6 @@
 -- Events that are allowed keep a state lawful.
-use Rattle.std.proofs.Common.{◌≡◌, ◌≢◌, ℕ, ◌<◌, List, [], ◌∷◌, ◌++◌, take, drop, refl, sym, ap, ◌∙◌, subst, append_assoc}
+use Rattle.std.proofs.Common.{◌≡◌, ◌≢◌, ℕ, ◌<◌, List, [], ◌∷◌, ◌++◌, take, drop, refl, sym, ap, ◌∙◌, subst}
+use Rattle.std.proofs.Common.{append_assoc}
 use Rattle.std.proofs.Common.{arith}
 use Rattle.std.specs.Prelude.{Option, Some, None, ◌==◌}
 use Rattle.std.proofs.lemmas.List.{take-append-drop}
@@ -7,7 +8,8 @@ use Rattle.std.proofs.lemmas.Bool.{cond_both, eqb-true}
 use Rattle.iopub_queue.specs.declared.plain_core.CoreEvent.{CoreEvent}
 use Rattle.iopub_queue.specs.declared.plain_core.CoreEvent.TheVariants.{Publish, Close, Take}
 use Rattle.iopub_queue.specs.Entries.{Entry, of, HasNoClose, CloseIsLast}
-use Rattle.iopub_queue.specs.Lawful.{Lists, Lawful, history, start, grown, entered, happened, IsOpen, IsAllowed, after, AreAllowed}
+use Rattle.iopub_queue.specs.Lawful.{Lists, Lawful, history, start, grown, entered, happened, IsOpen, IsAllowed, after}
+use Rattle.iopub_queue.specs.Lawful.{AreAllowed}
 use Rattle.iopub_queue.proofs.Parts.{of_more, grown_other, one_more_is_last}
 
 module _ {T : Type 0} where

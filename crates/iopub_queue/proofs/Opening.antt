@@ -1,5 +1,6 @@
 -- How a queue is opened, one number after the other.
-use Rattle.std.proofs.Common.{◌≡◌, ℕ, suc, ◌+◌, Bool, false, List, [], ◌∷◌, ◌++◌, length, get_or, replicate, refl, sym, ap, ◌∙◌, subst, inl, zero}
+use Rattle.std.proofs.Common.{◌≡◌, ℕ, suc, ◌+◌, Bool, false, List, [], ◌∷◌, ◌++◌, length, get_or, replicate, refl, sym}
+use Rattle.std.proofs.Common.{ap, ◌∙◌, subst, inl, zero}
 use Rattle.std.proofs.Common.{arith, add-zero}
 use Rattle.std.specs.Prelude.{Option}
 use Rattle.std.proofs.lemmas.List.{length-replicate, get_or-replicate}

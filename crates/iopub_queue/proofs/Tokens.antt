@@ -1,5 +1,6 @@
 -- What the steps of the queue mean for the tokens.
-use Rattle.std.proofs.Common.{◌≡◌, ◌≢◌, ℕ, ◌+◌, ◌<◌, ◌≤◌, Bool, true, false, List, [], ◌∷◌, ◌++◌, length, take, get_or, set, refl, sym, ap, ◌∙◌, subst, ⊎_elim, append_assoc}
+use Rattle.std.proofs.Common.{◌≡◌, ◌≢◌, ℕ, ◌+◌, ◌<◌, ◌≤◌, Bool, true, false, List, [], ◌∷◌, ◌++◌, length, take, get_or}
+use Rattle.std.proofs.Common.{set, refl, sym, ap, ◌∙◌, subst, ⊎_elim, append_assoc}
 use Rattle.std.proofs.Common.{arith, length-append}
 use Rattle.std.specs.Prelude.{Option, Some, None, All}
 use Rattle.std.proofs.lemmas.List.{append-nil, get_or_at, get_or_default}
@@ -12,7 +13,8 @@ use Rattle.iopub_queue.specs.declared.taken.Settled.TheVariants.{Whole, Beginnin
 use Rattle.iopub_queue.specs.declared.view.Role.TheVariants.{Publishes}
 use Rattle.iopub_queue.specs.declared.view.Ended.{Ended}
 use Rattle.iopub_queue.specs.declared.view.View.{View}
-use Rattle.iopub_queue.specs.Entries.{Entry, StartsWith, Agree, longer, of, HasNoClose, CloseIsLast, EndsWithClose, IsComplete, StandsBehind}
+use Rattle.iopub_queue.specs.Entries.{Entry, StartsWith, Agree, longer, of, HasNoClose, CloseIsLast, EndsWithClose}
+use Rattle.iopub_queue.specs.Entries.{IsComplete, StandsBehind}
 use Rattle.iopub_queue.specs.Lawful.{Lists, history, grown, entered, happened, event_of}
 use Rattle.iopub_queue.specs.Marks.{IsMarked, Marks, unmarked}
 use Rattle.iopub_queue.specs.Views.{told_of, learnt, settled_with}
@@ -21,9 +23,11 @@ use Rattle.iopub_queue.specs.Values.{publishing, telling, taking_by}
 use Rattle.iopub_queue.specs.Held.{HoldsSeat, MayPublish, MayTake}
 use Rattle.iopub_queue.specs.Calls.{Adds, TakesOne, FindsNothing, Learns, IsSettledBy, Settles}
 use Rattle.iopub_queue.proofs.Lists.{longer_has, longer_starts, longer_starts_too, beginnings_agree}
-use Rattle.iopub_queue.proofs.Parts.{of_append, of_own, of_more, grown_own, item_keeps_open, front_is_open, front_is_last, nothing_behind, closed_is_not_open, empty_front}
+use Rattle.iopub_queue.proofs.Parts.{of_append, of_own, of_more, grown_own, item_keeps_open, front_is_open}
+use Rattle.iopub_queue.proofs.Parts.{front_is_last, nothing_behind, closed_is_not_open, empty_front}
 use Rattle.iopub_queue.proofs.Lawfulness.{lawful_stays}
-use Rattle.iopub_queue.proofs.Marking.{marked_ends, open_is_unmarked, marks_item, marks_close, unmarked_less, all_marked, none_unmarked}
+use Rattle.iopub_queue.proofs.Marking.{marked_ends, open_is_unmarked, marks_item, marks_close, unmarked_less}
+use Rattle.iopub_queue.proofs.Marking.{all_marked, none_unmarked}
 
 -- the longer of a list and none
 pub longer_nil : {A : Type 0} (all : List A) → longer all [] ≡ all
@@ -197,6 +201,7 @@ module _ {T : Type 0} where
           taken = (is k).taken;
           told = told_of (view new);
         };
+        longest = λ k. told_of (is k);
         old_told = facts.0;
         word_told = facts.1;
         agree = facts.2;

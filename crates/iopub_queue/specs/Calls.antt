@@ -1,5 +1,6 @@
 -- What the calls of the queue promise.
-use Rattle.std.specs.Prelude.{◌≡◌, ℕ, zero, suc, ◌+◌, ◌<◌, ◌≤◌, Option, Some, None, List, [], ◌∷◌, ◌++◌, Result, Ok, Err}
+use Rattle.std.specs.Prelude.{◌≡◌, ℕ, zero, suc, ◌+◌, ◌<◌, ◌≤◌, Option, Some, None, List, [], ◌∷◌, ◌++◌}
+use Rattle.std.specs.Prelude.{Result, Ok, Err}
 use Rattle.std.specs.Global.{Vec}
 use Rattle.atomic_table.specs.Seated.{TableId}
 use Rattle.iopub_queue.specs.declared.taken.Taken.{Taken}
@@ -8,7 +9,8 @@ use Rattle.iopub_queue.specs.declared.taken.Settled.{Settled}
 use Rattle.iopub_queue.specs.declared.taken.Settled.TheVariants.{Whole, Beginning}
 use Rattle.iopub_queue.specs.declared.fault.OpenFault.{OpenFault}
 use Rattle.iopub_queue.specs.declared.fault.OpenFault.TheVariants.{Count, Capacity, OutOfMemory}
-use Rattle.iopub_queue.specs.Entries.{StartsWith, Agree, of, HasNoClose, CloseIsLast, EndsWithClose, IsComplete, StandsBehind}
+use Rattle.iopub_queue.specs.Entries.{StartsWith, Agree, longer, of, HasNoClose, CloseIsLast, EndsWithClose}
+use Rattle.iopub_queue.specs.Entries.{IsComplete, StandsBehind}
 use Rattle.iopub_queue.specs.Values.{Publishing, Told, Taking}
 
 -- how many publishers a queue may have
@@ -38,7 +40,7 @@ module _ {T : Type 0} where
     pub next : Agree new.told new.taken
     pub closes : (other : ℕ) → CloseIsLast (of other new.taken)
 
-  -- nothing waited: all that the taker was told of has been taken, and not all closes were
+  -- the taker took nothing: all that it was told of has been taken, and not all closes were
   pub record FindsNothing (old new : Taking T) : Type 0 where
     pub same : new ≡ old
     pub told : StartsWith old.taken old.told
@@ -51,10 +53,11 @@ module _ {T : Type 0} where
   TakeGives old Empty new = FindsNothing old new
   TakeGives old Complete new = (new ≡ old) × IsComplete old.count old.taken
 
-  -- The taker learnt a word: what it is told begins with what it was told, and with the word's list, and what it took
-  -- agrees with that.
+  -- The taker learnt a word: what it is told is the longer of what it was told and of the word's list, and begins with
+  -- both. What it took agrees with that.
   pub record Learns (old : Taking T) (word : Told T) (new : Taking T) : Type 0 where
     pub rest : new ≡ record old { told = new.told }
+    pub longest : new.told ≡ longer old.told word.list
     pub old_told : StartsWith new.told old.told
     pub word_told : StartsWith new.told word.list
     pub agree : Agree new.told new.taken

@@ -1,5 +1,6 @@
 -- The entries of the queue, and what lists of them tell of one publisher.
-use Rattle.std.specs.Prelude.{◌≡◌, ℕ, ◌<◌, ⊤, Option, Some, None, List, [], ◌∷◌, ◌++◌, ◌⊎◌, length, map, filter, ◌==◌, nat_lt, if◌then◌else◌}
+use Rattle.std.specs.Prelude.{◌≡◌, ℕ, ◌<◌, ⊤, Option, Some, None, List, [], ◌∷◌, ◌++◌, ◌⊎◌, length, map, filter, ◌==◌}
+use Rattle.std.specs.Prelude.{nat_lt, if◌then◌else◌}
 
 -- An entry is a publisher's number and an item, or the number and `None`, which is that publisher's close.
 abbrev pub Entry : Type 0 → Type 0
@@ -45,4 +46,5 @@ module _ {T : Type 0} where
 
   -- a list ends with the entry, and begins with the front, which stands before the entry
   abbrev pub StandsBehind : List (Entry T) → Entry T → List (Entry T) → Type 0
-  StandsBehind entries entry front = (before : List (Entry T)) × (entries ≡ before ++ entry ∷ []) × StartsWith before front
+  StandsBehind entries entry front =
+      (before : List (Entry T)) × (entries ≡ before ++ entry ∷ []) × StartsWith before front

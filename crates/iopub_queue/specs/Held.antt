@@ -12,16 +12,16 @@ use Rattle.iopub_queue.specs.Marks.{Marks, unmarked}
 module _ {T Q A : Type 0} where
   -- A publisher or a closing token holds the seat of its number at the queue, and what it was told of has all that it
   -- published.
-  pub record HoldsSeat (line : Slotted (Option (Entry T)) (Doing (Entry T) (View T)) Q A) (seat : Pass (Entry T) (View T))
-      (number : ℕ) : Type 0 where
+  pub record HoldsSeat (line : Slotted (Option (Entry T)) (Doing (Entry T) (View T)) Q A)
+      (seat : Pass (Entry T) (View T)) (number : ℕ) : Type 0 where
     pub seat_of : IsPassOf line seat
     pub role : (view seat).role ≡ Publishes
     pub named : (view seat).number ≡ number
     pub own_part : of number (told_of (view seat)) ≡ (view seat).published
 
   -- a publisher isn't closed
-  pub record MayPublish (line : Slotted (Option (Entry T)) (Doing (Entry T) (View T)) Q A) (seat : Pass (Entry T) (View T))
-      (number : ℕ) : Type 0 where
+  pub record MayPublish (line : Slotted (Option (Entry T)) (Doing (Entry T) (View T)) Q A)
+      (seat : Pass (Entry T) (View T)) (number : ℕ) : Type 0 where
     pub holds : HoldsSeat line seat number
     pub open_list : HasNoClose (view seat).published
 

@@ -1,6 +1,7 @@
 -- A state of the queue's core, its events, and which states are lawful. Both the core that runs over a list of events
 -- and the rule of the queue that threads share are told by these.
-use Rattle.std.specs.Prelude.{◌≡◌, ℕ, ◌<◌, ◌≤◌, ⊤, Option, Some, None, List, [], ◌∷◌, ◌++◌, length, take, drop, ◌==◌, if◌then◌else◌}
+use Rattle.std.specs.Prelude.{◌≡◌, ℕ, ◌<◌, ◌≤◌, ⊤, Option, Some, None, List, [], ◌∷◌, ◌++◌, length, take, drop, ◌==◌}
+use Rattle.std.specs.Prelude.{if◌then◌else◌}
 use Rattle.iopub_queue.specs.declared.plain_core.CoreEvent.{CoreEvent}
 use Rattle.iopub_queue.specs.declared.plain_core.CoreEvent.TheVariants.{Publish, Close, Take}
 use Rattle.iopub_queue.specs.Entries.{Entry, of, HasNoClose, CloseIsLast}

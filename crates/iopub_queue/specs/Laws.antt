@@ -13,4 +13,5 @@ pub record IsTakenBehind {T : Type 0} (taken : List (Entry T)) (entry : Entry T)
 -- its number at least as many are taken as stand in that beginning: so the entry is taken, behind the front.
 abbrev pub OrderIsKept : Type 0 → Type 0
 OrderIsKept T = (whole told taken front : List (Entry T)) (entry : Entry T) → Agree whole taken → StartsWith whole told
-    → StandsBehind told entry front → length (of entry.0 told) ≤ length (of entry.0 taken) → IsTakenBehind taken entry front
+    → StandsBehind told entry front → length (of entry.0 told) ≤ length (of entry.0 taken)
+    → IsTakenBehind taken entry front

@@ -1,5 +1,6 @@
 -- Marks of the numbers whose close was met, which the code keeps in place of the numbers' lists.
-use Rattle.std.specs.Prelude.{◌≡◌, ℕ, suc, ◌<◌, ◌≤◌, Bool, true, false, ⊤, Option, List, [], ◌∷◌, length, take, drop, slice_index_or, Result, Ok, Err}
+use Rattle.std.specs.Prelude.{◌≡◌, ℕ, suc, ◌<◌, ◌≤◌, Bool, true, false, ⊤, Option, List, [], ◌∷◌, length, take, drop}
+use Rattle.std.specs.Prelude.{slice_index_or, Result, Ok, Err}
 use Rattle.iopub_queue.specs.declared.plain_core.Core.{Core}
 use Rattle.iopub_queue.specs.declared.plain_core.CoreEvent.{CoreEvent}
 use Rattle.iopub_queue.specs.declared.plain_core.CoreFault.{CoreFault}

@@ -49,4 +49,5 @@ module _ {T : Type 0} where
     pub lawful : Lawful view.number record { taken = view.taken; waiting = waiting; published = published }
     pub seen : StartsWith (view.taken ++ waiting) view.seen
     pub heard : StartsWith (view.taken ++ waiting) view.heard
-    pub settled : All (IsEnded view.number record { taken = view.taken; waiting = waiting; published = published }) view.settled
+    pub settled :
+        All (IsEnded view.number record { taken = view.taken; waiting = waiting; published = published }) view.settled

@@ -6,8 +6,10 @@ use Rattle.iopub_queue.specs.declared.view.View.{View}
 use Rattle.iopub_queue.specs.Entries.{Entry}
 use Rattle.iopub_queue.specs.Views.{told_of}
 
--- A publisher, or its closing token: its queue, its number, what it published, a close among it, and all that it
--- published or was told of, in the queue's order.
+-- A publisher, or its closing token: its queue, its number, what it published, last its close where it closed, and all
+-- that it was told of: a beginning of what was taken and what waits, in the queue's order, that has all that it
+-- published. A push tells it all that stands before its own entry, whoever pushed that; a word that it publishes behind
+-- tells, too.
 pub record Publishing (T : Type 0) : Type 0 where
   pub queue : TableId
   pub number : ℕ
@@ -20,7 +22,8 @@ pub record Told (T : Type 0) : Type 0 where
   pub queue : TableId
   pub list : List (Entry T)
 
--- The taker: its queue, how many publishers were opened, what it took, and the longest word that it learnt.
+-- The taker: its queue, how many publishers were opened, what it took, and the longest word that it learnt, at first
+-- the empty list.
 pub record Taking (T : Type 0) : Type 0 where
   pub queue : TableId
   pub count : ℕ

@@ -56,7 +56,8 @@ pub fn pop<T, R: Wait>(rt: &R, line: &Line<T>, seat: &mut Seat<T>) -> Option<Ent
     requires seat { IsPassOf line.now seat.old }
     requires role { (view seat.old).role ≡ Takes }
     ensures seat { IsSamePass seat.old seat.new }
-    ensures taken { MatchOption result ((view seat.new ≡ view seat.old) × Sees (view seat.old) []) (λ entry. Took (view seat.old) entry (view seat.new)) }
+    ensures taken { MatchOption result ((view seat.new ≡ view seat.old) × Sees (view seat.old) [])
+        (λ entry. Took (view seat.old) entry (view seat.new)) }
 {
     line.pop_as::<Taking, R>(rt, seat)
 }

@@ -84,7 +84,8 @@ impl<T: Drop> Core<T> {
 
     /// Whether a number is known and wasn't closed.
     fn is_open(&self, number: usize) -> bool
-        ensures { MatchBool result (IsOpenMark self.now.closed.items number) (¬ IsOpenMark self.now.closed.items number) }
+        ensures { MatchBool result (IsOpenMark self.now.closed.items number)
+            (¬ IsOpenMark self.now.closed.items number) }
     {
         number < self.closed.len() && !self.closed[number]
     }

@@ -13,8 +13,8 @@ use std::alloc::Global;
 use std::marker::Model;
 use std::sync::{Arc, Wait};
 
-/// A publisher of a queue, which publishes items and then its close. It never refuses, and needs no memory. There is one
-/// of each number, and it may go to any thread.
+/// A publisher of a queue, which publishes items and then its close. It never refuses, and needs no memory. There is
+/// one of each number, and it may go to any thread.
 #[derive(Drop)]
 pub struct Publisher<T, R> {
     /// The queue.
@@ -49,7 +49,8 @@ impl<T, R> Publisher<T, R> {
         self.number
     }
 
-    /// A word of all that this publisher published or was told of. Waits for nobody, and needs no memory.
+    /// A word of all that this publisher was told of, and so of all that it published. Waits for nobody, and needs no
+    /// memory.
     pub fn tell(&mut self) -> Word<T>
         ensures same { self.new ≡ self.old }
         ensures word { result ≡ record {
@@ -78,8 +79,8 @@ impl<T, R: Drop> Publisher<T, R> {
 }
 
 impl<T, R: Wait> Publisher<T, R> {
-    /// Publishes an item: it stands behind all that this publisher published or was told of. While the queue is full it is
-    /// tried again. Needs no memory.
+    /// Publishes an item: it stands behind all that this publisher published or was told of. While the queue is full it
+    /// is tried again. Needs no memory.
     ///
     /// # Errors
     ///
@@ -112,8 +113,8 @@ impl<T, R: Wait> Publisher<T, R> {
 }
 
 impl<T, R: Wait + Drop> Publisher<T, R> {
-    /// Publishes the close, behind all that this publisher published or was told of. While the queue is full it is tried
-    /// again. Needs no memory.
+    /// Publishes the close, behind all that this publisher published or was told of. While the queue is full it is
+    /// tried again. Needs no memory.
     ///
     /// # Errors
     ///

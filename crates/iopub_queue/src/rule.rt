@@ -1,4 +1,5 @@
-//! The rule of the queue: what holds at each moment of what waits and of what each seat knows, and what each step tells.
+//! The rule of the queue: what holds at each moment of what waits and of what each seat knows, and what each step
+//! tells.
 
 use crate::view::View;
 use crossbeam_queue::protocol::{Join, Lesson, Outcome, Protocol, Split};

@@ -7,7 +7,7 @@ pub enum Taken<T> {
     Item(usize, T),
     /// The close of the publisher of this number.
     Closed(usize),
-    /// Nothing waited.
+    /// Nothing was taken: all that the taker was told of has been taken, and a close is missing.
     Empty,
     /// The closes of all publishers were taken: nothing comes any more.
     Complete,

@@ -81,8 +81,8 @@ impl<T: Drop, R> Taker<T, R> {
 }
 
 impl<T, R: Wait> Taker<T, R> {
-    /// Takes the entry that waits first. Where the closes of all publishers were taken it says so, in one look. Needs no
-    /// memory.
+    /// Takes the entry that waits first. Where the closes of all publishers were taken it says so, in one look. Needs
+    /// no memory.
     pub fn take(&mut self) -> Taken<T>
         ensures queue { (self.new.queue ≡ self.old.queue) × (self.new.count ≡ self.old.count) }
         ensures given { TakeGives self.old result self.new }

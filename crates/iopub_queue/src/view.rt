@@ -1,5 +1,5 @@
-//! What the seats at the queue know. A seat is what a publisher, a closing token, a word or the taker holds of the queue.
-//! No value of these types is ever made: they stand in the rule of the queue alone.
+//! What the seats at the queue know. A seat is what a publisher, a closing token, a word or the taker holds of the
+//! queue. No value of these types is ever made: they stand in the rule of the queue alone.
 
 use std::collections::LinkedList;
 

@@ -3,8 +3,8 @@
 use crate::line::Seat;
 use std::marker::Model;
 
-/// A word of a publisher: all that it published or was told of, in the queue's order. To hold it takes no memory, and it
-/// may go to any thread.
+/// A word of a publisher: all that it was told of, and so all that it published, in the queue's order. To hold it takes
+/// no memory, and it may go to any thread.
 #[derive(Drop)]
 pub struct Word<T> {
     /// The seat that tells it.

@@ -13,6 +13,7 @@ use Rattle.iopub_relay.proofs.RowLemmas.{rising_with, rising_without, rising_at,
 use Rattle.iopub_relay.proofs.RowLemmas.{inserted_here, here}
 use Rattle.iopub_relay.proofs.TableLemmas.{attach_new, detach_there}
 use Rattle.iopub_relay.proofs.ServeLemmas.{subscribe_there, subscribe_failed, subscribe_starved, cancel_there}
+use Rattle.iopub_relay.proofs.ServeLemmas.{cancel_failed}
 
 module _ {Writer : Type 0} (id place : ℕ) (rows : List (Subscriber Writer)) where
   removed : (stands : IsAt id place rows) → remove rows place ≡ stands.before ++ stands.behind
@@ -87,14 +88,15 @@ module _ {Writer : Type 0} (id place : ℕ) (rows : List (Subscriber Writer)) wh
         attach_new outflow id place rows (insert rows place row) row free (inserted free row) is served holding
 
     -- a subscriber's row holds a topic once more
-    pub subscribe_set : (stands : IsAt id place rows) (one : Subscriber Writer) (topic : List ℕ) → one.id ≡ id
-        → one.writer ≡ stands.row.writer → one.standing ≡ stands.row.standing
+    pub subscribe_set : (stands : IsAt id place rows) (one : Subscriber Writer) (topic : List ℕ)
+        → stands.row.standing ≡ Served → one.id ≡ id → one.writer ≡ stands.row.writer
+        → one.standing ≡ stands.row.standing
         → ((other : List ℕ) → holding_of one.topics other ≡ (if bytes_eq topic other
         then holding_of stands.row.topics other + 1 else holding_of stands.row.topics other))
         → Serves outflow rows (slice_set rows place one) (Subscribe id topic) Done
-    subscribe_set stands one topic is writer standing topics =
-        subscribe_there outflow id place rows (slice_set rows place one) one topic stands (set stands one) is writer
-        standing topics
+    subscribe_set stands one topic served is writer standing topics =
+        subscribe_there outflow id place rows (slice_set rows place one) one topic stands served (set stands one) is
+        writer standing topics
 
     -- a subscriber's row has failed
     pub failed_set : (stands : IsAt id place rows) (row : Subscriber Writer) (topic : List ℕ) → row ≡ stands.row
@@ -103,6 +105,15 @@ module _ {Writer : Type 0} (id place : ℕ) (rows : List (Subscriber Writer)) wh
         subst (λ (new : List (Subscriber Writer)). Serves outflow rows new (Subscribe id topic) Done)
         (sym (set_same stands row same))
         (subscribe_failed outflow id place rows topic stands
+        (λ served. failed (ap (λ (one : Subscriber Writer). one.standing) same ∙ served)))
+
+    -- the same where a topic is given up
+    pub failed_cancel_set : (stands : IsAt id place rows) (row : Subscriber Writer) (topic : List ℕ) → row ≡ stands.row
+        → (row.standing ≡ Served → ⊥) → Serves outflow rows (slice_set rows place row) (Cancel id topic) Done
+    failed_cancel_set stands row topic same failed =
+        subst (λ (new : List (Subscriber Writer)). Serves outflow rows new (Cancel id topic) Done)
+        (sym (set_same stands row same))
+        (cancel_failed outflow id place rows topic stands
         (λ served. failed (ap (λ (one : Subscriber Writer). one.standing) same ∙ served)))
 
     -- a subscriber's row is starved
@@ -114,11 +125,12 @@ module _ {Writer : Type 0} (id place : ℕ) (rows : List (Subscriber Writer)) wh
         served starved
 
     -- a subscriber's row holds a topic once less
-    pub cancel_set : (stands : IsAt id place rows) (one : Subscriber Writer) (topic : List ℕ) → one.id ≡ id
-        → one.writer ≡ stands.row.writer → one.standing ≡ stands.row.standing
+    pub cancel_set : (stands : IsAt id place rows) (one : Subscriber Writer) (topic : List ℕ)
+        → stands.row.standing ≡ Served → one.id ≡ id → one.writer ≡ stands.row.writer
+        → one.standing ≡ stands.row.standing
         → ((other : List ℕ) → holding_of one.topics other ≡ (if bytes_eq topic other
         then holding_of stands.row.topics other - 1 else holding_of stands.row.topics other))
         → Serves outflow rows (slice_set rows place one) (Cancel id topic) Done
-    cancel_set stands one topic is writer standing topics =
-        cancel_there outflow id place rows (slice_set rows place one) one topic stands (set stands one) is writer
-        standing topics
+    cancel_set stands one topic served is writer standing topics =
+        cancel_there outflow id place rows (slice_set rows place one) one topic stands served (set stands one) is
+        writer standing topics

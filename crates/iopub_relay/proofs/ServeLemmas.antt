@@ -12,7 +12,7 @@ use Rattle.iopub_relay.specs.declared.subscriber.Standing.TheVariants.{Served, B
 use Rattle.iopub_relay.specs.declared.subscriber.Subscriber.{Subscriber}
 use Rattle.iopub_relay.specs.declared.table.Outcome.TheVariants.{Done, NoTopic}
 use Rattle.iopub_relay.specs.Counts.{holding_of}
-use Rattle.iopub_relay.specs.Life.{Life, life}
+use Rattle.iopub_relay.specs.Life.{Life, leaves, comes_with, life}
 use Rattle.iopub_relay.specs.Topics.{held, held_after, matches}
 use Rattle.iopub_relay.specs.Feed.{brings, feed}
 use Rattle.iopub_relay.specs.Rows.{row_of, IsAt}
@@ -22,7 +22,7 @@ use Rattle.iopub_relay.proofs.LifeLemmas.{onward, life_more, held_more, feed_mor
 use Rattle.iopub_relay.proofs.RowLemmas.{same_id, found}
 use Rattle.iopub_relay.proofs.TableLemmas.{puts_on, served_not_starved, matches_same, grown, gets_on, lives_on}
 use Rattle.iopub_relay.proofs.TableLemmas.{keeps_at, fits_still, subscribe_is_of, cancel_is_of, changed, starves_by}
-use Rattle.iopub_relay.proofs.TableLemmas.{starves_nobody}
+use Rattle.iopub_relay.proofs.TableLemmas.{starves_nobody, stays_failed, stays_by, IsOf}
 
 abbrev IsBroken : Standing → Type 0
 IsBroken Served = ⊥
@@ -56,56 +56,71 @@ module _ {Writer : Type 0} (outflow : Writer → Outflow) where
 
   -- a subscriber that is served subscribes to a topic
   pub subscribe_there : (id place : ℕ) (rows new : List (Subscriber Writer)) (one : Subscriber Writer) (topic : List ℕ)
-      (stands : IsAt id place rows) → new ≡ stands.before ++ one ∷ stands.behind → one.id ≡ id
+      (stands : IsAt id place rows) → stands.row.standing ≡ Served → new ≡ stands.before ++ one ∷ stands.behind
+      → one.id ≡ id
       → one.writer ≡ stands.row.writer → one.standing ≡ stands.row.standing
       → ((other : List ℕ) → holding_of one.topics other ≡ (if bytes_eq topic other
       then holding_of stands.row.topics other + 1 else holding_of stands.row.topics other))
       → Serves outflow rows new (Subscribe id topic) Done
-  subscribe_there id place rows new one topic stands is_new is writer standing topics =
+  subscribe_there id place rows new one topic stands served is_new is writer standing topics =
       let (fits, others, before, after) = changed outflow id place rows new one (Subscribe id topic) stands is_new is
       (subscribe_is_of outflow id topic) refl
       (λ lived lives. retopic id stands.row one lived (Subscribe id topic) writer standing refl
       (λ other. topics other ∙ ap (λ (b : Bool). if b && bytes_eq topic other
       then holding_of stands.row.topics other + 1 else holding_of stands.row.topics other) (sym (same_id id))) lives)
-      in (
-        fits,
-        starves_by outflow (λ id. ⊥) id rows new stands.row one others before after
-            (λ starved. inl (sym standing ∙ starved)),
-      )
+      in record {
+        fits = fits;
+        stays = stays_by outflow id rows new stands.row (Subscribe id topic) others before served;
+        starves = starves_by outflow (λ id. ⊥) id rows new stands.row one others before after
+            (λ starved. inl (sym standing ∙ starved));
+      }
 
   -- a subscriber gives a topic up
   pub cancel_there : (id place : ℕ) (rows new : List (Subscriber Writer)) (one : Subscriber Writer) (topic : List ℕ)
-      (stands : IsAt id place rows) → new ≡ stands.before ++ one ∷ stands.behind → one.id ≡ id
+      (stands : IsAt id place rows) → stands.row.standing ≡ Served → new ≡ stands.before ++ one ∷ stands.behind
+      → one.id ≡ id
       → one.writer ≡ stands.row.writer → one.standing ≡ stands.row.standing
       → ((other : List ℕ) → holding_of one.topics other ≡ (if bytes_eq topic other
       then holding_of stands.row.topics other - 1 else holding_of stands.row.topics other))
       → Serves outflow rows new (Cancel id topic) Done
-  cancel_there id place rows new one topic stands is_new is writer standing topics =
+  cancel_there id place rows new one topic stands served is_new is writer standing topics =
       let (fits, others, before, after) = changed outflow id place rows new one (Cancel id topic) stands is_new is
       (cancel_is_of outflow id topic) refl
       (λ lived lives. retopic id stands.row one lived (Cancel id topic) writer standing refl
       (λ other. topics other ∙ ap (λ (b : Bool). if b && bytes_eq topic other
       then holding_of stands.row.topics other - 1 else holding_of stands.row.topics other) (sym (same_id id))) lives)
-      in (
-        fits,
-        starves_by outflow (λ id. ⊥) id rows new stands.row one others before after
-            (λ starved. inl (sym standing ∙ starved)),
-      )
+      in record {
+        fits = fits;
+        stays = stays_by outflow id rows new stands.row (Cancel id topic) others before served;
+        starves = starves_by outflow (λ id. ⊥) id rows new stands.row one others before after
+            (λ starved. inl (sym standing ∙ starved));
+      }
 
-  -- a subscriber that has failed subscribes to a topic: it stays as it is
+  failed_still : (id place : ℕ) (rows : List (Subscriber Writer)) (event : Event Writer) (stands : IsAt id place rows)
+      → (stands.row.standing ≡ Served → ⊥) → IsOf outflow id event → leaves id event ≡ false
+      → comes_with id event ≡ None → Serves outflow rows rows event Done
+  failed_still id place rows event stands failed of stays away =
+      let there : row_of id rows ≡ Some stands.row =
+      ap (row_of id) stands.split ∙ found id stands.before stands.behind stands.row stands.is stands.below in record {
+        fits = λ events fits. fits_still outflow id rows rows events event of (λ other apart. refl)
+            (keeps_at outflow id rows rows events event stays
+            (λ row now stood served. absurd (failed
+            (ap (λ (found : Option (Subscriber Writer)). (unwrap_or found row).standing) (sym there ∙ stood) ∙ served)))
+            (λ gone. away) refl) fits;
+        stays = stays_failed outflow rows event;
+        starves = starves_nobody outflow rows;
+      }
+
+  -- a subscriber that has failed subscribes to a topic, or gives one up: it stays as it is
   pub subscribe_failed : (id place : ℕ) (rows : List (Subscriber Writer)) (topic : List ℕ) (stands : IsAt id place rows)
       → (stands.row.standing ≡ Served → ⊥) → Serves outflow rows rows (Subscribe id topic) Done
   subscribe_failed id place rows topic stands failed =
-      let there : row_of id rows ≡ Some stands.row =
-      ap (row_of id) stands.split ∙ found id stands.before stands.behind stands.row stands.is stands.below in (
-        λ events fits. fits_still outflow id rows rows events (Subscribe id topic) (subscribe_is_of outflow id topic)
-            (λ other apart. refl)
-            (keeps_at outflow id rows rows events (Subscribe id topic) refl
-            (λ row now stood served. absurd (failed
-            (ap (λ (found : Option (Subscriber Writer)). (unwrap_or found row).standing) (sym there ∙ stood) ∙ served)))
-            (λ gone. refl) refl) fits,
-        starves_nobody outflow rows,
-      )
+      failed_still id place rows (Subscribe id topic) stands failed (subscribe_is_of outflow id topic) refl refl
+
+  pub cancel_failed : (id place : ℕ) (rows : List (Subscriber Writer)) (topic : List ℕ) (stands : IsAt id place rows)
+      → (stands.row.standing ≡ Served → ⊥) → Serves outflow rows rows (Cancel id topic) Done
+  cancel_failed id place rows topic stands failed =
+      failed_still id place rows (Cancel id topic) stands failed (cancel_is_of outflow id topic) refl refl
 
   -- there is no memory for a topic of a subscriber that is served
   pub subscribe_starved : (id place : ℕ) (rows new : List (Subscriber Writer)) (one : Subscriber Writer)
@@ -132,9 +147,13 @@ module _ {Writer : Type 0} (outflow : Writer → Outflow) where
       in (
         (topic, refl),
         (
-          fits,
-          starves_by outflow (λ other. other ≡ id) id rows new stands.row one others before after
-              (λ starved. inr refl),
+          record {
+            fits = fits;
+            stays = stays_by outflow id rows new stands.row (Subscribe id topic) others before served;
+            starves = starves_by outflow (λ other. other ≡ id) id rows new stands.row one others before after
+                (λ starved. inr refl);
+          },
+          subst (λ (found : Option (Subscriber Writer)). IsStarved found) (sym after) starved,
         ),
       )
 
@@ -262,13 +281,33 @@ module _ {Writer : Type 0} (outflow : Writer → Outflow) where
   starves_at frames (Some old) (Some new) hears starved =
       starves_one old.standing (matches (holding_of old.topics) frames) frames old new hears starved
 
+  fails_one : (standing : Standing) (due : Bool) (frames : List (List ℕ)) (old new : Subscriber Writer)
+      → (standing ≡ Served → ⊥) → HearsBy outflow standing due frames old new → new ≡ old
+  fails_one Served due frames old new failed hears = absurd (failed refl)
+  fails_one Broken due frames old new failed hears = hears
+  fails_one Starved due frames old new failed hears = hears
+
+  fails_at : (frames : List (List ℕ)) (old new : Option (Subscriber Writer)) (row : Subscriber Writer)
+      → old ≡ Some row → (row.standing ≡ Served → ⊥) → HearsAt frames old new → new ≡ Some row
+  fails_at frames None None row stands failed hears = stands
+  fails_at frames None (Some new) row stands failed hears = absurd hears
+  fails_at frames (Some old) None row stands failed hears = absurd hears
+  fails_at frames (Some old) (Some new) row stands failed hears =
+      let same = ap (λ (found : Option (Subscriber Writer)). unwrap_or found old) stands in
+      ap (λ (one : Subscriber Writer). Some one)
+      (fails_one old.standing (matches (holding_of old.topics) frames) frames old new
+      (λ served. failed (sym (ap (λ (one : Subscriber Writer). one.standing) same) ∙ served)) hears ∙ same)
+
   -- a message came to all subscribers
   pub message_served : (frames : List (List ℕ)) (old new : List (Subscriber Writer)) → AllHear outflow frames old new
       → Serves outflow old new (Message frames) Done
-  message_served frames old new hear = (
-    λ events fits id. subst (λ (now : Option (Life Writer)). LivesAt outflow id (row_of id new) now)
+  message_served frames old new hear = record {
+    fits = λ events fits id. subst (λ (now : Option (Life Writer)). LivesAt outflow id (row_of id new) now)
         (sym (life_more id events (Message frames) refl))
         (message_at id frames (row_of id old) (row_of id new) (life id events) (hears_at id frames old new hear)
-        (fits id)),
-    λ id starved. inl (starves_at frames (row_of id old) (row_of id new) (hears_at id frames old new hear) starved),
-  )
+        (fits id));
+    stays = λ id row stands failed.
+        inl (fails_at frames (row_of id old) (row_of id new) row stands failed (hears_at id frames old new hear));
+    starves = λ id starved.
+        inl (starves_at frames (row_of id old) (row_of id new) (hears_at id frames old new hear) starved);
+  }

@@ -2,6 +2,7 @@
 use Rattle.std.proofs.Common.{◌≡◌, ◌⊎◌, inl, inr, ℕ, ◌+◌, ◌-◌, nat_eq, nat_lt, Bool, false, ◌&&◌, ◌||◌}
 use Rattle.std.proofs.Common.{if◌then◌else◌, List, [], ◌∷◌, ◌++◌, Option, Some, None, refl, sym, ap, subst, ◌∙◌}
 use Rattle.std.proofs.Common.{append_assoc, bytes_eq}
+use Rattle.std.proofs.Common.{unwrap_or}
 use Rattle.std.specs.Bool.{⊤}
 use Rattle.std.specs.List.{list_any}
 use Rattle.std.proofs.lemmas.List.{append-nil}
@@ -20,7 +21,7 @@ use Rattle.iopub_relay.specs.Life.{Life, leaves, comes_with, life_begun, life}
 use Rattle.iopub_relay.specs.Topics.{Holding, held, held_after, beginnings, matches}
 use Rattle.iopub_relay.specs.Feed.{brings, feed}
 use Rattle.iopub_relay.specs.Rows.{row_of, IsAt, IsFree}
-use Rattle.iopub_relay.specs.Table.{GetsBy, Lives, LivesAt, Fits, FitsMore, IsStarved, StarvesOnly}
+use Rattle.iopub_relay.specs.Table.{GetsBy, Lives, LivesAt, Fits, FitsMore, IsStarved, StarvesOnly, LeavesFailed}
 use Rattle.iopub_relay.specs.Table.{Serves}
 use Rattle.iopub_relay.proofs.LifeLemmas.{onward, life_left, life_more, held_more, feed_more}
 use Rattle.iopub_relay.proofs.RowLemmas.{same_id, found, missing, other_found}
@@ -218,22 +219,33 @@ module _ {Writer : Type 0} where
         (keeps_at id rows rows events event stays
         (λ row now stood served. absurd (some_not_none row (sym stood ∙ none))) (λ gone. away) refl) fits
 
+    -- a table that is as it was leaves those that have failed
+    pub stays_failed : (rows : List (Subscriber Writer)) (event : Event Writer) → LeavesFailed rows rows event
+    stays_failed rows event id row stands failed = inl stands
+
+    -- and nobody found no memory for a topic
     pub starves_nobody : (rows : List (Subscriber Writer)) → StarvesOnly (λ id. ⊥) rows rows
     starves_nobody rows id starved = inl starved
 
     -- that a subscriber comes that is there already changes nothing
     pub attach_there : (id place : ℕ) (rows : List (Subscriber Writer)) (writer : Writer) → IsAt id place rows
         → Serves outflow rows rows (Attach id writer) Done
-    attach_there id place rows writer stands = (
-      λ events fits.
+    attach_there id place rows writer stands = record {
+      fits = λ events fits.
           let there : row_of id rows ≡ Some stands.row =
           ap (row_of id) stands.split ∙ found id stands.before stands.behind stands.row stands.is stands.below in
           fits_still id rows rows events (Attach id writer) (attach_is_of id writer) (λ other apart. refl)
           (keeps_at id rows rows events (Attach id writer) refl
           (λ row now stood served. record { nothing = refl; keeps = λ topic count. refl })
-          (λ gone. absurd (some_not_none stands.row (sym there ∙ gone))) refl) fits,
-      starves_nobody rows,
-    )
+          (λ gone. absurd (some_not_none stands.row (sym there ∙ gone))) refl) fits;
+      stays = stays_failed rows (Attach id writer);
+      starves = starves_nobody rows;
+    }
+
+    -- a subscriber for which there was no room wasn't there
+    pub no_room : (id place : ℕ) (rows : List (Subscriber Writer)) → IsFree id place rows → row_of id rows ≡ None
+    no_room id place rows free =
+        ap (row_of id) free.split ∙ missing id free.before free.behind free.below free.above
 
     begins : (id : ℕ) (row : Subscriber Writer) (before after : Option (Subscriber Writer)) (now : Option (Life Writer))
         → before ≡ None → after ≡ Some row → (holding : (topic : List ℕ) → holding_of row.topics topic ≡ 0)
@@ -265,43 +277,57 @@ module _ {Writer : Type 0} where
         let same : (other : ℕ) → nat_eq other id ≡ false → row_of other new ≡ row_of other rows =
         λ other apart. ap (row_of other) is_new
         ∙ other_found other free.before free.behind row (ap (nat_eq other) is ∙ apart)
-        ∙ sym (ap (row_of other) free.split) in (
-          λ events fits. fits_still id rows new events (Attach id row.writer) (attach_is_of id row.writer) same
+        ∙ sym (ap (row_of other) free.split) in record {
+          fits = λ events fits. fits_still id rows new events (Attach id row.writer) (attach_is_of id row.writer) same
               (λ lives. subst (λ (now : Option (Life Writer)). LivesAt outflow id (row_of id new) now)
               (sym (life_more id events (Attach id row.writer) refl))
-              (begins id row (row_of id rows) (row_of id new) (life id events) none here holding served lives)) fits,
-          λ other starved. elim (eqb_tells other id) [
+              (begins id row (row_of id rows) (row_of id new) (life id events) none here holding served lives)) fits;
+          stays = λ other failing stands failed. elim (eqb_tells other id) [
+            | inl (test, this) ↦ absurd (some_not_none failing
+                (sym stands ∙ ap (λ (one : ℕ). row_of one rows) this ∙ none))
+            | inr (test, apart) ↦ inl (same other test ∙ stands)
+          ];
+          starves = λ other starved. elim (eqb_tells other id) [
             | inl (test, this) ↦ absurd (served_not_starved (sym served
                 ∙ subst (λ (found : Option (Subscriber Writer)). IsStarved found) here
                 (subst (λ (one : ℕ). IsStarved (row_of one new)) this starved)))
             | inr (test, apart) ↦
                 inl (subst (λ (found : Option (Subscriber Writer)). IsStarved found) (same other test) starved)
-          ],
-        )
+          ];
+        }
 
     -- that one subscribes or gives up who isn't there changes nothing
     pub subscribe_absent : (id place : ℕ) (rows : List (Subscriber Writer)) (topic : List ℕ) → IsFree id place rows
         → Serves outflow rows rows (Subscribe id topic) Done
     subscribe_absent id place rows topic free =
-        (absent_still id place rows (Subscribe id topic) (subscribe_is_of id topic) refl refl free, starves_nobody rows)
+        record {
+          fits = absent_still id place rows (Subscribe id topic) (subscribe_is_of id topic) refl refl free;
+          stays = stays_failed rows (Subscribe id topic);
+          starves = starves_nobody rows;
+        }
 
     pub cancel_absent : (id place : ℕ) (rows : List (Subscriber Writer)) (topic : List ℕ) → IsFree id place rows
         → Serves outflow rows rows (Cancel id topic) Done
     cancel_absent id place rows topic free =
-        (absent_still id place rows (Cancel id topic) (cancel_is_of id topic) refl refl free, starves_nobody rows)
+        record {
+          fits = absent_still id place rows (Cancel id topic) (cancel_is_of id topic) refl refl free;
+          stays = stays_failed rows (Cancel id topic);
+          starves = starves_nobody rows;
+        }
 
     -- that a subscriber leaves who isn't there changes nothing
     pub detach_absent : (id place : ℕ) (rows : List (Subscriber Writer)) → IsFree id place rows
         → Serves outflow rows rows (Detach id) Done
     detach_absent id place rows free =
         let none : row_of id rows ≡ None =
-        ap (row_of id) free.split ∙ missing id free.before free.behind free.below free.above in (
-          λ events fits. fits_still id rows rows events (Detach id) (detach_is_of id) (λ other apart. refl)
+        ap (row_of id) free.split ∙ missing id free.before free.behind free.below free.above in record {
+          fits = λ events fits. fits_still id rows rows events (Detach id) (detach_is_of id) (λ other apart. refl)
               (λ lives. subst (λ (now : Option (Life Writer)). LivesAt outflow id (row_of id rows) now)
               (sym (life_left id events (Detach id) (same_id id)))
-              (subst (λ (row : Option (Subscriber Writer)). LivesAt outflow id row None) (sym none) tt)) fits,
-          starves_nobody rows,
-        )
+              (subst (λ (row : Option (Subscriber Writer)). LivesAt outflow id row None) (sym none) tt)) fits;
+          stays = stays_failed rows (Detach id);
+          starves = starves_nobody rows;
+        }
 
     -- a subscriber that leaves is no more in the table
     pub detach_there : (id place : ℕ) (rows new : List (Subscriber Writer)) (stands : IsAt id place rows)
@@ -312,18 +338,22 @@ module _ {Writer : Type 0} where
         let same : (other : ℕ) → nat_eq other id ≡ false → row_of other new ≡ row_of other rows =
         λ other apart. ap (row_of other) is_new
         ∙ sym (other_found other stands.before stands.behind stands.row (ap (nat_eq other) stands.is ∙ apart))
-        ∙ sym (ap (row_of other) stands.split) in (
-          λ events fits. fits_still id rows new events (Detach id) (detach_is_of id) same
+        ∙ sym (ap (row_of other) stands.split) in record {
+          fits = λ events fits. fits_still id rows new events (Detach id) (detach_is_of id) same
               (λ lives. subst (λ (now : Option (Life Writer)). LivesAt outflow id (row_of id new) now)
               (sym (life_left id events (Detach id) (same_id id)))
-              (subst (λ (row : Option (Subscriber Writer)). LivesAt outflow id row None) (sym none) tt)) fits,
-          λ other starved. elim (eqb_tells other id) [
+              (subst (λ (row : Option (Subscriber Writer)). LivesAt outflow id row None) (sym none) tt)) fits;
+          stays = λ other failing stood failed. elim (eqb_tells other id) [
+            | inl (test, this) ↦ inr (ap Detach (sym this))
+            | inr (test, apart) ↦ inl (same other test ∙ stood)
+          ];
+          starves = λ other starved. elim (eqb_tells other id) [
             | inl (test, this) ↦ absurd (subst (λ (found : Option (Subscriber Writer)). IsStarved found) none
                 (subst (λ (one : ℕ). IsStarved (row_of one new)) this starved))
             | inr (test, apart) ↦
                 inl (subst (λ (found : Option (Subscriber Writer)). IsStarved found) (same other test) starved)
-          ],
-        )
+          ];
+        }
 
     -- a subscriber that was changed at its place: the table fits on, and others aren't starved
     pub changed : (id place : ℕ) (rows new : List (Subscriber Writer)) (one : Subscriber Writer) (event : Event Writer)
@@ -331,7 +361,7 @@ module _ {Writer : Type 0} where
         → leaves id event ≡ false
         → ((lived : Life Writer) → Lives outflow id stands.row lived → Lives outflow id one (grown lived event))
         → FitsMore outflow rows new event
-        × ((other : ℕ) → nat_eq other id ≡ false → IsStarved (row_of other new) → IsStarved (row_of other rows))
+        × ((other : ℕ) → nat_eq other id ≡ false → row_of other new ≡ row_of other rows)
         × (row_of id rows ≡ Some stands.row) × (row_of id new ≡ Some one)
     changed id place rows new one event stands is_new is of stays on =
         let before : row_of id rows ≡ Some stands.row =
@@ -349,15 +379,14 @@ module _ {Writer : Type 0} where
               (changed_at id (row_of id rows) (row_of id new) (life id events) stands.row one event before after on
               lives))
               fits,
-          λ other apart starved. subst (λ (found : Option (Subscriber Writer)). IsStarved found) (same other apart)
-              starved,
+          same,
           before,
           after,
         )
 
     -- the same where it stands as it did: nobody is starved
     pub starves_by : (May : ℕ → Type 0) (id : ℕ) (rows new : List (Subscriber Writer)) (old one : Subscriber Writer)
-        → ((other : ℕ) → nat_eq other id ≡ false → IsStarved (row_of other new) → IsStarved (row_of other rows))
+        → ((other : ℕ) → nat_eq other id ≡ false → row_of other new ≡ row_of other rows)
         → row_of id rows ≡ Some old → row_of id new ≡ Some one
         → (one.standing ≡ Starved → (old.standing ≡ Starved) ⊎ May id) → StarvesOnly May rows new
     starves_by May id rows new old one others before after here other starved = elim (eqb_tells other id) [
@@ -367,5 +396,16 @@ module _ {Writer : Type 0} where
                 (subst (λ (found : Option (Subscriber Writer)). IsStarved found) (sym before) was))
             | inr may ↦ inr (subst May (sym this) may)
           ]
-      | inr (test, apart) ↦ inl (others other test starved)
+      | inr (test, apart) ↦
+          inl (subst (λ (found : Option (Subscriber Writer)). IsStarved found) (others other test) starved)
+    ]
+
+    -- where a subscriber that is served is changed, those that have failed stay as they are
+    pub stays_by : (id : ℕ) (rows new : List (Subscriber Writer)) (old : Subscriber Writer) (event : Event Writer)
+        → ((other : ℕ) → nat_eq other id ≡ false → row_of other new ≡ row_of other rows)
+        → row_of id rows ≡ Some old → old.standing ≡ Served → LeavesFailed rows new event
+    stays_by id rows new old event others before served other row stands failed = elim (eqb_tells other id) [
+      | inl (test, this) ↦ absurd (failed (ap (λ (found : Option (Subscriber Writer)). (unwrap_or found row).standing)
+          (sym stands ∙ ap (λ (one : ℕ). row_of one rows) this ∙ before) ∙ served))
+      | inr (test, apart) ↦ inl (others other test ∙ stands)
     ]

@@ -5,7 +5,7 @@ use Rattle.zmtp_wire.specs.Frame.{text}
 use Rattle.zmtp_wire.specs.Device.{Outflow, Puts}
 use Rattle.iopub_event.specs.declared.event.Event.{Event}
 use Rattle.iopub_event.specs.declared.event.Event.TheVariants.{Message, Attach, Subscribe, Cancel, Detach}
-use Rattle.iopub_relay.specs.Life.{Life, life}
+use Rattle.iopub_relay.specs.Life.{Life}
 use Rattle.iopub_relay.specs.Topics.{Holding, held, matches}
 
 -- what an event brings to whom holds these topics: the text of a message that matches them

@@ -3,7 +3,7 @@ use Rattle.std.specs.Prelude.{◌≡◌, ◌⊎◌, ⊤, ℕ, ◌<◌, Bool, tru
 use Rattle.zmtp_wire.specs.Frame.{text}
 use Rattle.zmtp_wire.specs.Device.{Outflow, Puts}
 use Rattle.iopub_event.specs.declared.event.Event.{Event}
-use Rattle.iopub_event.specs.declared.event.Event.TheVariants.{Message, Attach, Subscribe}
+use Rattle.iopub_event.specs.declared.event.Event.TheVariants.{Message, Attach, Subscribe, Detach}
 use Rattle.iopub_relay.specs.declared.subscriber.Standing.{Standing}
 use Rattle.iopub_relay.specs.declared.subscriber.Standing.TheVariants.{Served, Broken, Starved}
 use Rattle.iopub_relay.specs.declared.subscriber.Subscriber.{Subscriber}
@@ -112,11 +112,26 @@ abbrev pub StarvesOnly : {Writer : Type 0} → (ℕ → Type 0) → List (Subscr
     → Type 0
 StarvesOnly May old new = (id : ℕ) → IsStarved (row_of id new) → IsStarved (row_of id old) ⊎ May id
 
+-- a subscriber that has failed stays as it is until it leaves
+abbrev pub LeavesFailed : {Writer : Type 0} → List (Subscriber Writer) → List (Subscriber Writer) → Event Writer
+    → Type 0
+LeavesFailed {Writer} old new event =
+    (id : ℕ) (row : Subscriber Writer) → row_of id old ≡ Some row → (row.standing ≡ Served → ⊥)
+    → (row_of id new ≡ Some row) ⊎ (event ≡ Detach id)
+
+-- A table after an event: it fits one more, those that have failed stay as they are, and at most these have found no
+-- memory for a topic.
+pub record Grows {Writer : Type 0} (outflow : Writer → Outflow) (May : ℕ → Type 0) (old new : List (Subscriber Writer))
+    (event : Event Writer) : Type 0 where
+  pub fits : FitsMore outflow old new event
+  pub stays : LeavesFailed old new event
+  pub starves : StarvesOnly May old new
+
 -- what a table is after an event, by what came of it
 abbrev pub Serves : {Writer : Type 0} → (Writer → Outflow) → List (Subscriber Writer) → List (Subscriber Writer)
     → Event Writer → Outcome → Type 0
-Serves outflow old new event Done = FitsMore outflow old new event × StarvesOnly (λ id. ⊥) old new
+Serves outflow old new event Done = Grows outflow (λ id. ⊥) old new event
 Serves outflow old new event (NoTopic id) = ((topic : List ℕ) × (event ≡ Subscribe id topic))
-    × (FitsMore outflow old new event × StarvesOnly (λ other. other ≡ id) old new)
+    × (Grows outflow (λ other. other ≡ id) old new event × IsStarved (row_of id new))
 Serves {Writer} outflow old new event (NoRoom id) =
-    ((writer : Writer) × (event ≡ Attach id writer)) × (new ≡ old)
+    ((writer : Writer) × (event ≡ Attach id writer)) × ((row_of id old ≡ None) × (new ≡ old))

@@ -1,6 +1,6 @@
 //! The relay over a plain list of events.
 
-ghost use Rattle.std.specs.Prelude.{◌≡◌, ℕ, IfOk, map};
+ghost use Rattle.std.specs.Prelude.{ℕ, IfOk};
 ghost use Rattle.iopub_relay.specs.Life.{life};
 ghost use Rattle.iopub_relay.specs.Feed.{IsFed, writer_of, AreRisingIds};
 

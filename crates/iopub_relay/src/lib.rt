@@ -11,7 +11,7 @@ mod topics;
 pub use door::door_event;
 pub use feed::feed_core;
 pub use iopub_event::Event;
-pub use laws::subscriber_of_everything;
+pub use laws::{matching_is_beginning, subscriber_of_everything};
 
 #[cfg(test)]
 mod tests;

@@ -133,6 +133,9 @@ impl<W: Outlet + Drop> Table<W> {
             return Outcome::Done;
         };
         let row = &mut self.rows[place];
+        let Standing::Served = row.standing else {
+            return Outcome::Done;
+        };
         row.topics.take_out(topic.as_slice());
         Outcome::Done
     }

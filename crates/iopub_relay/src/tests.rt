@@ -1,4 +1,5 @@
-//! Tests of what no clause says: examples with ample memory, and what is left where memory is refused.
+//! Tests of what no clause says: examples with ample memory, and messages whose text wasn't built.
 
 mod door;
 mod feed;
+mod hear;

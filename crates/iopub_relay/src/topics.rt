@@ -15,7 +15,7 @@ use std::marker::Model;
 pub(crate) struct Topics {
     /// How often each is held, up to the greatest `u64`.
     counts: BTreeMap<Vec<u8>, u64>,
-    /// Those that are held more often, once for each further time. Nobody lives to see one.
+    /// Those that are held more often, once for each further time.
     further: Vec<Octets>,
 }
 

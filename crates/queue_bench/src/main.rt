@@ -29,8 +29,12 @@ fn main(rt: HostRuntime) -> io::Result<()> {
     let fourth = words.next();
     let fifth = words.next();
     let third = third.as_ref().map_or("", |word| word.as_str());
-    let fourth = fourth.as_ref().map_or(0, |word| word.as_str().parse::<u64>().unwrap_or(0));
-    let fifth = fifth.as_ref().map_or(0, |word| word.as_str().parse::<u64>().unwrap_or(0));
+    let fourth = fourth
+        .as_ref()
+        .map_or(0, |word| word.as_str().parse::<u64>().unwrap_or(0));
+    let fifth = fifth
+        .as_ref()
+        .map_or(0, |word| word.as_str().parse::<u64>().unwrap_or(0));
     match (run.as_str(), third) {
         ("rate", "word") => {
             let micros = rate::<u64, HostRuntime>(rt, line.as_str(), fourth, fifth)?;

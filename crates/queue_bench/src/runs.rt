@@ -6,12 +6,11 @@ use crossbeam_channel::bounded;
 use iopub_queue::open_queue;
 use std::alloc::Global;
 use std::collections::VecDeque;
-use std::io;
 use std::rt::Clock;
 use std::sync::{Arc, Mutex, Wait};
-use std::thread;
 use std::thread::Threads;
 use std::time::Instant;
+use std::{io, thread};
 
 /// How long a publisher pauses before an item whose way is measured, in nanoseconds.
 const PAUSE: u64 = 20_000;
@@ -85,14 +84,19 @@ where
     match line {
         "queue" => {
             let count = usize::try_from(publishers).unwrap_or(0);
-            let (entrances, taker) = open_queue::<T, R>(&rt, alloc, count, CAPACITY).map_err(wanting)?;
+            let (entrances, taker) = open_queue::<T, R>(&rt, alloc, count, CAPACITY).map_err(
+                wanting,
+            )?;
             timed::<T, _, _, R>(rt, entrances, taker, items)
         }
         "channel" => {
             let (to, from) = bounded::<T, Global>(alloc, CAPACITY)?;
             let mut entrances = Vec::new(alloc);
             for _ in 0..publishers {
-                entrances.push(Sends { to: to.clone()?, rt })?;
+                entrances.push(Sends {
+                    to: to.clone()?,
+                    rt,
+                })?;
             }
             timed::<T, _, _, R>(rt, entrances, Receives { from, rt }, items)
         }
@@ -100,7 +104,10 @@ where
             let list = Arc::new(alloc, Mutex::new(VecDeque::new(alloc)))?;
             let mut entrances = Vec::new(alloc);
             for _ in 0..publishers {
-                entrances.push(Locked { items: Arc::try_clone(&list)?, rt })?;
+                entrances.push(Locked {
+                    items: Arc::try_clone(&list)?,
+                    rt,
+                })?;
             }
             timed::<T, _, _, R>(rt, entrances, Locked { items: list, rt }, items)
         }
@@ -156,7 +163,10 @@ where
     thread.join(&rt);
     times.sort_unstable();
     let median = times.get(times.len() / 2).copied().unwrap_or(0);
-    let late = times.get(times.len().saturating_sub(times.len() / 100 + 1)).copied().unwrap_or(0);
+    let late = times
+        .get(times.len().saturating_sub(times.len() / 100 + 1))
+        .copied()
+        .unwrap_or(0);
     Ok((median, late))
 }
 
@@ -168,7 +178,9 @@ where
     let alloc = rt.alloc();
     match line {
         "queue" => {
-            let (publishers, taker) = open_queue::<u64, R>(&rt, alloc, 1, CAPACITY).map_err(wanting)?;
+            let (publishers, taker) = open_queue::<u64, R>(&rt, alloc, 1, CAPACITY).map_err(
+                wanting,
+            )?;
             let Some(publisher) = publishers.into_iter().next() else {
                 return Err(wanting(()));
             };
@@ -181,7 +193,12 @@ where
         "lock" => {
             let list = Arc::new(alloc, Mutex::new(VecDeque::new(alloc)))?;
             let other = Arc::try_clone(&list)?;
-            ways(rt, Locked { items: list, rt }, Locked { items: other, rt }, items)
+            ways(
+                rt,
+                Locked { items: list, rt },
+                Locked { items: other, rt },
+                items,
+            )
         }
         _ => Err(wanting(())),
     }

@@ -43,7 +43,7 @@ fn a_full_queue_holds_its_publisher_up(rt: HostRuntime) -> Result<(), Fail> {
                 assert_eq!(rt; (number, item), (0, 1));
                 break;
             }
-            _ => thread::yield_now(),
+            Taken::Closed(_) | Taken::Empty | Taken::Complete => thread::yield_now(),
         }
     }
     let mut is_up = false;

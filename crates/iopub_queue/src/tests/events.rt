@@ -76,20 +76,3 @@ fn a_take_of_nothing_changes_nothing(rt: HostRuntime) -> Result<(), Fail> {
     assert_eq!(rt; state.waiting.len(), 0);
     Ok(())
 }
-
-#[test]
-fn where_memory_is_wanting_the_core_says_so(rt: HostRuntime) -> Result<(), Fail> {
-    let events = vec![in rt.alloc();
-        CoreEvent::Publish(0, 7u32),
-        CoreEvent::Close(0),
-        CoreEvent::Take,
-    ]?;
-    match run_core(rt.alloc(), 1, events) {
-        Ok(state) => {
-            assert_eq!(rt; state.taken.as_slice(), [(0, Some(7))].as_slice());
-            assert_eq!(rt; state.waiting.as_slice(), [(0, None)].as_slice());
-        }
-        Err(fault) => assert_eq!(rt; fault.number(), 64),
-    }
-    Ok(())
-}

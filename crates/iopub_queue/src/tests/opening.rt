@@ -41,11 +41,3 @@ fn publishers_are_numbered_from_none(rt: HostRuntime) -> Result<(), Fail> {
     }
     Ok(())
 }
-
-#[test]
-fn where_memory_is_wanting_no_queue_is_opened(rt: HostRuntime) {
-    match open_queue::<u32, HostRuntime>(&rt, rt.alloc(), 3, 4) {
-        Ok((publishers, _)) => assert_eq!(rt; publishers.len(), 3),
-        Err(fault) => assert_eq!(rt; fault.number(), 62),
-    }
-}

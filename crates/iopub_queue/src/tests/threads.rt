@@ -2,20 +2,18 @@
 
 use crate::tests::workers::{in_thread, is_whole, take_all};
 use crate::{Settled, open_queue};
-use std::alloc::{AllocError, Global};
+use std::alloc::Global;
 use std::process::Abort;
 use std::sync::Wait;
 use std::test::Fail;
 use std::thread::Threads;
 
 /// Three publishers in threads, each with so many items: all is taken, in each publisher's order, and settled as whole.
-fn three_publishers<R>(rt: R, alloc: Global, capacity: usize, count: u32) -> Result<(), AllocError>
+fn three_publishers<R>(rt: R, alloc: Global, capacity: usize, count: u32) -> Result<(), Fail>
 where
     R: Abort + Threads + Wait + Copy + Send + Sync + Drop + 'static,
 {
-    let Ok((publishers, mut taker)) = open_queue(&rt, alloc, 3, capacity) else {
-        return Err(AllocError);
-    };
+    let (publishers, mut taker) = open_queue(&rt, alloc, 3, capacity)?;
     let mut publishers = publishers.into_iter();
     let (Some(zero), Some(one), Some(two)) = (
         publishers.next(),
@@ -46,25 +44,25 @@ where
 
 #[test]
 fn all_is_taken_through_one_place(rt: HostRuntime) -> Result<(), Fail> {
-    Ok(three_publishers(rt, rt.alloc(), 1, 1_000)?)
+    three_publishers(rt, rt.alloc(), 1, 1_000)
 }
 
 #[test]
 fn many_items_through_one_place(rt: HostRuntime) -> Result<(), Fail> {
-    Ok(three_publishers(rt, rt.alloc(), 1, 100_000)?)
+    three_publishers(rt, rt.alloc(), 1, 100_000)
 }
 
 #[test]
 fn many_items_through_two_places(rt: HostRuntime) -> Result<(), Fail> {
-    Ok(three_publishers(rt, rt.alloc(), 2, 100_000)?)
+    three_publishers(rt, rt.alloc(), 2, 100_000)
 }
 
 #[test]
 fn many_items_through_seven_places(rt: HostRuntime) -> Result<(), Fail> {
-    Ok(three_publishers(rt, rt.alloc(), 7, 100_000)?)
+    three_publishers(rt, rt.alloc(), 7, 100_000)
 }
 
 #[test]
 fn many_items_through_a_thousand_places(rt: HostRuntime) -> Result<(), Fail> {
-    Ok(three_publishers(rt, rt.alloc(), 1_024, 100_000)?)
+    three_publishers(rt, rt.alloc(), 1_024, 100_000)
 }

@@ -1,20 +1,71 @@
 //! Publishers, closing tokens, words and the taker, used one after the other.
 
-use crate::{Publish, Settled, Taken, open_queue};
+ghost use Rattle.std.specs.Prelude.{◌≡◌, IfSome};
+
+use crate::{Publish, Publisher, Settled, Taken, open_queue};
+use std::snapshot::Snapshot;
+use std::sync::Wait;
 use std::test::Fail;
+use std::thread;
+use std::thread::{Promise, PromisedHandle, Threads};
+
+/// The promise that a publisher comes back from a thread as one of the same queue and number.
+#[derive(Drop)]
+struct ComesBack<R> {
+    /// The publisher, as it went to the thread.
+    publisher: Snapshot<Publisher<char, R>>,
+}
+
+impl<R> Promise<Publisher<char, R>> for ComesBack<R> {
+    ghost use Rattle.std.specs.Prelude.{◌≡◌};
+
+    ghost kept_by = { λ promise back. (back.queue ≡ promise.publisher.value.queue)
+        × (back.number ≡ promise.publisher.value.number) };
+}
+
+/// Publishes an item.
+fn publish_item<R: Wait + Drop>(mut publisher: Publisher<char, R>, item: char) -> Publisher<char, R>
+    ensures { (result.queue ≡ publisher.queue) × (result.number ≡ publisher.number) }
+{
+    let Ok(()) = publisher.publish(item) else {
+        unreachable!();
+    };
+    publisher
+}
+
+/// The same in a thread of its own.
+fn publish_in_thread<R>(
+    rt: R,
+    publisher: Publisher<char, R>,
+    item: char,
+) -> Option<PromisedHandle<Publisher<char, R>, ComesBack<R>>>
+where
+    R: Threads + Wait + Copy + Send + Sync + Drop + 'static,
+    ensures { IfSome result (λ handle. handle.promise.publisher.value ≡ publisher) }
+{
+    let promise = ComesBack {
+        publisher: Snapshot::of(&publisher),
+    };
+    match thread::spawn_with(&rt, promise, move || publish_item(publisher, item)) {
+        Ok(handle) => Some(handle),
+        Err(_) => None,
+    }
+}
 
 #[test]
 fn closes_are_taken_and_settled(rt: HostRuntime) -> Result<(), Fail> {
     let (publishers, mut taker) = open_queue(&rt, rt.alloc(), 3, 1024)?;
     let mut publishers = publishers.into_iter();
-    let (Some(mut zero), Some(one), Some(two)) = (
+    let (Some(zero), Some(one), Some(two)) = (
         publishers.next(),
         publishers.next(),
         publishers.next(),
     ) else {
         unreachable!();
     };
-    zero.publish('a')?;
+    let mut zero = publish_in_thread(rt, zero, 'a')
+        .expect(&rt, "a thread")
+        .join(&rt);
     let word = zero.tell();
     taker.learn(word);
     assert!(rt; matches!(taker.take(), Taken::Item(0, 'a')));

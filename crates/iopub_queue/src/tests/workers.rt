@@ -23,7 +23,8 @@ pub struct Closes<R> {
 impl<R> Promise<Closed<Item>> for Closes<R> {
     ghost use Rattle.std.specs.Prelude.{◌≡◌};
 
-    ghost kept_by = { λ promise closed. (closed.queue ≡ promise.publisher.value.queue) × (closed.number ≡ promise.publisher.value.number) };
+    ghost kept_by = { λ promise closed. (closed.queue ≡ promise.publisher.value.queue)
+        × (closed.number ≡ promise.publisher.value.number) };
 }
 
 /// Publishes so many items, and closes.

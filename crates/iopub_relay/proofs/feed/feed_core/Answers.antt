@@ -16,7 +16,7 @@ loop-event-init g c = record {
 pub loop-event-preserved : goal.loop-event-preserved
 loop-event-preserved g c = record {
   served = served_more g.W.Outlet.outflow c.loop-event.yielded c.in-Some.event c.loop-event.table c.serve.new.self
-      c.loop-event.invariant.served c.in-Done.ensures.0 c.in-Done.ensures.1;
+      c.loop-event.invariant.served c.in-Done.ensures.fits c.in-Done.ensures.starves;
   rest = grind (arith, common_steps);
 }
 

@@ -53,7 +53,8 @@ returns g c =
     let more : (other : List ℕ) → holding_of c.add.new.self other ≡ (if bytes_eq topic other
     then holding_of row.topics other + 1 else holding_of row.topics other) = search rules in
     rw (← c.self.view_is) (subscribe_set c.args.id c.in-Ok.place c.self.inside.rows.items g.W.Outlet.outflow stands _
-    c.args.topic (ap (λ (one : Subscriber g.row.W.Denot). one.id) same ∙ stands.is)
+    c.args.topic (sym (ap (λ (one : Subscriber g.row.W.Denot). one.standing) same) ∙ c.in-Served.is)
+    (ap (λ (one : Subscriber g.row.W.Denot). one.id) same ∙ stands.is)
     (ap (λ (one : Subscriber g.row.W.Denot). one.writer) same)
     (ap (λ (one : Subscriber g.row.W.Denot). one.standing) same)
     (subst (λ (one : Subscriber g.row.W.Denot). (other : List ℕ) → holding_of c.add.new.self other
