@@ -10,8 +10,8 @@ mod worn;
 ghost use Rattle.std.specs.Prelude.{◌≡◌, []};
 
 use interp_core::Interpreter;
-use iopub_queue::{ListSink, Publish, Refused};
 use iopub_event::Event;
+use iopub_queue::{ListSink, Publish, Refused};
 use jmsg_envelope::{Envelope, Signer, Stamp};
 use kernel_block::{Engine, Side, Stop};
 use listed::{Frames, Octets, Text};

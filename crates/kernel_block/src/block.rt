@@ -8,8 +8,8 @@ ghost use Rattle.kernel_block.specs.Opens.{Opens, PublishesNone, Starts, ids_of_
 
 use crate::heading::Heading;
 use crate::publishing::{LAST_NUMBER, Publishing};
-use iopub_queue::Publish;
 use iopub_event::Event;
+use iopub_queue::Publish;
 use jmsg_envelope::Stamp;
 use jmsg_types::{Publication, Reply, State, content_text, reply_type};
 use listed::{Frames, Octets, Text};

@@ -5,8 +5,8 @@ ghost use Rattle.kernel_block.specs.WellBlocked.{KeepsBlocks};
 
 use crate::parts::Parts;
 use interp_core::Interpreter;
-use iopub_queue::Publish;
 use iopub_event::Event;
+use iopub_queue::Publish;
 use jmsg_envelope::Stamp;
 use std::marker::Model;
 

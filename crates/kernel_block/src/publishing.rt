@@ -8,8 +8,8 @@ ghost use Rattle.kernel_block.specs.Publications.{publication_of};
 
 use crate::heading::Heading;
 use interp_core::Output;
-use iopub_queue::Publish;
 use iopub_event::Event;
+use iopub_queue::Publish;
 use jmsg_envelope::{Signer, Stamp, header_text, seal};
 use jmsg_types::{Publication, content_text_of_publication, topic_of, type_of};
 use listed::{Frames, Row};

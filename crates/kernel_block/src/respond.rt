@@ -22,8 +22,8 @@ use crate::side::Side;
 use crate::stop::Stop;
 use crate::words::own_words;
 use interp_core::{Completeness, Completion, Info, InterpFault, Interpreter};
-use iopub_queue::Publish;
 use iopub_event::Event;
+use iopub_queue::Publish;
 use jmsg_envelope::Stamp;
 use jmsg_types::{
     ContentFault, MessageType, Publication, Reply, Request, Verdict, content_words, read_known,

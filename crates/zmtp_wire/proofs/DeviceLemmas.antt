@@ -50,19 +50,28 @@ adds_on old middle new (Ok done) first second puts adds = record {
   added = appends_on old.written middle.written new.written first second puts.added adds.added;
   fails = adds.fails ∙ puts.fails;
 }
-adds_on old middle new (Err failed) first second puts (front, lost, split, some, adds) =
-    (first ++ front, lost, ap (λ o. first ++ o) split ∙ sym (append_assoc first front lost), some, record {
-      added = appends_on old.written middle.written new.written first front puts.added adds.added;
-      fails = adds.fails ∙ ap risen puts.fails;
-    })
+adds_on old middle new (Err failed) first second puts (front, lost, split, some, adds) = (
+  first ++ front,
+  lost,
+  ap (λ o. first ++ o) split ∙ sym (append_assoc first front lost),
+  some,
+  record {
+    added = appends_on old.written middle.written new.written first front puts.added adds.added;
+    fails = adds.fails ∙ ap risen puts.fails;
+  },
+)
 
 -- a beginning of octets is one of these and others behind them
 pub adds_before : (old new : Outflow) (failed : WriteFailed) (result : Result Unit WriteFailed) (first second : List ℕ)
     → IsErr result → AddsAll old new (Err failed) first → AddsAll old new result (first ++ second)
 adds_before old new failed (Ok done) first second is adds = absurd (false≢true is)
-adds_before old new failed (Err other) first second is (front, lost, split, some, puts) =
-    (front, lost ++ second, ap (λ o. o ++ second) split ∙ append_assoc front lost second,
-      (let whole = length-append lost second in omega (arith, whole, some)), puts)
+adds_before old new failed (Err other) first second is (front, lost, split, some, puts) = (
+  front,
+  lost ++ second,
+  ap (λ o. o ++ second) split ∙ append_assoc front lost second,
+  (let whole = length-append lost second in omega (arith, whole, some)),
+  puts,
+)
 
 -- nothing is written yet
 pub put_nothing : (now : Outflow) (all : List ℕ) → PutSoFar now now all all

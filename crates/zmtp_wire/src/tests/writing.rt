@@ -64,8 +64,14 @@ fn heads_of_frames(rt: HostRuntime) {
     assert_eq!(rt; frame_head(false, 0).octets(), [0x00, 0x00].as_slice());
     assert_eq!(rt; frame_head(true, 1).octets(), [0x01, 0x01].as_slice());
     assert_eq!(rt; frame_head(true, 255).octets(), [0x01, 0xff].as_slice());
-    assert_eq!(rt; frame_head(false, 256).octets(), [0x02, 0, 0, 0, 0, 0, 0, 1, 0].as_slice());
-    assert_eq!(rt; frame_head(true, 16_777_216).octets(), [0x03, 0, 0, 0, 0, 1, 0, 0, 0].as_slice());
+    assert_eq!(rt;
+        frame_head(false, 256).octets(),
+        [0x02, 0, 0, 0, 0, 0, 0, 1, 0].as_slice()
+    );
+    assert_eq!(rt;
+        frame_head(true, 16_777_216).octets(),
+        [0x03, 0, 0, 0, 0, 1, 0, 0, 0].as_slice()
+    );
 }
 
 #[test]
@@ -90,7 +96,10 @@ fn a_message_is_written_frame_by_frame(rt: HostRuntime) -> Result<(), Fail> {
         writes: 100,
     };
     assert_eq!(rt; write_frames(&mut writer, &frames), Ok(()));
-    assert_eq!(rt; writer.octets.as_slice(), b"\x01\x0dstream.stdout\x00\x01x".as_slice());
+    assert_eq!(rt;
+        writer.octets.as_slice(),
+        b"\x01\x0dstream.stdout\x00\x01x".as_slice()
+    );
     Ok(())
 }
 
@@ -116,7 +125,10 @@ fn a_text_is_written_into_room_that_is_there(rt: HostRuntime) -> Result<(), Fail
     let frames = Vec::from_array(rt.alloc(), [output, b"x".to_vec(rt.alloc())?])?;
     let mut text = Vec::with_capacity(rt.alloc(), 18)?;
     assert_eq!(rt; write_message(rt.alloc(), &frames, &mut text), Ok(()));
-    assert_eq!(rt; text.as_slice(), b"\x01\x0dstream.stdout\x00\x01x".as_slice());
+    assert_eq!(rt;
+        text.as_slice(),
+        b"\x01\x0dstream.stdout\x00\x01x".as_slice()
+    );
     Ok(())
 }
 

@@ -18,7 +18,11 @@ impl Traffic {
         ensures { option_map (λ topic. topic.now) result ≡ subscribed_topic self.now }
     {
         let (kind, topic) = self.sole_frame()?.split_first()?;
-        if *kind == SUBSCRIBE { Some(topic) } else { None }
+        if *kind == SUBSCRIBE {
+            Some(topic)
+        } else {
+            None
+        }
     }
 
     /// The topic that a subscriber gives up by it, where it does: the octets behind the 0 that its one frame begins
