@@ -1,8 +1,10 @@
 //! The relay over a plain list of events.
 
-ghost use Rattle.std.specs.Prelude.{ℕ, IfOk};
+ghost use Rattle.std.specs.Prelude.{ℕ, IfOk, OnOk};
 ghost use Rattle.iopub_relay.specs.Life.{life};
 ghost use Rattle.iopub_relay.specs.Feed.{IsFed, writer_of, AreRisingIds};
+ghost use Rattle.iopub_relay.specs.Table.{Serves};
+ghost use Rattle.iopub_relay.specs.declared.table.Outcome.{Outcome};
 
 use crate::table::{Outcome, Table};
 use iopub_event::Event;
@@ -26,9 +28,21 @@ pub fn feed_core<W: Outlet + Drop>(
 {
     let mut table = Table::new(alloc);
     for event in events {
-        let Outcome::Done = table.serve(event) else {
-            return Err(AllocError);
-        };
+        serve_or_fail(&mut table, event)?;
     }
     table.into_writers()
+}
+
+/// Serves an event.
+///
+/// # Errors
+///
+/// Where memory was refused for what the event asks for.
+fn serve_or_fail<W: Outlet + Drop>(table: &mut Table<W>, event: Event<W>) -> Result<(), AllocError>
+    ensures { OnOk result (Serves W.outflow table.old table.new event Outcome.Done) }
+{
+    match table.serve(event) {
+        Outcome::Done => Ok(()),
+        Outcome::NoTopic(_) | Outcome::NoRoom(_) => Err(AllocError),
+    }
 }

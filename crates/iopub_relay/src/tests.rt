@@ -1,5 +1,7 @@
-//! Tests of what no clause says: examples with ample memory, and messages whose text wasn't built.
+//! Tests of what no clause says: examples with ample memory, messages whose text wasn't built, and a
+//! plain program beside the relay.
 
 mod door;
 mod feed;
 mod hear;
+mod model;

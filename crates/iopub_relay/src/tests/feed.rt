@@ -179,6 +179,52 @@ fn a_write_that_fails_at_every_place(rt: HostRuntime) -> Result<(), Fail> {
 }
 
 #[test]
+fn a_write_of_a_whole_text_that_fails_at_every_place(rt: HostRuntime) -> Result<(), Fail> {
+    for last in [Last::Fails, Last::TakesNothing] {
+        for (writes, octets) in [(0, 0), (1, 18), (2, 29), (3, 47), (4, 65)] {
+            let first = made_to_take(rt.alloc(), usize::MAX, writes, last);
+            let left = feed_core(rt.alloc(), standard(rt.alloc(), first, ample(rt.alloc()))?)?;
+            assert!(rt; got_beginning(&left, 1, EVERYTHING, octets));
+            assert!(rt; got(&left, 2, STREAMS));
+        }
+    }
+    Ok(())
+}
+
+#[test]
+fn a_writer_of_one_that_comes_twice_fails_at_every_place(rt: HostRuntime) -> Result<(), Fail> {
+    for writes in 0usize..=6 {
+        let mut events = Vec::new(rt.alloc());
+        let first = made_to_take(rt.alloc(), 1, writes, Last::Fails);
+        events.push(Event::Attach(1, first))?;
+        events.push(subscribe(rt.alloc(), 1, b"".as_slice())?)?;
+        events.push(message(rt.alloc(), &[b"a".as_slice()])?)?;
+        events.push(Event::Attach(1, ample(rt.alloc())))?;
+        events.push(message(rt.alloc(), &[b"b".as_slice()])?)?;
+        let left = feed_core(rt.alloc(), events)?;
+        assert!(rt; got_beginning(&left, 1, b"\x00\x01a\x00\x01b".as_slice(), writes));
+    }
+    Ok(())
+}
+
+#[test]
+fn a_topic_of_sixteen_mebibytes(rt: HostRuntime) -> Result<(), Fail> {
+    let long = vec![in rt.alloc(); b'a'; 16_777_216]?;
+    let mut events = Vec::new(rt.alloc());
+    events.push(Event::Attach(1, ample(rt.alloc())))?;
+    events.push(subscribe(rt.alloc(), 1, &long)?)?;
+    events.push(subscribe(rt.alloc(), 1, &long)?)?;
+    events.push(subscribe(rt.alloc(), 1, b"aa".as_slice())?)?;
+    events.push(cancel(rt.alloc(), 1, &long)?)?;
+    events.push(message(rt.alloc(), &[b"aaa".as_slice()])?)?;
+    events.push(cancel(rt.alloc(), 1, b"aa".as_slice())?)?;
+    events.push(message(rt.alloc(), &[b"aaa".as_slice()])?)?;
+    let left = feed_core(rt.alloc(), events)?;
+    assert!(rt; got(&left, 1, b"\x00\x03aaa".as_slice()));
+    Ok(())
+}
+
+#[test]
 fn a_longer_topic_matches_none(rt: HostRuntime) -> Result<(), Fail> {
     let mut events = Vec::new(rt.alloc());
     events.push(Event::Attach(1, ample(rt.alloc())))?;

@@ -15,8 +15,8 @@ loop-event-init g c = record {
 
 pub loop-event-preserved : goal.loop-event-preserved
 loop-event-preserved g c = record {
-  served = served_more g.W.Outlet.outflow c.loop-event.yielded c.in-Some.event c.loop-event.table c.serve.new.self
-      c.loop-event.invariant.served c.in-Done.ensures.fits c.in-Done.ensures.starves;
+  served = served_more g.W.Outlet.outflow c.loop-event.yielded c.in-Some.event c.loop-event.table c.serve_or_fail.new.table
+      c.loop-event.invariant.served c.in_ok-serve_or_fail.ensures.fits c.in_ok-serve_or_fail.ensures.starves;
   rest = grind (arith, common_steps);
 }
 
