@@ -149,7 +149,7 @@ fn hear(octets: &mut Vec<u8>, held: &[u64], frame: &[u8]) -> Result<(), AllocErr
     for number in held {
         if frame.starts_with(octets_of(*number)) {
             octets.push(0x00)?;
-            octets.push(frame.len() as u8)?;
+            octets.push(u8::try_from(frame.len()).unwrap_or(u8::MAX))?;
             octets.extend_from_slice(frame)?;
             return Ok(());
         }
