@@ -365,6 +365,7 @@ listening_stops hears old now decoder one two three turns between left before un
         unheard,
         refl,
         keeps_rest hears old now decoder (before ++ so_far.read) unheard so_far.heard none calm same,
+        calm,
       );
       over = λ fault is. absurd (wire_no_pause end fault is (inl stop));
     })
@@ -384,6 +385,7 @@ listening_cut hears old now decoder inflow turns before unheard so_far (none, ca
     unheard,
     refl,
     keeps_rest hears old now decoder (before ++ so_far.read) unheard so_far.heard none calm same,
+    calm,
   );
   over = λ fault is. absurd (wire_no_pause (Failed Memory) fault is (inr refl));
 })

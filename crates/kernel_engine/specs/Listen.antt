@@ -55,6 +55,7 @@ pub record IsHeardOut {Listener : Type 0} (hears : Hearing Listener) (old : List
   pub heard : Heard hears old (before ++ octets) new
   pub ends : RunsOut heard.rest end
   pub kept : IsPause end → (unheard : Unheard) × (after ≡ Some unheard) × IsLeftOf unheard heard.rest
+      × (unheard.fed.fault ≡ None)
   pub over : (fault : WireFault) → end ≡ Wire fault → after ≡ None
 
 -- The listener ended it at one traffic, which isn't the command ERROR. Nothing was read once that had come, and nothing

@@ -10,7 +10,8 @@ pub enum SessionEnd {
     Eof,
     /// The peer asked the kernel to shut down, and whether to restart it.
     Shutdown(bool),
-    /// The peer broke the protocol or sent the command ERROR, or no memory was left for its octets.
+    /// The peer broke the protocol or sent the command ERROR, or no memory was left for its octets; or, as `Spent`,
+    /// listening had ended for good before.
     Wire(WireFault),
     /// The kernel couldn't go on.
     Failed(EngineFault),

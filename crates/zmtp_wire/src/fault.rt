@@ -40,7 +40,7 @@ pub enum WireFault {
     /// The peer sent the command ERROR.
     #[error("the peer reported an error")]
     PeerError,
-    /// An earlier fault ended the reading.
+    /// The reading had ended before, by a fault or by whoever read.
     #[error("the connection was refused before")]
     Spent,
     /// No memory was left.
