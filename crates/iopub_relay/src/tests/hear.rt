@@ -101,3 +101,66 @@ fn a_write_of_a_frame_that_fails_at_every_place(rt: HostRuntime) -> Result<(), F
     }
     Ok(())
 }
+
+/// Has two subscribers hear a message of two frames, without its text.
+fn both_hear(
+    alloc: Global,
+    one: &mut Subscriber<Taker>,
+    other: &mut Subscriber<Taker>,
+    topic: &[u8],
+    body: &[u8],
+) -> Result<(), AllocError> {
+    let frames = Vec::from_array(alloc, [topic.to_vec(alloc)?, body.to_vec(alloc)?])?;
+    one.hear(&frames, None);
+    other.hear(&frames, None);
+    Ok(())
+}
+
+/// What the first subscriber of the standard list gets: 65 octets.
+const EVERYTHING: &[u8] = b"\x01\x0dstream.stdout\x00\x01x\x01\x06status\x00\x01y\
+    \x01\x0dstream.stdout\x00\x01z\x01\x0dstream.stdout\x00\x01w";
+
+/// What the second gets, which holds `stream` twice and gives it up twice: 36 octets.
+const STREAMS: &[u8] = b"\x01\x0dstream.stdout\x00\x01x\x01\x0dstream.stdout\x00\x01z";
+
+/// Has the subscribers of the standard list hear its messages, of which no text is built.
+fn standard(
+    alloc: Global,
+    one: &mut Subscriber<Taker>,
+    other: &mut Subscriber<Taker>,
+) -> Result<(), AllocError> {
+    let stdout = b"stream.stdout".as_slice();
+    other.topics.add(Octets::new(b"stream".to_vec(alloc)?))?;
+    both_hear(alloc, one, other, stdout, b"x".as_slice())?;
+    other.topics.take_out(b"stream".as_slice());
+    both_hear(alloc, one, other, b"status".as_slice(), b"y".as_slice())?;
+    both_hear(alloc, one, other, stdout, b"z".as_slice())?;
+    other.topics.take_out(b"stream".as_slice());
+    both_hear(alloc, one, other, stdout, b"w".as_slice())
+}
+
+#[test]
+fn the_standard_list_without_texts(rt: HostRuntime) -> Result<(), Fail> {
+    for width in [1, 20, usize::MAX] {
+        let mut one = subscriber_of(rt.alloc(), b"".as_slice(), width, usize::MAX)?;
+        let mut other = subscriber_of(rt.alloc(), b"stream".as_slice(), width, usize::MAX)?;
+        standard(rt.alloc(), &mut one, &mut other)?;
+        assert_eq!(rt; one.writer.octets.as_slice(), EVERYTHING);
+        assert_eq!(rt; other.writer.octets.as_slice(), STREAMS);
+    }
+    Ok(())
+}
+
+#[test]
+fn the_standard_list_without_texts_fails_at_every_place(rt: HostRuntime) -> Result<(), Fail> {
+    for writes in 0usize..65 {
+        let mut one = subscriber_of(rt.alloc(), b"".as_slice(), 1, writes)?;
+        let mut other = subscriber_of(rt.alloc(), b"stream".as_slice(), 1, usize::MAX)?;
+        standard(rt.alloc(), &mut one, &mut other)?;
+        assert_eq!(rt; one.writer.octets.len(), writes);
+        assert!(rt; EVERYTHING.starts_with(&one.writer.octets));
+        assert_eq!(rt; one.standing, Standing::Broken);
+        assert_eq!(rt; other.writer.octets.as_slice(), STREAMS);
+    }
+    Ok(())
+}
