@@ -32,8 +32,8 @@ fn main(rt: HostRuntime) -> io::Result<()> {
     let subscribers = number(subscribers.as_ref().map(|word| word.as_str()));
     let messages = number(messages.as_ref().map(|word| word.as_str()));
     let topics = number(topics.as_ref().map(|word| word.as_str()));
-    let (all, octets) = feed_micros(&rt, subscribers, messages, topics)?;
     let (without, _) = feed_micros(&rt, subscribers, 0, topics)?;
+    let (all, octets) = feed_micros(&rt, subscribers, messages, topics)?;
     let copy = copy_micros(&rt, subscribers, messages)?;
     println!(rt; "{all} {without} {copy} {octets}")
 }
