@@ -14,26 +14,36 @@ use Rattle.iopub_queue.proofs.Parts.{of_more, grown_other, one_more_is_last}
 
 module _ {T : Type 0} where
   -- lists are lawful by what is published and by the history alone
-  pub lawful_by : (n : ℕ) (old new : Lists T) → history old ≡ history new → old.published ≡ new.published → Lawful n old → Lawful n new
+  pub lawful_by : (n : ℕ) (old new : Lists T) → history old ≡ history new → old.published ≡ new.published → Lawful n old
+      → Lawful n new
   lawful_by n old new same published lawful = record {
-    parts = λ number below. ap (of number) (sym same) ∙ lawful.parts number below ∙ ap (λ (p : ℕ → List (Option T)). p number) published;
-    closes = λ number below. subst (λ (p : ℕ → List (Option T)). CloseIsLast (p number)) published (lawful.closes number below);
+    parts = λ number below. ap (of number) (sym same) ∙ lawful.parts number below
+        ∙ ap (λ (p : ℕ → List (Option T)). p number) published;
+    closes = λ number below. subst (λ (p : ℕ → List (Option T)). CloseIsLast (p number)) published
+        (lawful.closes number below);
     others = λ number above. ap (of number) (sym same) ∙ lawful.others number above;
   }
 
   -- an entry of a number that may publish
-  pub lawful_entered : (n : ℕ) (state : Lists T) (entry : Entry T) → Lawful n state → IsOpen n state entry.0 → Lawful n (entered state entry)
+  pub lawful_entered : (n : ℕ) (state : Lists T) (entry : Entry T) → Lawful n state → IsOpen n state entry.0
+      → Lawful n (entered state entry)
   lawful_entered n state entry lawful free =
-      let regroup : state.taken ++ (state.waiting ++ entry ∷ []) ≡ history state ++ entry ∷ [] = sym (append_assoc state.taken state.waiting (entry ∷ [])) in
-      let part_of : (number : ℕ) → of number (history (entered state entry)) ≡ grown (λ other. of other (history state)) entry.0 entry.1 number =
+      let regroup : state.taken ++ (state.waiting ++ entry ∷ []) ≡ history state ++ entry ∷ [] =
+      sym (append_assoc state.taken state.waiting (entry ∷ [])) in
+      let part_of : (number : ℕ) → of number (history (entered state entry))
+      ≡ grown (λ other. of other (history state)) entry.0 entry.1 number =
       λ number. ap (of number) regroup ∙ of_more (history state) entry number in
       record {
         parts = λ number below. part_of number ∙ same_grown entry.0 entry.1 number (lawful.parts number below);
-        closes = λ number below. cond_both (entry.0 == number) (state.published number ++ entry.1 ∷ []) (state.published number) CloseIsLast
-            (λ is. one_more_is_last (state.published number) entry.1 (subst (λ other. HasNoClose (state.published other)) (eqb-true entry.0 number is) free.open_list))
+        closes = λ number below. cond_both (entry.0 == number) (state.published number ++ entry.1 ∷ [])
+            (state.published number) CloseIsLast
+            (λ is. one_more_is_last (state.published number) entry.1
+            (subst (λ other. HasNoClose (state.published other)) (eqb-true entry.0 number is) free.open_list))
             (λ _. lawful.closes number below);
-        others = λ number above. let known : entry.0 < n = free.known in let apart : entry.0 ≢ number = λ is. omega arith in
-            part_of number ∙ grown_other (λ other. of other (history state)) entry.0 entry.1 number apart ∙ lawful.others number above;
+        others = λ number above. let known : entry.0 < n = free.known in
+            let apart : entry.0 ≢ number = λ is. omega arith in
+            part_of number ∙ grown_other (λ other. of other (history state)) entry.0 entry.1 number apart
+            ∙ lawful.others number above;
       }
     where
       same_grown : (number : ℕ) (part : Option T) (other : ℕ) → of other (history state) ≡ state.published other
@@ -43,11 +53,13 @@ module _ {T : Type 0} where
   -- a take
   pub lawful_take : (n : ℕ) (state : Lists T) → Lawful n state → Lawful n (happened state Take)
   lawful_take n state lawful = lawful_by n state (happened state Take)
-      (ap (λ l. state.taken ++ l) (sym (take-append-drop 1 state.waiting)) ∙ sym (append_assoc state.taken (take 1 state.waiting) (drop 1 state.waiting)))
+      (ap (λ l. state.taken ++ l) (sym (take-append-drop 1 state.waiting))
+      ∙ sym (append_assoc state.taken (take 1 state.waiting) (drop 1 state.waiting)))
       refl lawful
 
   -- any event that is allowed
-  pub lawful_stays : (n : ℕ) (state : Lists T) (event : CoreEvent T) → Lawful n state → IsAllowed n state event → Lawful n (happened state event)
+  pub lawful_stays : (n : ℕ) (state : Lists T) (event : CoreEvent T) → Lawful n state → IsAllowed n state event
+      → Lawful n (happened state event)
   lawful_stays n state (Publish number item) lawful free = lawful_entered n state (number, Some item) lawful free
   lawful_stays n state (Close number) lawful free = lawful_entered n state (number, None) lawful free
   lawful_stays n state Take lawful free = lawful_take n state lawful
@@ -66,4 +78,5 @@ module _ {T : Type 0} where
   pub allowed_more : (n : ℕ) (state : Lists T) (events : List (CoreEvent T)) (event : CoreEvent T)
       → AreAllowed n state events → IsAllowed n (after state events) event → AreAllowed n state (events ++ event ∷ [])
   allowed_more n state [] event allowed last = (last, tt)
-  allowed_more n state (first ∷ events) event allowed last = (allowed.0, allowed_more n (happened state first) events event allowed.1 last)
+  allowed_more n state (first ∷ events) event allowed last =
+      (allowed.0, allowed_more n (happened state first) events event allowed.1 last)

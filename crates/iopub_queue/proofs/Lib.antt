@@ -6,5 +6,7 @@ pub mod Parts
 pub mod Lawfulness
 pub mod Marking
 pub mod Seats
+pub mod Holding
+pub mod Handing
 pub mod Tokens
 pub mod Moves

@@ -68,7 +68,8 @@ module _ {A : Type 0} where
       (λ _. starts_itself other)
       (λ is. let above : length other ≤ length one = ltb-false _ _ is in ⊎_elim
       (λ (of_one : StartsWith one other). of_one)
-      (λ (of_other : StartsWith other one). subst (λ l. StartsWith one l) (no_longer one other of_other above) (starts_itself one))
+      (λ (of_other : StartsWith other one). subst (λ l. StartsWith one l) (no_longer one other of_other above)
+      (starts_itself one))
       agree)
 
   -- agreement goes both ways
@@ -87,7 +88,9 @@ module _ {A : Type 0} where
   nothing_last (x ∷ front) rest is = cc
 
   -- the end of a list is empty, or has its last element
-  pub last_of : (front rest before : List A) (x : A) → front ++ rest ≡ before ++ x ∷ [] → (rest ≡ []) ⊎ ((r : List A) × (rest ≡ r ++ x ∷ []))
+  pub last_of : (front rest before : List A) (x : A) → front ++ rest ≡ before ++ x ∷ []
+      → (rest ≡ []) ⊎ ((r : List A) × (rest ≡ r ++ x ∷ []))
   last_of [] rest before x is = inr (before, is)
   last_of (y ∷ front) rest [] x is = let none : front ++ rest ≡ [] = cc in inl (nothing_last front rest none)
-  last_of (y ∷ front) rest (z ∷ before) x is = let tails : front ++ rest ≡ before ++ x ∷ [] = cc in last_of front rest before x tails
+  last_of (y ∷ front) rest (z ∷ before) x is = let tails : front ++ rest ≡ before ++ x ∷ [] = cc in
+      last_of front rest before x tails

@@ -51,8 +51,13 @@ module _ {T : Type 0} where
     each = λ other below. ⊎_elim
         (λ (same : number ≡ other).
         subst (λ at. IsMarked (get_or (set marks number true) at false) (grown part number None at)) same
-        (rw (get_or-set_same marks number true false (rw marked.counted known), grown_own part number None) (part number, refl)))
-        (λ (apart : number ≢ other). rw (get_or-set_other marks number other true false (λ is. apart (sym is)), grown_other part number None other apart)
+        (rw (get_or-set_same marks number true false (rw marked.counted known), grown_own part number None)
+        (part number, refl)))
+        (λ (apart : number ≢ other). rw (
+          get_or-set_other marks number other true false
+              (λ is. apart (sym is)),
+          grown_other part number None other apart,
+        )
         (marked.each other below))
         (cases_eq number other);
   }
@@ -65,17 +70,20 @@ unmarked_less (true ∷ marks) zero within is = absurd (true≢false is)
 unmarked_less (false ∷ marks) zero within is = omega arith
 unmarked_less (true ∷ marks) (suc number) within is = unmarked_less marks number (omega arith) is
 unmarked_less (false ∷ marks) (suc number) within is =
-    let less : unmarked (set marks number true) + 1 ≡ unmarked marks = unmarked_less marks number (omega arith) is in omega arith
+    let less : unmarked (set marks number true) + 1 ≡ unmarked marks = unmarked_less marks number (omega arith) is in
+    omega arith
 
 -- where none isn't marked, each is
-pub all_marked : (marks : List Bool) → unmarked marks ≡ 0 → (number : ℕ) → number < length marks → get_or marks number false ≡ true
+pub all_marked : (marks : List Bool) → unmarked marks ≡ 0 → (number : ℕ) → number < length marks
+    → get_or marks number false ≡ true
 all_marked [] none number within = absurd (omega arith)
 all_marked (true ∷ marks) none zero within = refl
 all_marked (true ∷ marks) none (suc number) within = all_marked marks none number (omega arith)
 all_marked (false ∷ marks) none number within = absurd (omega arith)
 
 -- where each is marked, none isn't
-pub none_unmarked : (marks : List Bool) → ((number : ℕ) → number < length marks → get_or marks number false ≡ true) → unmarked marks ≡ 0
+pub none_unmarked : (marks : List Bool) → ((number : ℕ) → number < length marks → get_or marks number false ≡ true)
+    → unmarked marks ≡ 0
 none_unmarked [] each = refl
 none_unmarked (true ∷ marks) each = none_unmarked marks (λ number within. each (suc number) (omega arith))
 none_unmarked (false ∷ marks) each = absurd (true≢false (sym (each 0 (omega arith))))

@@ -1,12 +1,13 @@
 -- Each step, split and join keeps the rule of the queue.
 use Rattle.std.proofs.Common.{◌≡◌, ◌≢◌, ℕ, zero, suc, ◌+◌, ◌<◌, List, [], ◌∷◌, ◌++◌, length, set, refl, sym, ap, ◌∙◌}
-use Rattle.std.proofs.Common.{subst, append_assoc}
+use Rattle.std.proofs.Common.{subst, append_assoc, inl}
 use Rattle.std.proofs.Common.{arith, eq-eqb, ne_eqb}
 use Rattle.std.specs.Prelude.{Some, None, ◌==◌, if◌then◌else◌, All}
 use Rattle.std.proofs.lemmas.Bool.{cond_both, eqb-true, eqb-false}
 use Rattle.std.proofs.lemmas.List.Elements.{All-append}
 use mathlib.Core.Option.{some, some-injective, some-ne-none}
 use lib.ListN.{get_elem?}
+use Rattle.atomic_table.proofs.Lists.{at_last}
 use Rattle.crossbeam_queue.specs.Fifo.{Pushes, Pops, Forks, Merges, Learns}
 use Rattle.iopub_queue.specs.declared.view.Role.TheVariants.{Publishes, Takes, Tells, Spent}
 use Rattle.iopub_queue.specs.declared.view.Ended.{Ended}
@@ -14,16 +15,20 @@ use Rattle.iopub_queue.specs.declared.view.View.{View}
 use Rattle.iopub_queue.specs.Entries.{Entry, StartsWith, of, HasNoClose, CloseIsLast}
 use Rattle.iopub_queue.specs.Lawful.{Lawful, history, grown, entered, IsOpen}
 use Rattle.iopub_queue.specs.Views.{taking, spent, told_of, one_more, newcomer, word_of, learnt, settled_with}
-use Rattle.iopub_queue.specs.Rule.{Standing, core_of, HoldsNumber, IsSettled, Knows, Kept}
+use Rattle.iopub_queue.specs.Rule.{Standing, core_of, HoldsNumber, IsSettled, Knows, IsHeldBy, Kept}
 use Rattle.iopub_queue.specs.Steps.{Published, Took, Sees}
 use Rattle.iopub_queue.proofs.Lists.{starts_itself, starts_more, longer_has}
 use Rattle.iopub_queue.proofs.Parts.{grown_other}
 use Rattle.iopub_queue.proofs.Lawfulness.{lawful_entered, lawful_take}
 use Rattle.iopub_queue.proofs.Seats.{Each, each_set, was_there, each_more}
+use Rattle.iopub_queue.proofs.Holding.{held_set, held_without, held_apart, held_more, held_there, word_has_none}
+use Rattle.iopub_queue.proofs.Holding.{closed_has_no_other, taker_keeps, settled_before, settled_now}
 
 -- a number that was there is what it was
-as_before : {A : Type 0} (numbers number : ℕ) (new old : A) → number < numbers → (if numbers == number then new else old) ≡ old
-as_before numbers number new old below = let apart : numbers ≢ number = λ is. omega arith in rw (ne_eqb numbers number apart) refl
+as_before : {A : Type 0} (numbers number : ℕ) (new old : A) → number < numbers
+    → (if numbers == number then new else old) ≡ old
+as_before numbers number new old below = let apart : numbers ≢ number = λ is. omega arith in
+    rw (ne_eqb numbers number apart) refl
 
 module _ {T : Type 0} where
   -- a seat has one role
@@ -32,7 +37,8 @@ module _ {T : Type 0} where
 
   -- a seat that only saw something
   only_saw : (standing : Standing T) (waiting : List (Entry T)) (seat : ℕ) (view : View T)
-      → StartsWith (history (core_of standing waiting)) view.seen → StartsWith (history (core_of standing waiting)) view.heard
+      → StartsWith (history (core_of standing waiting)) view.seen
+      → StartsWith (history (core_of standing waiting)) view.heard
       → view.role ≢ Publishes → view.role ≢ Takes → Knows standing waiting seat view
   only_saw standing waiting seat view seen heard no_publisher no_taker = record {
     seen = seen;
@@ -47,6 +53,7 @@ module _ {T : Type 0} where
     standing = record { numbers = 0; taker = 0; seat = λ _. 0; published = λ _. []; taken = [] };
     lawful = record { parts = λ _ _. refl; closes = λ _ _. tt; others = λ _ _. refl };
     each = first_seat;
+    held = λ number below. absurd (omega arith);
   }
     where
       at_first : Standing T
@@ -73,7 +80,8 @@ module _ {T : Type 0} where
       → standing.seat entry.0 ≡ seat → other ≢ seat → Knows standing waiting other view
       → Knows (pushed standing entry) (waiting ++ entry ∷ []) other view
   knows_pushed standing waiting entry seat other view own apart knows =
-      let stays : (number : ℕ) → standing.seat number ≡ other → grown standing.published entry.0 entry.1 number ≡ standing.published number =
+      let stays : (number : ℕ) → standing.seat number ≡ other → grown standing.published entry.0 entry.1 number
+      ≡ standing.published number =
       λ number of_other. grown_other standing.published entry.0 entry.1 number
       (λ same. apart (sym of_other ∙ ap standing.seat (sym same) ∙ own)) in
       record {
@@ -121,7 +129,8 @@ module _ {T : Type 0} where
 
   -- the rule after a push
   kept_pushed : (waiting : List (Entry T)) (views : List (View T)) (seat : ℕ) (view : View T) (entry : Entry T)
-      → view.role ≡ Publishes → entry.0 ≡ view.number → HasNoClose view.published → (kept : Kept waiting views) → get_elem? views seat ≡ some view
+      → view.role ≡ Publishes → entry.0 ≡ view.number → HasNoClose view.published → (kept : Kept waiting views)
+      → get_elem? views seat ≡ some view
       → IsOpen kept.standing.numbers (core_of kept.standing waiting) entry.0
       × Kept (waiting ++ entry ∷ []) (set views seat (pusher view kept.standing waiting entry))
   kept_pushed waiting views seat view entry role number free kept at =
@@ -135,17 +144,24 @@ module _ {T : Type 0} where
         record {
           standing = pushed standing entry;
           lawful = lawful_entered standing.numbers (core_of standing waiting) entry kept.lawful may;
-          each = each_set (Knows (pushed standing entry) (waiting ++ entry ∷ [])) views seat (pusher view standing waiting entry)
+          each = each_set (Knows (pushed standing entry) (waiting ++ entry ∷ [])) views seat
+              (pusher view standing waiting entry)
               (knows_own standing waiting entry seat view role number holds)
-              (λ other there apart at_other. knows_pushed standing waiting entry seat other there own apart (kept.each other there at_other));
+              (λ other there apart at_other. knows_pushed standing waiting entry seat other there own apart
+              (kept.each other there at_other));
+          held = λ number below. held_set views seat view (pusher view standing waiting entry)
+              (standing.seat number) number at
+              (λ has. has) (kept.held number below);
         },
       )
 
   -- a push of an entry by the seat of its number
-  pub publishes : (capacity seat : ℕ) (view : View T) (entry : Entry T) → view.role ≡ Publishes → entry.0 ≡ view.number → HasNoClose view.published
+  pub publishes : (capacity seat : ℕ) (view : View T) (entry : Entry T) → view.role ≡ Publishes → entry.0 ≡ view.number
+      → HasNoClose view.published
       → Pushes Kept capacity seat view entry (Published view entry)
   publishes capacity seat view (number, Some item) role is free waiting views short kept at =
-      let entry : Entry T = (number, Some item) in let after = kept_pushed waiting views seat view entry role is free kept at in
+      let entry : Entry T = (number, Some item) in
+      let after = kept_pushed waiting views seat view entry role is free kept at in
       let knows = kept.each seat view at in (
         pusher view kept.standing waiting entry,
         after.1,
@@ -161,7 +177,8 @@ module _ {T : Type 0} where
         },
       )
   publishes capacity seat view (number, None) role is free waiting views short kept at =
-      let entry : Entry T = (number, None) in let after = kept_pushed waiting views seat view entry role is free kept at in
+      let entry : Entry T = (number, None) in
+      let after = kept_pushed waiting views seat view entry role is free kept at in
       let knows = kept.each seat view at in (
         pusher view kept.standing waiting entry,
         after.1,
@@ -182,9 +199,11 @@ module _ {T : Type 0} where
   popped standing entry = record standing { taken = standing.taken ++ entry ∷ [] }
 
   -- what is known of the history stays after a pop
-  starts_popped : (taken waiting : List (Entry T)) (entry : Entry T) (front : List (Entry T)) → StartsWith (taken ++ entry ∷ waiting) front
+  starts_popped : (taken waiting : List (Entry T)) (entry : Entry T) (front : List (Entry T))
+      → StartsWith (taken ++ entry ∷ waiting) front
       → StartsWith ((taken ++ entry ∷ []) ++ waiting) front
-  starts_popped taken waiting entry front starts = subst (λ l. StartsWith l front) (sym (append_assoc taken (entry ∷ []) waiting)) starts
+  starts_popped taken waiting entry front starts =
+      subst (λ l. StartsWith l front) (sym (append_assoc taken (entry ∷ []) waiting)) starts
 
   -- a pop by the taker
   pub takes : (seat : ℕ) (view : View T) → view.role ≡ Takes → Pops Kept seat view (Took view)
@@ -215,9 +234,12 @@ module _ {T : Type 0} where
               (λ other there apart at_other. let others = kept.each other there at_other in record {
                 seen = starts_popped standing.taken waiting entry there.seen others.seen;
                 heard = starts_popped standing.taken waiting entry there.heard others.heard;
-                publishes = λ is. let number = others.publishes is in record { known = number.known; own = number.own; list = number.list };
+                publishes = λ is. let number = others.publishes is in
+                    record { known = number.known; own = number.own; list = number.list };
                 takes = λ is. absurd (apart ((others.takes is).own ∙ sym holds.own));
               });
+          held = λ number below. held_set views seat view taker (standing.seat number) number at (λ has. has)
+              (kept.held number below);
         },
         record {
           state = core_of standing (entry ∷ waiting);
@@ -236,7 +258,12 @@ module _ {T : Type 0} where
   sees seat view role waiting views kept at =
       let standing = kept.standing in let knows = kept.each seat view at in let holds = knows.takes role in record {
         published = standing.published;
-        lawful = subst (λ (x : ℕ × List (Entry T)). Lawful x.0 record { taken = x.1; waiting = waiting; published = standing.published })
+        lawful =
+            subst (λ (x : ℕ × List (Entry T)). Lawful x.0 record {
+              taken = x.1;
+              waiting = waiting;
+              published = standing.published;
+            })
             (λ k. (holds.numbers k, holds.taken k)) kept.lawful;
         seen = subst (λ l. StartsWith (l ++ waiting) view.seen) holds.taken knows.seen;
         heard = subst (λ l. StartsWith (l ++ waiting) view.heard) holds.taken knows.heard;
@@ -257,10 +284,12 @@ module _ {T : Type 0} where
     taken = standing.taken;
   }
 
-  lawful_opened : (standing : Standing T) (waiting : List (Entry T)) (seat : ℕ) → Lawful standing.numbers (core_of standing waiting)
+  lawful_opened : (standing : Standing T) (waiting : List (Entry T)) (seat : ℕ)
+      → Lawful standing.numbers (core_of standing waiting)
       → Lawful (standing.numbers + 1) (core_of (opened standing seat) waiting)
   lawful_opened standing waiting seat lawful = record {
-    parts = λ number below. cond_both (standing.numbers == number) [] (standing.published number) (λ l. of number (standing.taken ++ waiting) ≡ l)
+    parts = λ number below. cond_both (standing.numbers == number) [] (standing.published number)
+        (λ l. of number (standing.taken ++ waiting) ≡ l)
         (λ is. let same : standing.numbers ≡ number = eqb-true _ _ is in lawful.others number (omega arith))
         (λ is. lawful.parts number (let apart : standing.numbers ≢ number = eqb-false _ _ is in omega arith));
     closes = λ number below. cond_both (standing.numbers == number) [] (standing.published number) CloseIsLast
@@ -270,16 +299,18 @@ module _ {T : Type 0} where
   }
 
   -- what a seat knows stays with one more number
-  knows_opened : (standing : Standing T) (waiting : List (Entry T)) (new seat : ℕ) (view : View T) → view.role ≢ Takes → Knows standing waiting seat view
+  knows_opened : (standing : Standing T) (waiting : List (Entry T)) (new seat : ℕ) (view : View T) → view.role ≢ Takes
+      → Knows standing waiting seat view
       → Knows (opened standing new) waiting seat view
   knows_opened standing waiting new seat view no_taker knows = record {
     seen = knows.seen;
     heard = knows.heard;
-    publishes = λ is. let holds = knows.publishes is in let known : view.number < standing.numbers = holds.known in record {
-      known = omega arith;
-      own = as_before standing.numbers view.number new (standing.seat view.number) known ∙ holds.own;
-      list = as_before standing.numbers view.number [] (standing.published view.number) known ∙ holds.list;
-    };
+    publishes = λ is. let holds = knows.publishes is in
+        let known : view.number < standing.numbers = holds.known in record {
+          known = omega arith;
+          own = as_before standing.numbers view.number new (standing.seat view.number) known ∙ holds.own;
+          list = as_before standing.numbers view.number [] (standing.published view.number) known ∙ holds.list;
+        };
     takes = λ is. absurd (no_taker is);
   }
 
@@ -309,7 +340,8 @@ module _ {T : Type 0} where
               };
             }
             (λ other there apart at_other. knows_opened standing waiting new other there
-            (λ is. apart (((kept.each other there at_other).takes is).own ∙ sym holds.own)) (kept.each other there at_other)))
+            (λ is. apart (((kept.each other there at_other).takes is).own ∙ sym holds.own))
+            (kept.each other there at_other)))
             record {
               seen = (_, refl);
               heard = (_, refl);
@@ -320,6 +352,17 @@ module _ {T : Type 0} where
               };
               takes = λ is. absurd (let both : Publishes ≡ Takes = is in cc);
             };
+        held = λ number below. cond_both (standing.numbers == number) new (standing.seat number)
+            (λ holder. IsHeldBy (others ++ newcomer view ∷ []) holder number)
+            (λ is. record {
+              view = newcomer view;
+              there = at_last others (newcomer view) new refl;
+              holds = inl (refl, sym holds.numbers ∙ eqb-true _ _ is);
+            })
+            (λ is. let apart : standing.numbers ≢ number = eqb-false _ _ is in held_more others (newcomer view)
+            (standing.seat number) number
+            (held_set views seat view (one_more view) (standing.seat number) number at (taker_keeps view number role)
+            (kept.held number (omega arith))));
       }
 
   -- a word is split off
@@ -329,17 +372,21 @@ module _ {T : Type 0} where
         standing = standing;
         lawful = kept.lawful;
         each = each_more (Knows standing waiting) (set views seat view) (word_of view)
-            (each_set (Knows standing waiting) views seat view knows (λ other there apart at_other. kept.each other there at_other))
+            (each_set (Knows standing waiting) views seat view knows
+            (λ other there apart at_other. kept.each other there at_other))
             (only_saw standing waiting _ (word_of view)
             (longer_has (StartsWith (history (core_of standing waiting))) view.seen view.heard knows.seen knows.heard)
             (_, refl)
             (λ is. let both : Tells ≡ Publishes = is in cc)
             (λ is. let both : Tells ≡ Takes = is in cc));
+        held = λ number below. held_more (set views seat view) (word_of view) (standing.seat number) number
+            (held_set views seat view view (standing.seat number) number at (λ has. has) (kept.held number below));
       }
 
   -- a word is taken in
-  pub learns : (seat : ℕ) (view : View T) (other : ℕ) (word : View T) → Merges Kept seat view other word (learnt view word) spent
-  learns seat view other word waiting views kept at apart at_word =
+  pub learns : (seat : ℕ) (view : View T) (other : ℕ) (word : View T) → word.role ≡ Tells
+      → Merges Kept seat view other word (learnt view word) spent
+  learns seat view other word tells waiting views kept at apart at_word =
       let standing = kept.standing in let knows = kept.each seat view at in
       let theirs = kept.each other word (was_there views seat other (learnt view word) word apart at_word) in record {
         standing = standing;
@@ -349,9 +396,12 @@ module _ {T : Type 0} where
             (λ is. let both : Spent ≡ Publishes = is in cc) (λ is. let both : Spent ≡ Takes = is in cc))
             (λ third there _ at_third. each_set (Knows standing waiting) views seat (learnt view word)
             record {
-              seen = longer_has (StartsWith (history (core_of standing waiting))) view.seen view.heard knows.seen knows.heard;
-              heard = longer_has (StartsWith (history (core_of standing waiting))) word.seen word.heard theirs.seen theirs.heard;
-              publishes = λ is. let holds = knows.publishes is in record { known = holds.known; own = holds.own; list = holds.list };
+              seen = longer_has (StartsWith (history (core_of standing waiting))) view.seen view.heard knows.seen
+                  knows.heard;
+              heard = longer_has (StartsWith (history (core_of standing waiting))) word.seen word.heard theirs.seen
+                  theirs.heard;
+              publishes = λ is. let holds = knows.publishes is in
+                  record { known = holds.known; own = holds.own; list = holds.list };
               takes = λ is. let holds = knows.takes is in record {
                 own = holds.own;
                 numbers = holds.numbers;
@@ -360,26 +410,35 @@ module _ {T : Type 0} where
               };
             }
             (λ fourth were _ at_fourth. kept.each fourth were at_fourth) third there at_third);
+        held = λ number below. held_without (set views seat (learnt view word)) other word spent
+            (standing.seat number) number at_word
+            (word_has_none word number tells)
+            (held_set views seat view (learnt view word) (standing.seat number) number at (λ has. has)
+            (kept.held number below));
       }
 
   -- what the rule keeps after a settling: the number's seat is the taker's
   abbrev handed_over : Standing T → ℕ → Standing T
-  handed_over standing number = record standing { seat = λ other. if number == other then standing.taker else standing.seat other }
+  handed_over standing number =
+      record standing { seat = λ other. if number == other then standing.taker else standing.seat other }
 
   -- a publisher's seat is taken in
   pub settles : (seat : ℕ) (view : View T) (other : ℕ) (closed : View T) → view.role ≡ Takes → closed.role ≡ Publishes
       → Merges Kept seat view other closed (settled_with view closed) spent
   settles seat view other closed role their_role waiting views kept at apart at_closed =
       let standing = kept.standing in let knows = kept.each seat view at in let holds = knows.takes role in
-      let theirs = kept.each other closed (was_there views seat other (settled_with view closed) closed apart at_closed) in
+      let theirs =
+      kept.each other closed (was_there views seat other (settled_with view closed) closed apart at_closed) in
       let number = theirs.publishes their_role in let new = handed_over standing closed.number in
-      let ended : Ended T = record { number = closed.number; published = closed.published; told = told_of closed } in record {
+      let ended : Ended T =
+      record { number = closed.number; published = closed.published; told = told_of closed } in record {
         standing = new;
         lawful = record { parts = kept.lawful.parts; closes = kept.lawful.closes; others = kept.lawful.others };
         each = each_set (Knows new waiting) (set views seat (settled_with view closed)) other spent
             (only_saw new waiting other spent (_, refl) (_, refl)
             (λ is. let both : Spent ≡ Publishes = is in cc) (λ is. let both : Spent ≡ Takes = is in cc))
-            (λ third there not_other at_third. each_set (λ at_seat v. at_seat ≢ other → Knows new waiting at_seat v) views seat (settled_with view closed)
+            (λ third there not_other at_third. each_set (λ at_seat v. at_seat ≢ other → Knows new waiting at_seat v)
+            views seat (settled_with view closed)
             (λ _. record {
               seen = knows.seen;
               heard = knows.heard;
@@ -391,7 +450,8 @@ module _ {T : Type 0} where
                 settled = All-append (IsSettled new waiting) view.settled (ended ∷ [])
                     (λ k d within. let old = holds.settled k d within in record {
                       known = old.known;
-                      own = cond_both (closed.number == _) standing.taker (standing.seat _) (λ s. s ≡ standing.taker) (λ _. refl) (λ _. old.own);
+                      own = cond_both (closed.number == _) standing.taker (standing.seat _) (λ s. s ≡ standing.taker)
+                          (λ _. refl) (λ _. old.own);
                       list = old.list;
                       told = old.told;
                     })
@@ -399,7 +459,8 @@ module _ {T : Type 0} where
                       known = number.known;
                       own = rw (eq-eqb closed.number closed.number refl) refl;
                       list = number.list;
-                      told = longer_has (StartsWith (history (core_of standing waiting))) closed.seen closed.heard theirs.seen theirs.heard;
+                      told = longer_has (StartsWith (history (core_of standing waiting))) closed.seen closed.heard
+                          theirs.seen theirs.heard;
                     });
               };
             })
@@ -407,13 +468,26 @@ module _ {T : Type 0} where
               seen = known.seen;
               heard = known.heard;
               publishes = λ is. let own = known.publishes is in
-                  let differs : closed.number ≢ were.number = λ same. not_closed (sym own.own ∙ ap standing.seat (sym same) ∙ number.own) in record {
+                  let differs : closed.number ≢ were.number =
+                  λ same. not_closed (sym own.own ∙ ap standing.seat (sym same) ∙ number.own) in record {
                     known = own.known;
                     own = rw (ne_eqb closed.number were.number differs) own.own;
                     list = own.list;
                   };
               takes = λ is. absurd (not_seat ((known.takes is).own ∙ sym holds.own));
             }) third there at_third not_other);
+        held = λ at_number below. cond_both (closed.number == at_number) standing.taker (standing.seat at_number)
+            (λ holder. IsHeldBy (set (set views seat (settled_with view closed)) other spent) holder at_number)
+            (λ is. subst (λ (x : ℕ × ℕ). IsHeldBy (set (set views seat (settled_with view closed)) other spent) x.0 x.1)
+            (λ k. (holds.own k, eqb-true closed.number at_number is k))
+            (held_apart (set views seat (settled_with view closed)) other spent seat closed.number
+            (λ same. apart (sym same))
+            (held_there views seat view (settled_with view closed) closed.number at (settled_now view closed role))))
+            (λ is. held_without (set views seat (settled_with view closed)) other closed spent
+            (standing.seat at_number) at_number at_closed
+            (closed_has_no_other closed at_number their_role (eqb-false _ _ is))
+            (held_set views seat view (settled_with view closed) (standing.seat at_number) at_number at
+            (settled_before view closed at_number role) (kept.held at_number below)));
       }
     where
       only_one : {X : Type 0} (P : X → Type 0) (x : X) → P x → All P (x ∷ [])

@@ -27,12 +27,20 @@ module _ {T : Type 0} where
   one_newcomer : (queue : TableId) (first more : ℕ)
       → newcomers {T = T} queue first (more + 1)
       ≡ newcomers queue first more ++ record { queue = queue; number = first + more; published = []; told = [] } ∷ []
-  one_newcomer queue first zero = λ k. record { queue = queue; number = sym (add-zero first) k; published = []; told = [] } ∷ []
+  one_newcomer queue first zero =
+      λ k. record { queue = queue; number = sym (add-zero first) k; published = []; told = [] } ∷ []
   one_newcomer queue first (suc more) =
-      let next : suc more + 1 ≡ suc (more + 1) = omega arith in let far : first + 1 + more ≡ first + suc more = omega arith in
+      let next : suc more + 1 ≡ suc (more + 1) = omega arith in
+      let far : first + 1 + more ≡ first + suc more = omega arith in
       ap (newcomers {T = T} queue first) next
-      ∙ ap (λ l. record { queue = queue; number = first; published = []; told = [] } ∷ l) (one_newcomer queue (first + 1) more
-      ∙ ap (λ n. newcomers queue (first + 1) more ++ record { queue = queue; number = n; published = []; told = [] } ∷ []) far)
+      ∙ ap (λ l. record { queue = queue; number = first; published = []; told = [] } ∷ l)
+      (one_newcomer queue (first + 1) more
+      ∙ ap (λ n. newcomers queue (first + 1) more ++ record {
+        queue = queue;
+        number = n;
+        published = [];
+        told = [];
+      } ∷ []) far)
 
   -- the taker with so many numbers
   abbrev pub begun : ℕ → View T
@@ -54,7 +62,8 @@ module _ {T : Type 0} where
     }
 
     -- a publisher that was split off may publish
-    pub may_publish : (old seat : Pass (Entry T) (View T)) (publishers : List (Publishing T)) (number : ℕ) → Opened old publishers number
+    pub may_publish : (old seat : Pass (Entry T) (View T)) (publishers : List (Publishing T)) (number : ℕ)
+        → Opened old publishers number
         → IsPassOf line seat → view seat ≡ newcomer (view old) → MayPublish line seat number
     may_publish old seat publishers number opened of_line is =
         let new : view seat ≡ newcomer (begun number) = is ∙ ap newcomer opened.known in record {
@@ -68,7 +77,8 @@ module _ {T : Type 0} where
         }
 
     -- one more
-    pub opened_more : (old new seat : Pass (Entry T) (View T)) (publishers : List (Publishing T)) (number : ℕ) → Opened old publishers number
+    pub opened_more : (old new seat : Pass (Entry T) (View T)) (publishers : List (Publishing T)) (number : ℕ)
+        → Opened old publishers number
         → IsSamePass old new → view new ≡ one_more (view old) → IsPassOf line seat → view seat ≡ newcomer (view old)
         → Opened new (publishers ++ publishing seat ∷ []) (number + 1)
     opened_more old new seat publishers number opened same is of_line seat_is =
@@ -77,7 +87,8 @@ module _ {T : Type 0} where
         let here : seat.table_id ≡ new.table_id = of_line.0 ∙ sym opened.seat_of.0 ∙ sym same.0 in record {
           seat_of = stays_of line old new opened.seat_of same;
           known = is ∙ ap one_more opened.known;
-          fresh = ap (λ l. l ++ publishing seat ∷ []) (opened.fresh ∙ ap (λ queue. newcomers queue 0 number) (sym same.0))
+          fresh = ap (λ l. l ++ publishing seat ∷ []) (opened.fresh
+              ∙ ap (λ queue. newcomers queue 0 number) (sym same.0))
               ∙ ap (λ p. newcomers new.table_id 0 number ++ p ∷ []) (λ k. record {
                 queue = here k;
                 number = (ap (λ (v : View T). v.number) newest ∙ counted) k;
@@ -88,14 +99,16 @@ module _ {T : Type 0} where
         }
 
     -- the taker of all
-    pub may_take : (seat : Pass (Entry T) (View T)) (publishers : List (Publishing T)) (n : ℕ) (marks : List Bool) → Opened seat publishers n
+    pub may_take : (seat : Pass (Entry T) (View T)) (publishers : List (Publishing T)) (n : ℕ) (marks : List Bool)
+        → Opened seat publishers n
         → marks ≡ replicate n false → MayTake line seat marks n
     may_take seat publishers n marks opened is = record {
       seat_of = opened.seat_of;
       role = ap (λ (v : View T). v.role) opened.known;
       marked = subst (λ (v : View T). Marks v.number marks (λ number. of number v.taken)) (sym opened.known) record {
         counted = ap length is ∙ length-replicate n false;
-        each = λ number below. subst (λ mark. IsMarked mark (of {T = T} number [])) (sym (ap (λ l. get_or l number false) is ∙ get_or-replicate n number false false below)) tt;
+        each = λ number below. subst (λ mark. IsMarked mark (of {T = T} number []))
+            (sym (ap (λ l. get_or l number false) is ∙ get_or-replicate n number false false below)) tt;
       };
       counted = sym (ap unmarked is ∙ unmarked_all n);
       closes = subst (λ (v : View T). (number : ℕ) → CloseIsLast (of number v.taken)) (sym opened.known) (λ number. tt);
@@ -103,7 +116,8 @@ module _ {T : Type 0} where
     }
 
     -- all were opened
-    pub opens_all : (seat : Pass (Entry T) (View T)) (publishers : List (Publishing T)) (n : ℕ) → Opened seat publishers n
+    pub opens_all : (seat : Pass (Entry T) (View T)) (publishers : List (Publishing T)) (n : ℕ)
+        → Opened seat publishers n
         → Opens n publishers (taking_by seat)
     opens_all seat publishers n opened = record {
       fresh = opened.fresh;

@@ -9,8 +9,10 @@ use Rattle.iopub_queue.proofs.Parts.{of_append, of_own}
 
 module _ {T : Type 0} where
   -- an entry has a place in the part of its number
-  longer_part : (entries : List (Entry T)) (entry : Entry T) → length (of entry.0 (entries ++ entry ∷ [])) ≡ length (of entry.0 entries) + 1
-  longer_part entries entry = ap length (of_append entry.0 entries (entry ∷ []) ∙ ap (λ l. of entry.0 entries ++ l) (of_own entry.0 entry.1 []))
+  longer_part : (entries : List (Entry T)) (entry : Entry T)
+      → length (of entry.0 (entries ++ entry ∷ [])) ≡ length (of entry.0 entries) + 1
+  longer_part entries entry =
+      ap length (of_append entry.0 entries (entry ∷ []) ∙ ap (λ l. of entry.0 entries ++ l) (of_own entry.0 entry.1 []))
       ∙ length-append (of entry.0 entries) (entry.1 ∷ [])
 
   pub keeps_order : OrderIsKept T

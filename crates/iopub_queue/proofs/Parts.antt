@@ -17,7 +17,8 @@ module _ {T : Type 0} where
       (filter (λ (entry : Entry T). entry.0 == number) ys)
 
   -- an entry of the number begins its part
-  pub of_own : (number : ℕ) (part : Option T) (rest : List (Entry T)) → of number ((number, part) ∷ rest) ≡ part ∷ of number rest
+  pub of_own : (number : ℕ) (part : Option T) (rest : List (Entry T))
+      → of number ((number, part) ∷ rest) ≡ part ∷ of number rest
   of_own number part rest = rw (eq-eqb number number refl) refl
 
   -- an entry of another number isn't in the part
@@ -88,14 +89,16 @@ module _ {T : Type 0} where
 
   -- behind a close comes nothing
   pub nothing_behind : (part behind : List (Option T)) → CloseIsLast (part ++ behind) → EndsWithClose part → behind ≡ []
-  nothing_behind part behind last (front, is) = behind_close front behind (subst CloseIsLast (ap (λ l. l ++ behind) is ∙ append_assoc front (None ∷ []) behind) last) where
-    behind_close : (front behind : List (Option T)) → CloseIsLast (front ++ None ∷ behind) → behind ≡ []
-    behind_close [] behind last = last
-    behind_close (None ∷ front) behind last = absurd (not_empty front behind last) where
-      not_empty : (front behind : List (Option T)) → front ++ None ∷ behind ≡ [] → ⊥
-      not_empty [] behind is = cc
-      not_empty (x ∷ front) behind is = cc
-    behind_close (Some item ∷ front) behind last = behind_close front behind last
+  nothing_behind part behind last (front, is) =
+      behind_close front behind
+      (subst CloseIsLast (ap (λ l. l ++ behind) is ∙ append_assoc front (None ∷ []) behind) last) where
+        behind_close : (front behind : List (Option T)) → CloseIsLast (front ++ None ∷ behind) → behind ≡ []
+        behind_close [] behind last = last
+        behind_close (None ∷ front) behind last = absurd (not_empty front behind last) where
+          not_empty : (front behind : List (Option T)) → front ++ None ∷ behind ≡ [] → ⊥
+          not_empty [] behind is = cc
+          not_empty (x ∷ front) behind is = cc
+        behind_close (Some item ∷ front) behind last = behind_close front behind last
 
   -- a part that ends with a close has one
   pub closed_is_not_open : (part : List (Option T)) → EndsWithClose part → HasNoClose part → ⊥

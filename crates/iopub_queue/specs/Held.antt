@@ -1,13 +1,18 @@
 -- What is true of every token, by its type.
-use Rattle.std.specs.Prelude.{◌≡◌, ℕ, Bool, Option, List}
+use Rattle.std.specs.Prelude.{◌≡◌, ℕ, Bool, Option, List, []}
 use Rattle.crossbeam_queue.specs.declared.array_queue.Doing.{Doing}
 use Rattle.crossbeam_queue.specs.declared.array_queue.Slotted.{Slotted}
 use Rattle.crossbeam_queue.specs.Passes.{Pass, view, IsPassOf}
-use Rattle.iopub_queue.specs.declared.view.Role.TheVariants.{Publishes, Takes}
+use Rattle.iopub_queue.specs.declared.view.Role.TheVariants.{Publishes, Takes, Tells}
 use Rattle.iopub_queue.specs.declared.view.View.{View}
 use Rattle.iopub_queue.specs.Entries.{Entry, Agree, of, HasNoClose, CloseIsLast}
 use Rattle.iopub_queue.specs.Views.{told_of}
 use Rattle.iopub_queue.specs.Marks.{Marks, unmarked}
+
+-- A word holds a seat that tells, with which no slot of the queue is out.
+pub record MayTell {T : Type 0} (seat : Pass (Entry T) (View T)) : Type 0 where
+  pub back : seat.me.1 ≡ []
+  pub role : (view seat).role ≡ Tells
 
 module _ {T Q A : Type 0} where
   -- A publisher or a closing token holds the seat of its number at the queue, and what it was told of has all that it

@@ -1,6 +1,6 @@
 -- The rule of the queue: at each moment there is one lawful state of the core, whose waiting list is what the queue
 -- holds, and each seat knows what its role lets it know of that state.
-use Rattle.std.specs.Prelude.{◌≡◌, ℕ, ◌<◌, Option, List, All}
+use Rattle.std.specs.Prelude.{◌≡◌, ℕ, ◌<◌, ◌⊎◌, Option, List, map, All, Contains}
 use mathlib.Core.Option.{some}
 use lib.ListN.{get_elem?}
 use Rattle.iopub_queue.specs.declared.view.Role.TheVariants.{Publishes, Takes}
@@ -50,8 +50,24 @@ module _ {T : Type 0} where
     pub publishes : view.role ≡ Publishes → HoldsNumber standing seat view
     pub takes : view.role ≡ Takes → HoldsTaken standing waiting seat view
 
-  -- The rule.
+  -- a publisher's seat, or its closing token's, has this number
+  abbrev pub PublishesAs : ℕ → View T → Type 0
+  PublishesAs number view = (view.role ≡ Publishes) × (view.number ≡ number)
+
+  -- the taker's seat, and it settled with the publisher of this number
+  abbrev pub SettledWith : ℕ → View T → Type 0
+  SettledWith number view = (view.role ≡ Takes) × Contains (map (λ ended. ended.number) view.settled) number
+
+  -- A seat holds a number: it's a publisher's or a closing token's of this number, or the taker's that settled with it.
+  pub record IsHeldBy (views : List (View T)) (seat number : ℕ) : Type 0 where
+    pub view : View T
+    pub there : get_elem? views seat ≡ some view
+    pub holds : PublishesAs number view ⊎ SettledWith number view
+
+  -- The rule: the core's state is lawful, each seat knows its part of it, and each number that was split off is held by
+  -- its seat.
   pub record Kept (waiting : List (Entry T)) (views : List (View T)) : Type 0 where
     pub standing : Standing T
     pub lawful : Lawful standing.numbers (core_of standing waiting)
     pub each : (seat : ℕ) (view : View T) → get_elem? views seat ≡ some view → Knows standing waiting seat view
+    pub held : (number : ℕ) → number < standing.numbers → IsHeldBy views (standing.seat number) number

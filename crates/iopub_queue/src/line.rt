@@ -2,7 +2,7 @@
 
 ghost use Rattle.std.specs.Prelude.{◌≡◌, ◌<◌, [], List, IfOk, MatchOption};
 ghost use Rattle.crossbeam_queue.specs.Passes.{view, IsSamePass, IsPassOf};
-ghost use Rattle.iopub_queue.specs.declared.view.Role.TheVariants.{Publishes, Takes};
+ghost use Rattle.iopub_queue.specs.declared.view.Role.TheVariants.{Publishes, Takes, Tells};
 ghost use Rattle.iopub_queue.specs.Entries.{HasNoClose};
 ghost use Rattle.iopub_queue.specs.Views.{taking, one_more, newcomer, word_of, learnt, settled_with};
 ghost use Rattle.iopub_queue.specs.Steps.{Published, Took, Sees};
@@ -28,6 +28,7 @@ pub fn open_line<T>(alloc: Global, capacity: usize) -> Result<(Line<T>, Seat<T>)
     requires { 0 < capacity }
     ensures { IfOk result (λ made. IsPassOf made.0 made.1 × (view made.1 ≡ taking)) }
 {
+    prove!(size_of::<Seat<T>>() == 0);
     Line::ruled(alloc, capacity)
 }
 
@@ -96,6 +97,7 @@ pub fn split_word<T>(line: &Line<T>, seat: &mut Seat<T>) -> Seat<T>
 /// Takes a word in.
 pub fn join_word<T>(line: &Line<T>, seat: &mut Seat<T>, word: Seat<T>)
     requires seat { IsPassOf line.now seat.old × IsPassOf line.now word }
+    requires role { (view word).role ≡ Tells }
     ensures seat { IsSamePass seat.old seat.new }
     ensures learnt { view seat.new ≡ learnt (view seat.old) (view word) }
 {

@@ -16,10 +16,10 @@ impl<T> Model for Word<T> {
 
     ghost Value = { Told T };
 
-    ghost use Rattle.std.specs.Prelude.{◌≡◌, []};
     ghost use Rattle.iopub_queue.specs.Values.{telling};
+    ghost use Rattle.iopub_queue.specs.Held.{MayTell};
 
     ghost view = { λ word. telling word.seat };
 
-    ghost invariant = { λ word. word.seat.me.1 ≡ [] };
+    ghost invariant = { λ word. MayTell word.seat };
 }

@@ -1,4 +1,5 @@
-//! Words told between publishers in threads: what a word tells of is taken before what was published after it.
+//! Words told between publishers that run at the same time: what a word tells of is taken before what was published
+//! after it.
 
 ghost use Rattle.std.specs.Prelude.{◌≡◌, IfSome};
 
@@ -14,6 +15,9 @@ use std::thread::{Promise, PromisedHandle, Threads};
 
 /// How often the publishers tell one another.
 const ROUNDS: u32 = 40;
+
+/// How many items a publisher publishes between two words.
+const ITEMS: u32 = 50;
 
 /// A publisher, and a word of it.
 #[derive(Drop)]
@@ -38,7 +42,7 @@ impl<R> Promise<Speaker<R>> for Speaks<R> {
         × (speaker.word.queue ≡ promise.publisher.value.queue) };
 }
 
-/// Publishes an item behind a word, and tells.
+/// Publishes the items of a round, the first behind a word, and tells.
 fn speak<R: Wait>(mut publisher: Publisher<Item, R>, word: Word<Item>, round: u32) -> Speaker<R>
     requires { word.queue ≡ publisher.queue }
     ensures { (result.publisher.queue ≡ publisher.queue) × (result.word.queue ≡ publisher.queue) }
@@ -47,6 +51,11 @@ fn speak<R: Wait>(mut publisher: Publisher<Item, R>, word: Word<Item>, round: u3
     let Ok(()) = publisher.publish_after(word, (number, round)) else {
         unreachable!();
     };
+    for _ in 1..ITEMS {
+        let Ok(()) = publisher.publish((number, round)) else {
+            unreachable!();
+        };
+    }
     let word = publisher.tell();
     Speaker { publisher, word }
 }
@@ -81,28 +90,23 @@ fn taken_by<R: Wait + Drop>(
     take_all(&rt, alloc, &mut taker)
 }
 
-/// The place of an item in a list.
-fn place_of(taken: &[(usize, Option<Item>)], item: Item) -> Option<usize> {
-    taken.iter().position(|entry| entry.1 == Some(item))
-}
-
-/// In each round publisher 0 publishes behind a word of publisher 1, and then 1 behind a word of 0, each in a thread of
-/// its own, while the taker takes in another.
+/// In each round both publishers publish at the same time, each in a thread of its own and behind the word that the
+/// other told in the round before, while the taker takes in a third.
 fn rounds<R>(rt: R, mut zero: Publisher<Item, R>, mut one: Publisher<Item, R>)
 where
     R: Abort + Threads + Wait + Copy + Send + Sync + Drop + 'static,
     requires { zero.queue ≡ one.queue }
 {
+    let mut of_zero = zero.tell();
+    let mut of_one = one.tell();
     for round in 0..ROUNDS {
-        let word = one.tell();
-        let speaker = speak_in_thread(rt, zero, word, round)
-            .expect(&rt, "a thread")
-            .join(&rt);
-        zero = speaker.publisher;
-        let speaker = speak_in_thread(rt, one, speaker.word, round)
-            .expect(&rt, "a thread")
-            .join(&rt);
-        one = speaker.publisher;
+        let first = speak_in_thread(rt, zero, of_one, round).expect(&rt, "a thread");
+        let second = speak_in_thread(rt, one, of_zero, round).expect(&rt, "a thread");
+        let (first, second) = (first.join(&rt), second.join(&rt));
+        zero = first.publisher;
+        of_zero = first.word;
+        one = second.publisher;
+        of_one = second.word;
     }
     let Ok(_) = zero.close() else { unreachable!() };
     let Ok(_) = one.close() else { unreachable!() };
@@ -118,13 +122,16 @@ fn what_a_word_tells_is_taken_first(rt: HostRuntime) -> Result<(), Fail> {
     let takes = thread::spawn(&rt, move || taken_by(rt, rt.alloc(), taker))?;
     rounds(rt, zero, one);
     let taken = takes.join(&rt)?;
-    assert_eq!(rt; taken.len(), 2 * ROUNDS as usize + 2);
-    let mut last = None;
+    assert_eq!(rt; taken.len(), 2 * (ROUNDS * ITEMS) as usize + 2);
+    let items = taken.iter().filter_map(|entry| entry.1);
+    for (place, (_, round)) in items.enumerate() {
+        // All of a round, of both publishers, stands before all of the next.
+        let wanted = place / (2 * ITEMS as usize);
+        assert_eq!(rt; round as usize, wanted, "at place {place}");
+    }
     for round in 0..ROUNDS {
-        let zero = place_of(taken.as_slice(), (0, round));
-        let one = place_of(taken.as_slice(), (1, round));
-        assert!(rt; last < zero && zero < one, "in round {round}");
-        last = one;
+        let of_zero = taken.iter().filter(|entry| entry.1 == Some((0, round)));
+        assert_eq!(rt; of_zero.count(), ITEMS as usize, "in round {round}");
     }
     Ok(())
 }

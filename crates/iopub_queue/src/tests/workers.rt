@@ -63,11 +63,11 @@ where
 }
 
 /// Takes until nothing comes any more.
-pub fn take_all<R: Wait>(
+pub fn take_all<T: Drop, R: Wait>(
     rt: &R,
     alloc: Global,
-    taker: &mut Taker<Item, R>,
-) -> Result<Vec<(usize, Option<Item>)>, AllocError>
+    taker: &mut Taker<T, R>,
+) -> Result<Vec<(usize, Option<T>)>, AllocError>
     ensures { taker.new.queue ≡ taker.old.queue }
 {
     let mut taken = Vec::new(alloc);

@@ -8,4 +8,5 @@ invariant_of-self g c = let may = c.self.invariant in
 
 pub returns-clause-adds : goal.returns-clause-adds
 returns-clause-adds g c = rw (← c.self.view_is)
-    (adds_by c.self.inside.seat c.push.new.seat _ _ c.self.invariant.holds.named c.push.ensures.seat c.push.ensures.published)
+    (adds_by c.self.inside.seat c.push.new.seat _ _ c.self.invariant.holds.named c.push.ensures.seat
+    c.push.ensures.published)

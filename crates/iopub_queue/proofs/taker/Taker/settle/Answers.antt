@@ -9,7 +9,8 @@ returns-then-index-clause-settled g c =
     subst (λ (b : Bool). b ≡ get_or marks c.closed.inside.number b) c.if-index.true c.index.ensures in
     rw (← c.self.view_is, ← c.closed.view_is)
     (settles_by _ c.self.inside.seat c.join_publisher.new.taker c.closed.inside.seat _ _ sees.0 true c.self.invariant
-    c.join_publisher.ensures.settled sees.1 (subst (λ n. true ≡ get_or marks n true) (sym c.closed.invariant.named) mark))
+    c.join_publisher.ensures.settled sees.1 (subst (λ n. true ≡ get_or marks n true)
+    (sym c.closed.invariant.named) mark))
 
 pub returns-clause-settled : goal.returns-clause-settled
 returns-clause-settled g c =
@@ -18,4 +19,5 @@ returns-clause-settled g c =
     subst (λ (b : Bool). b ≡ get_or marks c.closed.inside.number b) c.if-index.false c.index.ensures in
     rw (← c.self.view_is, ← c.closed.view_is)
     (settles_by _ c.self.inside.seat c.join_publisher.new.taker c.closed.inside.seat _ _ sees.0 false c.self.invariant
-    c.join_publisher.ensures.settled sees.1 (subst (λ n. false ≡ get_or marks n false) (sym c.closed.invariant.named) mark))
+    c.join_publisher.ensures.settled sees.1 (subst (λ n. false ≡ get_or marks n false)
+    (sym c.closed.invariant.named) mark))

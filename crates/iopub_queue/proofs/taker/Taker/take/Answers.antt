@@ -3,7 +3,8 @@ use Rattle.iopub_queue.proofs.Tokens.{complete_by, finds_nothing, takes_item, ta
 use Rattle.iopub_queue.proofs.taker.Taker.take.Goals as goal
 
 pub returns-then-self-eq0-clause-given : goal.returns-then-self-eq0-clause-given
-returns-then-self-eq0-clause-given g c = rw (← c.self.view_is) (refl, complete_by _ c.self.inside.seat _ _ c.self.invariant c.if-self-eq0.true)
+returns-then-self-eq0-clause-given g c =
+    rw (← c.self.view_is) (refl, complete_by _ c.self.inside.seat _ _ c.self.invariant c.if-self-eq0.true)
 
 pub invariant_of-self-in-Some-default-Some : goal.invariant_of-self-in-Some-default-Some
 invariant_of-self-in-Some-default-Some g c =
