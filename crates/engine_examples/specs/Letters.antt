@@ -1,7 +1,7 @@
 -- A language whose cells are letters, each of which is a step: what it means.
-use Rattle.std.proofs.Common.{zero, suc, inl, inr, refl, sym, ◌∙◌, ap, subst}
+use Rattle.std.proofs.Common.{zero, suc, sym, ◌∙◌, ap, subst}
 use Rattle.std.specs.Prelude.{◌≡◌, ⊤, ℕ, List, [], ◌∷◌, length, Bool, true, false, ◌==◌, if◌then◌else◌}
-use Rattle.std.specs.Prelude.{Option, Some, None, Result, Ok, Err, codes}
+use Rattle.std.specs.Prelude.{Option, Some, None, Ok, Err, codes}
 use Rattle.interp_core.specs.Interpreter.{FailsOwn, HasOwn, IsEnd, Laws, Meaning}
 use Rattle.interp_core.specs.declared.answer.Next.{Next}
 use Rattle.interp_core.specs.declared.answer.Next.TheVariants.{More, Done, Failed}

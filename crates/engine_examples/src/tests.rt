@@ -108,18 +108,6 @@ impl Publish for Refusing {
     ghost same_may_refuse = { λ _ _ _. (λ _. tt, λ _. tt) };
 }
 
-/// Never says yes.
-#[derive(Clone, Copy, Debug)]
-struct Never;
-
-impl Stop for Never {
-    ghost may_ask = { λ _. ⊥ };
-
-    fn asked(&self) -> bool {
-        false
-    }
-}
-
 /// Says yes each time but so many at first.
 #[derive(Drop)]
 struct After {
@@ -137,13 +125,26 @@ impl Stop for After {
     }
 }
 
-/// A request of this type and content, whose message id is `q`.
-fn request(alloc: Global, msg_type: &str, content: &str) -> Result<Envelope, Fail> {
-    let header = format!(in alloc; "{{\"msg_id\":\"q\",\"msg_type\":\"{msg_type}\"}}")?;
+/// A stop that says no so often at first.
+fn stop_after(noes: u64) -> After {
+    After {
+        left: Cell::new(noes),
+    }
+}
+
+/// How often a stop says no that never says yes.
+const ALWAYS: u64 = u64::MAX;
+
+/// The id and the type of a request.
+type Asker<'a> = (&'a str, &'a str);
+
+/// A request of this content.
+fn request(alloc: Global, (msg_id, msg_type): Asker<'_>, content: &str) -> Result<Envelope, Fail> {
+    let header = format!(in alloc; "{{\"msg_id\":\"{msg_id}\",\"msg_type\":\"{msg_type}\"}}")?;
     Ok(Envelope {
         identities: Frames::new(Vec::new(alloc)),
         header: Octets::new(header.into_bytes()),
-        msg_id: Text::new(String::from_str(alloc, "q")?),
+        msg_id: Text::new(String::from_str(alloc, msg_id)?),
         msg_type: Text::new(String::from_str(alloc, msg_type)?),
         parent: Octets::new(Vec::new(alloc)),
         metadata: Octets::new(Vec::new(alloc)),
@@ -155,14 +156,23 @@ fn request(alloc: Global, msg_type: &str, content: &str) -> Result<Envelope, Fai
 /// A message that is to come: its topic, or nothing where it is a reply, its type, the number of its id, its content.
 type Due<'a> = (&'a str, &'a str, u64, &'a str);
 
+/// The status that the kernel is busy.
+const BUSY: &str = r#"{"execution_state":"busy"}"#;
+
+/// The status that the kernel is idle.
+const IDLE: &str = r#"{"execution_state":"idle"}"#;
+
 /// The message as a text: its frames, each on a line of its own, behind the topic where there is one.
-fn due_text(alloc: Global, parent_type: &str, due: Due<'_>) -> Result<String, Fail> {
-    let (topic, msg_type, number, content) = due;
+fn due_text(
+    alloc: Global,
+    (parent_id, parent_type): Asker<'_>,
+    (topic, msg_type, number, content): Due<'_>,
+) -> Result<String, Fail> {
     let behind = if topic.is_empty() { "" } else { "\n" };
     Ok(format!(in alloc;
         "{topic}{behind}<IDS|MSG>\n\n{{\"date\":\"{DATE}\",\"msg_id\":\"s{number}\",\"msg_type\":\"{msg_type}\",\
         \"session\":\"s\",\"username\":\"kernel\",\"version\":\"5.3\"}}\n\
-        {{\"msg_id\":\"q\",\"msg_type\":\"{parent_type}\"}}\n{{}}\n{content}"
+        {{\"msg_id\":\"{parent_id}\",\"msg_type\":\"{parent_type}\"}}\n{{}}\n{content}"
     )?)
 }
 
@@ -183,30 +193,31 @@ fn expect(
     rt: &impl Abort,
     alloc: Global,
     frames: &Frames,
-    parent_type: &str,
+    asker: Asker<'_>,
     due: Due<'_>,
 ) -> Result<(), Fail> {
-    let due = due_text(alloc, parent_type, due)?;
+    let due = due_text(alloc, asker, due)?;
     let text = frames_text(alloc, frames)?;
     assert_eq!(rt; text.as_str(), due.as_str());
     Ok(())
 }
 
-/// That the items are these messages, for requests of one type.
-fn expect_all(
+/// That items begin with these messages of one request: the items behind them.
+fn expect_block<'i>(
     rt: &impl Abort,
     alloc: Global,
-    items: &[Event<()>],
-    parent_type: &str,
+    items: &'i [Event<()>],
+    asker: Asker<'_>,
     dues: &[Due<'_>],
-) -> Result<(), Fail> {
-    assert_eq!(rt; items.len(), dues.len(), "how many messages");
+) -> Result<&'i [Event<()>], Fail> {
+    let behind = items.get(dues.len()..).ok_or("too few messages")?;
     for (item, due) in items.iter().zip(dues.iter()) {
-        if let Event::Message(frames) = item {
-            expect(rt, alloc, frames, parent_type, *due)?;
-        }
+        let Event::Message(frames) = item else {
+            return Err(Fail::from("a message"));
+        };
+        expect(rt, alloc, frames, asker, *due)?;
     }
-    Ok(())
+    Ok(behind)
 }
 
 /// That a reply is the one which is to come, or that none is.
@@ -214,80 +225,107 @@ fn expect_reply(
     rt: &impl Abort,
     alloc: Global,
     reply: Option<&Frames>,
-    parent_type: &str,
+    asker: Asker<'_>,
     due: Option<Due<'_>>,
 ) -> Result<(), Fail> {
     assert_eq!(rt;
         reply.is_some(),
         due.is_some(),
-        "whether {parent_type} is replied to"
+        "whether {} is replied to",
+        asker.1
     );
     if let (Some(frames), Some(due)) = (reply, due) {
-        expect(rt, alloc, frames, parent_type, due)?;
+        expect(rt, alloc, frames, asker, due)?;
     }
     Ok(())
 }
 
-/// An engine that is tried: requests are handled one after the other, and then what it published is looked at.
-#[derive(Drop)]
-struct Trial<I: Interpreter> {
-    /// The engine, whose sink keeps a list.
-    engine: Engine<I, ListSink<Event<()>>, OneDate, ()>,
+/// What is published of a request.
+type Block<'a> = (Asker<'a>, &'a [Due<'a>]);
+
+/// That the items are the messages of these blocks.
+fn expect_blocks(
+    rt: &impl Abort,
+    alloc: Global,
+    items: &[Event<()>],
+    blocks: &[Block<'_>],
+) -> Result<(), Fail> {
+    let mut behind = items;
+    for (asker, dues) in blocks.iter().copied() {
+        behind = expect_block(rt, alloc, behind, asker, dues)?;
+    }
+    assert_eq!(rt; behind.len(), 0, "too many messages");
+    Ok(())
 }
 
-impl<I: Interpreter + Drop> Trial<I>
+/// A request of an example, whose id is `q`, and what comes of it.
+#[derive(Clone, Copy)]
+struct Step<'a> {
+    /// Its type and its content.
+    asked: (&'a str, &'a str),
+    /// What is published of it.
+    published: &'a [Due<'a>],
+    /// Its reply, where it has one.
+    reply: Option<Due<'a>>,
+    /// Whether the kernel is to end then, to begin anew, and to interrupt the cell that runs.
+    marks: (bool, bool, bool),
+}
+
+/// The marks of a request of which the kernel is to do nothing.
+const NO_MARKS: (bool, bool, bool) = (false, false, false);
+
+/// An engine whose sink keeps a list.
+type Listing<I> = Engine<I, ListSink<Event<()>>, OneDate, ()>;
+
+/// Has an engine handle a request, while a stop says no so often at first: that it is replied to as it is to be.
+fn handle<I: Interpreter>(
+    rt: &impl Abort,
+    alloc: Global,
+    engine: &mut Listing<I>,
+    noes: u64,
+    step: &Step<'_>,
+) -> Result<(), Fail> {
+    let (msg_type, content) = step.asked;
+    let asker = ("q", msg_type);
+    let asked = request(alloc, asker, content)?;
+    let handled = engine.handle(alloc, asked, &stop_after(noes))?;
+    let marks = (handled.end, handled.restart, handled.interrupt);
+    assert_eq!(rt; marks, step.marks, "{msg_type} {content}");
+    expect_reply(rt, alloc, handled.reply.as_ref(), asker, step.reply)
+}
+
+/// Has a fresh engine of this channel handle requests one after the other, while a stop says no so often at first: that
+/// each is published and replied to as it is to be.
+fn follow<I: Interpreter + Drop>(
+    rt: &impl Abort,
+    alloc: Global,
+    (side, interp): (Side, I),
+    noes: u64,
+    steps: &[Step<'_>],
+) -> Result<(), Fail>
 where
     I::Cell: Drop,
 {
-    /// An engine of this channel over an interpreter.
-    fn new(alloc: Global, side: Side, interp: I) -> Trial<I> {
-        let signer = Signer::new(Vec::new(alloc));
-        let engine = Engine::new(side, interp, ListSink::new(alloc), OneDate, signer);
-        Trial { engine }
+    let signer = Signer::new(Vec::new(alloc));
+    let mut engine = Engine::new(side, interp, ListSink::new(alloc), OneDate, signer);
+    for step in steps {
+        handle(rt, alloc, &mut engine, noes, step)?;
     }
+    let publishing = engine.close().into_parts().publishing;
+    expect_published(rt, alloc, publishing.sink.items(), steps)
+}
 
-    /// Has a request handled, which is to be replied so, with these marks: end, restart, interrupt.
-    fn ask_with<T: Stop>(
-        mut self,
-        rt: &impl Abort,
-        alloc: Global,
-        stop: &T,
-        (msg_type, content): (&str, &str),
-        due: Option<Due<'_>>,
-        marks: (bool, bool, bool),
-    ) -> Result<Trial<I>, Fail> {
-        let asked = request(alloc, msg_type, content)?;
-        let handled = self.engine.handle(alloc, asked, stop)?;
-        expect_reply(rt, alloc, handled.reply.as_ref(), msg_type, due)?;
-        assert_eq!(rt;
-            (handled.end, handled.restart, handled.interrupt),
-            marks,
-            "{msg_type}"
-        );
-        Ok(self)
+/// That the items are what is published of these requests.
+fn expect_published(
+    rt: &impl Abort,
+    alloc: Global,
+    items: &[Event<()>],
+    steps: &[Step<'_>],
+) -> Result<(), Fail> {
+    let mut behind = items;
+    for step in steps {
+        behind = expect_block(rt, alloc, behind, ("q", step.asked.0), step.published)?;
     }
-
-    /// The same of a request after which the kernel is to do nothing, while nobody stops it.
-    fn ask(
-        self,
-        rt: &impl Abort,
-        alloc: Global,
-        asked: (&str, &str),
-        due: Option<Due<'_>>,
-    ) -> Result<Trial<I>, Fail> {
-        self.ask_with(rt, alloc, &Never, asked, due, (false, false, false))
-    }
-
-    /// That the engine published these messages, for requests of one type.
-    fn published(
-        self,
-        rt: &impl Abort,
-        alloc: Global,
-        parent_type: &str,
-        dues: &[Due<'_>],
-    ) -> Result<(), Fail> {
-        let parts = self.engine.close().into_parts();
-        let publishing = parts.publishing;
-        expect_all(rt, alloc, publishing.sink.items(), parent_type, dues)
-    }
+    assert_eq!(rt; behind.len(), 0, "too many messages");
+    Ok(())
 }

@@ -16,6 +16,7 @@ pub mod ServeStays
 pub mod SessionOnce
 pub mod ShakeLemmas
 pub mod SightLemmas
+pub mod SinkLemmas
 pub mod TellLemmas
 pub mod TrafficLemmas
 pub mod Unfinished

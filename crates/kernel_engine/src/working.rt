@@ -173,6 +173,9 @@ where
     ensures tells { IsTold result → (left : ℕ) × Exchange (TellsSession I.meaning P.items_of S.meaning S.id_text
         S.is_date (T.may_ask stop.now) engine.old) (R.inflow reader.old) (R.inflow reader.new)
         (W.outflow writer.old) (W.outflow writer.new) turns left engine.new result }
+
+    // However it ended, the engine publishes to the sink that it had.
+    ensures sink { P.is_same engine.old.publishing.sink engine.new.publishing.sink }
 {
     employ(alloc, reader, writer, engine, stop, turns)
 }

@@ -3,216 +3,249 @@
 use super::*;
 use arith_shell::ShellArith;
 
-/// An engine of shell arithmetic on the shell channel.
-fn fresh(alloc: Global) -> Trial<ShellArith> {
-    Trial::new(alloc, Side::Shell, ShellArith::new(alloc))
-}
-
 /// The type of a request to run a cell.
-const EXECUTE: &str = "execute_request";
+pub(super) const EXECUTE: &str = "execute_request";
 
-/// The status that the kernel is busy.
-const BUSY: &str = r#"{"execution_state":"busy"}"#;
+/// A cell that fails behind two outputs, and the next one.
+const OVERFLOW: [Step<'static>; 2] = [
+    Step {
+        asked: (EXECUTE, r#"{"code":"x=2; x+1; x<<62"}"#),
+        published: &[
+            ("status", "status", 1, BUSY),
+            (
+                "execute_input",
+                "execute_input",
+                3,
+                r#"{"code":"x=2; x+1; x<<62","execution_count":1}"#,
+            ),
+            (
+                "stream.stdout",
+                "stream",
+                4,
+                r#"{"name":"stdout","text":"2\n"}"#,
+            ),
+            (
+                "stream.stdout",
+                "stream",
+                5,
+                r#"{"name":"stdout","text":"3\n"}"#,
+            ),
+            (
+                "error",
+                "error",
+                6,
+                concat!(
+                    r#"{"ename":"OverflowError","evalue":"result outside 64 bits","#,
+                    r#""traceback":["OverflowError: result outside 64 bits"]}"#,
+                ),
+            ),
+            ("status", "status", 2, IDLE),
+        ],
+        reply: Some((
+            "",
+            "execute_reply",
+            7,
+            concat!(
+                r#"{"ename":"OverflowError","evalue":"result outside 64 bits","execution_count":1,"#,
+                r#""status":"error","traceback":["OverflowError: result outside 64 bits"]}"#,
+            ),
+        )),
+        marks: NO_MARKS,
+    },
+    Step {
+        asked: (EXECUTE, r#"{"code":"x"}"#),
+        published: &[
+            ("status", "status", 8, BUSY),
+            (
+                "execute_input",
+                "execute_input",
+                10,
+                r#"{"code":"x","execution_count":2}"#,
+            ),
+            (
+                "execute_result",
+                "execute_result",
+                11,
+                r#"{"data":{"text/plain":"2"},"execution_count":2,"metadata":{}}"#,
+            ),
+            ("status", "status", 9, IDLE),
+        ],
+        reply: Some((
+            "",
+            "execute_reply",
+            12,
+            r#"{"execution_count":2,"payload":[],"status":"ok","user_expressions":{}}"#,
+        )),
+        marks: NO_MARKS,
+    },
+];
 
-/// The status that the kernel is idle.
-const IDLE: &str = r#"{"execution_state":"idle"}"#;
-
-/// What is published of a cell that fails behind two outputs, and of the next one.
-const OVERFLOW: [Due<'static>; 10] = [
-    ("status", "status", 1, BUSY),
-    (
-        "execute_input",
-        "execute_input",
-        3,
-        r#"{"code":"x=2; x+1; x<<62","execution_count":1}"#,
-    ),
-    (
-        "stream.stdout",
-        "stream",
-        4,
-        r#"{"name":"stdout","text":"2\n"}"#,
-    ),
-    (
-        "stream.stdout",
-        "stream",
-        5,
-        r#"{"name":"stdout","text":"3\n"}"#,
-    ),
-    (
-        "error",
-        "error",
-        6,
-        concat!(
-            r#"{"ename":"OverflowError","evalue":"result outside 64 bits","#,
-            r#""traceback":["OverflowError: result outside 64 bits"]}"#,
+/// A silent cell, an empty one, and one that isn't stored.
+const UNSTORED: [Step<'static>; 3] = [
+    Step {
+        asked: (EXECUTE, r#"{"code":"1","silent":true}"#),
+        published: &[("status", "status", 1, BUSY), ("status", "status", 2, IDLE)],
+        reply: Some((
+            "",
+            "execute_reply",
+            3,
+            r#"{"execution_count":0,"payload":[],"status":"ok","user_expressions":{}}"#,
+        )),
+        marks: NO_MARKS,
+    },
+    Step {
+        asked: (EXECUTE, r#"{"code":""}"#),
+        published: &[
+            ("status", "status", 4, BUSY),
+            (
+                "execute_input",
+                "execute_input",
+                6,
+                r#"{"code":"","execution_count":1}"#,
+            ),
+            ("status", "status", 5, IDLE),
+        ],
+        reply: Some((
+            "",
+            "execute_reply",
+            7,
+            r#"{"execution_count":1,"payload":[],"status":"ok","user_expressions":{}}"#,
+        )),
+        marks: NO_MARKS,
+    },
+    Step {
+        asked: (
+            EXECUTE,
+            r#"{"code":"y=4","store_history":false,"user_expressions":{"b":"1/0","a":"y*y"}}"#,
         ),
-    ),
-    ("status", "status", 2, IDLE),
-    ("status", "status", 8, BUSY),
-    (
-        "execute_input",
-        "execute_input",
-        10,
-        r#"{"code":"x","execution_count":2}"#,
-    ),
-    (
-        "execute_result",
-        "execute_result",
-        11,
-        r#"{"data":{"text/plain":"2"},"execution_count":2,"metadata":{}}"#,
-    ),
-    ("status", "status", 9, IDLE),
+        published: &[
+            ("status", "status", 8, BUSY),
+            (
+                "execute_input",
+                "execute_input",
+                10,
+                r#"{"code":"y=4","execution_count":1}"#,
+            ),
+            (
+                "execute_result",
+                "execute_result",
+                11,
+                r#"{"data":{"text/plain":"4"},"execution_count":1,"metadata":{}}"#,
+            ),
+            ("status", "status", 9, IDLE),
+        ],
+        reply: Some((
+            "",
+            "execute_reply",
+            12,
+            concat!(
+                r#"{"execution_count":1,"payload":[],"status":"ok","user_expressions":"#,
+                r#"{"a":{"data":{"text/plain":"16"},"metadata":{},"status":"ok"},"#,
+                r#""b":{"ename":"ZeroDivisionError","evalue":"division by zero","status":"error","#,
+                r#""traceback":["ZeroDivisionError: division by zero"]}}}"#,
+            ),
+        )),
+        marks: NO_MARKS,
+    },
+];
+
+/// Silent cells with expressions, the second of which fails, and what is known of their variable then.
+const SILENT: [Step<'static>; 3] = [
+    Step {
+        asked: (
+            EXECUTE,
+            r#"{"code":"z=5","silent":true,"user_expressions":{"q":"z=z+1"}}"#,
+        ),
+        published: &[("status", "status", 1, BUSY), ("status", "status", 2, IDLE)],
+        reply: Some((
+            "",
+            "execute_reply",
+            3,
+            concat!(
+                r#"{"execution_count":0,"payload":[],"status":"ok","user_expressions":"#,
+                r#"{"q":{"data":{"text/plain":"6"},"metadata":{},"status":"ok"}}}"#,
+            ),
+        )),
+        marks: NO_MARKS,
+    },
+    Step {
+        asked: (
+            EXECUTE,
+            r#"{"code":"1/0","silent":true,"user_expressions":{"q":"z=9"}}"#,
+        ),
+        published: &[("status", "status", 4, BUSY), ("status", "status", 5, IDLE)],
+        reply: Some((
+            "",
+            "execute_reply",
+            6,
+            concat!(
+                r#"{"ename":"ZeroDivisionError","evalue":"division by zero","execution_count":0,"#,
+                r#""status":"error","traceback":["ZeroDivisionError: division by zero"]}"#,
+            ),
+        )),
+        marks: NO_MARKS,
+    },
+    Step {
+        asked: ("inspect_request", r#"{"code":"z"}"#),
+        published: &[("status", "status", 7, BUSY), ("status", "status", 8, IDLE)],
+        reply: Some((
+            "",
+            "inspect_reply",
+            9,
+            r#"{"data":{"text/plain":"z = 6"},"found":true,"metadata":{},"status":"ok"}"#,
+        )),
+        marks: NO_MARKS,
+    },
 ];
 
 #[test]
-fn outputs_and_then_the_error_stand_in_the_block(rt: HostRuntime) -> Result<(), Fail> {
-    let error = concat!(
-        r#"{"ename":"OverflowError","evalue":"result outside 64 bits","execution_count":1,"#,
-        r#""status":"error","traceback":["OverflowError: result outside 64 bits"]}"#,
-    );
-    let ok = r#"{"execution_count":2,"payload":[],"status":"ok","user_expressions":{}}"#;
+fn cells_are_published_counted_and_replied(rt: HostRuntime) -> Result<(), Fail> {
     let alloc = rt.alloc();
-    fresh(alloc)
-        .ask(
-            &rt,
-            alloc,
-            (EXECUTE, r#"{"code":"x=2; x+1; x<<62"}"#),
-            Some(("", "execute_reply", 7, error)),
-        )?
-        .ask(
-            &rt,
-            alloc,
-            (EXECUTE, r#"{"code":"x"}"#),
-            Some(("", "execute_reply", 12, ok)),
-        )?
-        .published(&rt, alloc, EXECUTE, &OVERFLOW)
-}
-
-/// What is published of a silent cell, of an empty one, and of one that isn't stored.
-const UNSTORED: [Due<'static>; 9] = [
-    ("status", "status", 1, BUSY),
-    ("status", "status", 2, IDLE),
-    ("status", "status", 4, BUSY),
-    (
-        "execute_input",
-        "execute_input",
-        6,
-        r#"{"code":"","execution_count":1}"#,
-    ),
-    ("status", "status", 5, IDLE),
-    ("status", "status", 8, BUSY),
-    (
-        "execute_input",
-        "execute_input",
-        10,
-        r#"{"code":"y=4","execution_count":1}"#,
-    ),
-    (
-        "execute_result",
-        "execute_result",
-        11,
-        r#"{"data":{"text/plain":"4"},"execution_count":1,"metadata":{}}"#,
-    ),
-    ("status", "status", 9, IDLE),
-];
-
-#[test]
-fn silent_cells_publish_and_count_nothing(rt: HostRuntime) -> Result<(), Fail> {
-    let asked = r#"{"code":"y=4","store_history":false,"user_expressions":{"b":"1/0","a":"y*y"}}"#;
-    let none = r#"{"execution_count":0,"payload":[],"status":"ok","user_expressions":{}}"#;
-    let one = r#"{"execution_count":1,"payload":[],"status":"ok","user_expressions":{}}"#;
-    let told = concat!(
-        r#"{"execution_count":1,"payload":[],"status":"ok","user_expressions":"#,
-        r#"{"a":{"data":{"text/plain":"16"},"metadata":{},"status":"ok"},"#,
-        r#""b":{"ename":"ZeroDivisionError","evalue":"division by zero","status":"error","#,
-        r#""traceback":["ZeroDivisionError: division by zero"]}}}"#,
-    );
-    let alloc = rt.alloc();
-    fresh(alloc)
-        .ask(
-            &rt,
-            alloc,
-            (EXECUTE, r#"{"code":"1","silent":true}"#),
-            Some(("", "execute_reply", 3, none)),
-        )?
-        .ask(
-            &rt,
-            alloc,
-            (EXECUTE, r#"{"code":""}"#),
-            Some(("", "execute_reply", 7, one)),
-        )?
-        .ask(
-            &rt,
-            alloc,
-            (EXECUTE, asked),
-            Some(("", "execute_reply", 12, told)),
-        )?
-        .published(&rt, alloc, EXECUTE, &UNSTORED)
-}
-
-#[test]
-fn silent_cells_have_their_expressions_evaluated(rt: HostRuntime) -> Result<(), Fail> {
-    let silent = r#"{"code":"z=5","silent":true,"user_expressions":{"q":"z=z+1"}}"#;
-    let six = concat!(
-        r#"{"execution_count":0,"payload":[],"status":"ok","user_expressions":"#,
-        r#"{"q":{"data":{"text/plain":"6"},"metadata":{},"status":"ok"}}}"#,
-    );
-    let failing = r#"{"code":"1/0","silent":true,"user_expressions":{"q":"z=9"}}"#;
-    let failed = concat!(
-        r#"{"ename":"ZeroDivisionError","evalue":"division by zero","execution_count":0,"#,
-        r#""status":"error","traceback":["ZeroDivisionError: division by zero"]}"#,
-    );
-    let found = r#"{"data":{"text/plain":"z = 6"},"found":true,"metadata":{},"status":"ok"}"#;
-    let alloc = rt.alloc();
-    fresh(alloc)
-        .ask(
-            &rt,
-            alloc,
-            (EXECUTE, silent),
-            Some(("", "execute_reply", 3, six)),
-        )?
-        .ask(
-            &rt,
-            alloc,
-            (EXECUTE, failing),
-            Some(("", "execute_reply", 6, failed)),
-        )?
-        .ask(
-            &rt,
-            alloc,
-            ("inspect_request", r#"{"code":"z"}"#),
-            Some(("", "inspect_reply", 9, found)),
-        )?;
+    for steps in [&OVERFLOW[..], &UNSTORED[..], &SILENT[..]] {
+        let fresh = (Side::Shell, ShellArith::new(alloc));
+        follow(&rt, alloc, fresh, ALWAYS, steps)?;
+    }
     Ok(())
 }
 
-/// What is published of a cell that is interrupted before its third step.
+/// A cell of three steps.
+pub(super) const CELL: (&str, &str) = (EXECUTE, r#"{"code":"1;2;3"}"#);
+
+/// It, as it is published.
+const INPUT: Due<'static> = (
+    "execute_input",
+    "execute_input",
+    3,
+    r#"{"code":"1;2;3","execution_count":1}"#,
+);
+
+/// What its first step writes.
+const ONE: Due<'static> = (
+    "stream.stdout",
+    "stream",
+    4,
+    r#"{"name":"stdout","text":"1\n"}"#,
+);
+
+/// What its second step writes.
+const TWO: Due<'static> = (
+    "stream.stdout",
+    "stream",
+    5,
+    r#"{"name":"stdout","text":"2\n"}"#,
+);
+
+/// What is published of a cell that is interrupted.
+const ERROR: &str =
+    r#"{"ename":"Interrupted","evalue":"interrupted","traceback":["Interrupted: interrupted"]}"#;
+
+/// What is published of the cell where it is interrupted before its third step.
 pub(super) const STOPPED: [Due<'static>; 6] = [
     ("status", "status", 1, BUSY),
-    (
-        "execute_input",
-        "execute_input",
-        3,
-        r#"{"code":"1;2;3","execution_count":1}"#,
-    ),
-    (
-        "stream.stdout",
-        "stream",
-        4,
-        r#"{"name":"stdout","text":"1\n"}"#,
-    ),
-    (
-        "stream.stdout",
-        "stream",
-        5,
-        r#"{"name":"stdout","text":"2\n"}"#,
-    ),
-    (
-        "error",
-        "error",
-        6,
-        r#"{"ename":"Interrupted","evalue":"interrupted","traceback":["Interrupted: interrupted"]}"#,
-    ),
+    INPUT,
+    ONE,
+    TWO,
+    ("error", "error", 6, ERROR),
     ("status", "status", 2, IDLE),
 ];
 
@@ -222,28 +255,63 @@ pub(super) const INTERRUPTED: &str = concat!(
     r#""status":"error","traceback":["Interrupted: interrupted"]}"#,
 );
 
-/// Has a cell of three steps handled, at which stop says yes behind so many noes.
-fn stop_after(
-    rt: &impl Abort,
-    alloc: Global,
-    left: u64,
-    due: Due<'_>,
-) -> Result<Trial<ShellArith>, Fail> {
-    let stop = After {
-        left: Cell::new(left),
-    };
-    let asked = (EXECUTE, r#"{"code":"1;2;3"}"#);
-    fresh(alloc).ask_with(rt, alloc, &stop, asked, Some(due), (false, false, false))
-}
+/// What comes of the cell where stop says no never, once, twice, and at each of its steps.
+const STOPS: [(&[Due<'static>], Due<'static>); 4] = [
+    (
+        &[
+            ("status", "status", 1, BUSY),
+            INPUT,
+            ("error", "error", 4, ERROR),
+            ("status", "status", 2, IDLE),
+        ],
+        ("", "execute_reply", 5, INTERRUPTED),
+    ),
+    (
+        &[
+            ("status", "status", 1, BUSY),
+            INPUT,
+            ONE,
+            ("error", "error", 5, ERROR),
+            ("status", "status", 2, IDLE),
+        ],
+        ("", "execute_reply", 6, INTERRUPTED),
+    ),
+    (&STOPPED, ("", "execute_reply", 7, INTERRUPTED)),
+    (
+        &[
+            ("status", "status", 1, BUSY),
+            INPUT,
+            ONE,
+            TWO,
+            (
+                "execute_result",
+                "execute_result",
+                6,
+                r#"{"data":{"text/plain":"3"},"execution_count":1,"metadata":{}}"#,
+            ),
+            ("status", "status", 2, IDLE),
+        ],
+        (
+            "",
+            "execute_reply",
+            7,
+            r#"{"execution_count":1,"payload":[],"status":"ok","user_expressions":{}}"#,
+        ),
+    ),
+];
 
 #[test]
 fn cells_stop_before_the_step_at_which_stop_says_yes(rt: HostRuntime) -> Result<(), Fail> {
     let alloc = rt.alloc();
-    stop_after(&rt, alloc, 0, ("", "execute_reply", 5, INTERRUPTED))?;
-    stop_after(&rt, alloc, 1, ("", "execute_reply", 6, INTERRUPTED))?;
-    let ok = r#"{"execution_count":1,"payload":[],"status":"ok","user_expressions":{}}"#;
-    stop_after(&rt, alloc, 3, ("", "execute_reply", 7, ok))?;
-    stop_after(&rt, alloc, 2, ("", "execute_reply", 7, INTERRUPTED))?.published(
-        &rt, alloc, EXECUTE, &STOPPED,
-    )
+    for (noes, (published, reply)) in STOPS.iter().enumerate() {
+        let step = Step {
+            asked: CELL,
+            published: *published,
+            reply: Some(*reply),
+            marks: NO_MARKS,
+        };
+        let fresh = (Side::Shell, ShellArith::new(alloc));
+        follow(&rt, alloc, fresh, noes as u64, &[step])?;
+    }
+    Ok(())
 }

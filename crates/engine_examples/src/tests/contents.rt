@@ -3,344 +3,324 @@
 use super::*;
 use arith_shell::ShellArith;
 
-/// The status that the kernel is busy.
-pub(crate) const BUSY: &str = r#"{"execution_state":"busy"}"#;
-
-/// The status that the kernel is idle.
-pub(crate) const IDLE: &str = r#"{"execution_state":"idle"}"#;
-
 /// What is published of a request beside its reply.
 const NOTHING: [Due<'static>; 2] = [("status", "status", 1, BUSY), ("status", "status", 2, IDLE)];
 
-/// What is published of a comm that is opened.
-const CLOSED: [Due<'static>; 3] = [
-    ("status", "status", 1, BUSY),
-    (
-        "comm_close",
-        "comm_close",
-        3,
-        r#"{"comm_id":"c","data":{}}"#,
-    ),
-    ("status", "status", 2, IDLE),
-];
-
-/// Has a fresh engine handle a request, which is to publish this and to be replied so, with these marks.
-fn answer(
+/// That a fresh engine of this channel handles a request so, of which nothing is published between busy and idle.
+fn answer<'a>(
     rt: &impl Abort,
     alloc: Global,
     side: Side,
-    asked: (&str, &str),
-    published: &[Due<'_>],
-    reply: Option<(&str, &str)>,
+    asked: (&'a str, &'a str),
+    reply: Option<(&'a str, &'a str)>,
     marks: (bool, bool, bool),
 ) -> Result<(), Fail> {
-    let due = match reply {
+    let reply = match reply {
         Some((reply_type, content)) => Some(("", reply_type, 3, content)),
         None => None,
     };
-    Trial::new(alloc, side, ShellArith::new(alloc))
-        .ask_with(rt, alloc, &Never, asked, due, marks)?
-        .published(rt, alloc, asked.0, published)
-}
-
-/// The same of a request on shell that has a reply, and publishes nothing.
-fn reply(rt: &impl Abort, alloc: Global, rows: &[(&str, &str, &str, &str)]) -> Result<(), Fail> {
-    for (msg_type, content, reply_type, due) in rows.iter().copied() {
-        let asked = (msg_type, content);
-        let none = (false, false, false);
-        answer(
-            rt,
-            alloc,
-            Side::Shell,
-            asked,
-            &NOTHING,
-            Some((reply_type, due)),
-            none,
-        )?;
-    }
-    Ok(())
-}
-
-/// The same of requests on one channel that have none.
-fn silence(rt: &impl Abort, alloc: Global, side: Side, rows: &[(&str, &str)]) -> Result<(), Fail> {
-    for asked in rows.iter().copied() {
-        answer(
-            rt,
-            alloc,
-            side,
-            asked,
-            &NOTHING,
-            None,
-            (false, false, false),
-        )?;
-    }
-    Ok(())
+    let step = Step {
+        asked,
+        published: &NOTHING,
+        reply,
+        marks,
+    };
+    let fresh = (side, ShellArith::new(alloc));
+    follow(rt, alloc, fresh, ALWAYS, &[step])
 }
 
 /// What the kernel says of itself.
-pub(crate) const INFO: &str = concat!(
+pub(super) const INFO: &str = concat!(
     r#"{"banner":"Shell arithmetic in 64 bits","help_links":[],"implementation":"jkernel","#,
     r#""implementation_version":"1.0","language_info":{"file_extension":".sha","#,
     r#""mimetype":"text/plain","name":"sharith","version":"1.0"},"#,
     r#""protocol_version":"5.3","status":"ok"}"#,
 );
 
-/// Requests on shell, and the contents of their replies.
-const REPLIED: [(&str, &str, &str, &str); 9] = [
-    ("kernel_info_request", "{}", "kernel_info_reply", INFO),
+/// A request, the type and the content of its reply, and whether the kernel is to end then, to begin anew, and to
+/// interrupt the cell that runs.
+type Replied<'a> = (
+    Side,
+    (&'a str, &'a str),
+    (&'a str, &'a str),
+    (bool, bool, bool),
+);
+
+/// Requests that are replied to.
+const REPLIED: [Replied<'static>; 14] = [
     (
-        "complete_request",
-        r#"{"code":"z"}"#,
-        "complete_reply",
-        r#"{"cursor_end":1,"cursor_start":0,"matches":[],"metadata":{},"status":"ok"}"#,
+        Side::Shell,
+        ("kernel_info_request", "{}"),
+        ("kernel_info_reply", INFO),
+        NO_MARKS,
     ),
     (
-        "inspect_request",
-        r#"{"code":"z","cursor_pos":1}"#,
-        "inspect_reply",
-        r#"{"data":{},"found":false,"metadata":{},"status":"ok"}"#,
+        Side::Control,
+        ("kernel_info_request", "{}"),
+        ("kernel_info_reply", INFO),
+        NO_MARKS,
     ),
     (
-        "is_complete_request",
-        r#"{"code":"(1+"}"#,
-        "is_complete_reply",
-        r#"{"indent":"","status":"incomplete"}"#,
+        Side::Shell,
+        ("complete_request", r#"{"code":"z"}"#),
+        (
+            "complete_reply",
+            r#"{"cursor_end":1,"cursor_start":0,"matches":[],"metadata":{},"status":"ok"}"#,
+        ),
+        NO_MARKS,
     ),
     (
-        "is_complete_request",
-        r#"{"code":"1 2"}"#,
-        "is_complete_reply",
-        r#"{"status":"invalid"}"#,
+        Side::Shell,
+        ("inspect_request", r#"{"code":"z","cursor_pos":1}"#),
+        (
+            "inspect_reply",
+            r#"{"data":{},"found":false,"metadata":{},"status":"ok"}"#,
+        ),
+        NO_MARKS,
     ),
     (
-        "is_complete_request",
-        r#"{"code":""}"#,
-        "is_complete_reply",
-        r#"{"status":"complete"}"#,
+        Side::Shell,
+        ("is_complete_request", r#"{"code":"(1+"}"#),
+        (
+            "is_complete_reply",
+            r#"{"indent":"","status":"incomplete"}"#,
+        ),
+        NO_MARKS,
     ),
     (
-        "history_request",
-        "{}",
-        "history_reply",
-        r#"{"history":[],"status":"ok"}"#,
+        Side::Shell,
+        ("is_complete_request", r#"{"code":"1 2"}"#),
+        ("is_complete_reply", r#"{"status":"invalid"}"#),
+        NO_MARKS,
     ),
     (
-        "comm_info_request",
-        "{}",
-        "comm_info_reply",
-        r#"{"comms":{},"status":"ok"}"#,
+        Side::Shell,
+        ("is_complete_request", r#"{"code":""}"#),
+        ("is_complete_reply", r#"{"status":"complete"}"#),
+        NO_MARKS,
     ),
     (
-        "interrupt_request",
-        "{}",
-        "interrupt_reply",
-        r#"{"status":"ok"}"#,
+        Side::Shell,
+        ("history_request", "{}"),
+        ("history_reply", r#"{"history":[],"status":"ok"}"#),
+        NO_MARKS,
+    ),
+    (
+        Side::Shell,
+        ("comm_info_request", "{}"),
+        ("comm_info_reply", r#"{"comms":{},"status":"ok"}"#),
+        NO_MARKS,
+    ),
+    (
+        Side::Shell,
+        ("interrupt_request", "{}"),
+        ("interrupt_reply", r#"{"status":"ok"}"#),
+        NO_MARKS,
+    ),
+    (
+        Side::Control,
+        ("interrupt_request", "{}"),
+        ("interrupt_reply", r#"{"status":"ok"}"#),
+        (false, false, true),
+    ),
+    (
+        Side::Shell,
+        ("shutdown_request", r#"{"restart":true}"#),
+        ("shutdown_reply", r#"{"restart":true,"status":"ok"}"#),
+        (true, true, false),
+    ),
+    (
+        Side::Control,
+        ("shutdown_request", r#"{"restart":true}"#),
+        ("shutdown_reply", r#"{"restart":true,"status":"ok"}"#),
+        (true, true, false),
+    ),
+    (
+        Side::Control,
+        ("shutdown_request", "{}"),
+        ("shutdown_reply", r#"{"restart":false,"status":"ok"}"#),
+        (true, false, false),
     ),
 ];
 
-#[test]
-fn requests_on_shell_are_replied(rt: HostRuntime) -> Result<(), Fail> {
-    reply(&rt, rt.alloc(), &REPLIED)
+/// That a fresh engine handles each of these requests so.
+fn answer_each(rt: &impl Abort, alloc: Global, rows: &[Replied<'_>]) -> Result<(), Fail> {
+    for (side, asked, reply, marks) in rows.iter().copied() {
+        answer(rt, alloc, side, asked, Some(reply), marks)?;
+    }
+    Ok(())
 }
 
-/// Requests on shell that have no reply: comms, and types that aren't known.
-const UNREPLIED: [(&str, &str); 10] = [
-    ("comm_msg", "{}"),
-    ("comm_close", "{}"),
-    ("foo", "{"),
-    ("connect_request", "{}"),
-    ("debug_request", "{}"),
-    ("comm_open", "{"),
-    ("comm_open", "[]"),
-    ("comm_open", "{}"),
-    ("comm_msg", "{"),
-    ("comm_close", "[]"),
+#[test]
+fn requests_are_replied_to(rt: HostRuntime) -> Result<(), Fail> {
+    answer_each(&rt, rt.alloc(), &REPLIED)
+}
+
+/// Requests that have no reply: on shell comms, and types that aren't known; on control all that have no meaning there.
+const UNREPLIED: [(Side, (&str, &str)); 21] = [
+    (Side::Shell, ("comm_msg", "{}")),
+    (Side::Shell, ("comm_close", "{}")),
+    (Side::Shell, ("foo", "{")),
+    (Side::Shell, ("connect_request", "{}")),
+    (Side::Shell, ("debug_request", "{}")),
+    (Side::Shell, ("comm_open", "{")),
+    (Side::Shell, ("comm_open", "[]")),
+    (Side::Shell, ("comm_open", "{}")),
+    (Side::Shell, ("comm_msg", "{")),
+    (Side::Shell, ("comm_close", "[]")),
+    (Side::Control, ("execute_request", r#"{"code":"1"}"#)),
+    (Side::Control, ("execute_request", "{")),
+    (Side::Control, ("complete_request", r#"{"code":"1"}"#)),
+    (Side::Control, ("inspect_request", r#"{"code":"1"}"#)),
+    (Side::Control, ("is_complete_request", r#"{"code":"1"}"#)),
+    (Side::Control, ("history_request", "[]")),
+    (Side::Control, ("comm_info_request", "{}")),
+    (Side::Control, ("comm_open", r#"{"comm_id":"c"}"#)),
+    (Side::Control, ("comm_msg", "{}")),
+    (Side::Control, ("comm_close", "{}")),
+    (Side::Control, ("foo", "{}")),
 ];
+
+/// That a fresh engine handles each of these requests without a reply.
+fn ignore_each(rt: &impl Abort, alloc: Global, rows: &[(Side, (&str, &str))]) -> Result<(), Fail> {
+    for (side, asked) in rows.iter().copied() {
+        answer(rt, alloc, side, asked, None, NO_MARKS)?;
+    }
+    Ok(())
+}
 
 #[test]
 fn requests_without_a_reply_are_busy_and_idle(rt: HostRuntime) -> Result<(), Fail> {
-    silence(&rt, rt.alloc(), Side::Shell, &UNREPLIED)
+    ignore_each(&rt, rt.alloc(), &UNREPLIED)
 }
+
+/// A comm that is opened, and closed at once.
+const OPENED: Step<'static> = Step {
+    asked: (
+        "comm_open",
+        r#"{"comm_id":"c","target_name":"t","data":{}}"#,
+    ),
+    published: &[
+        ("status", "status", 1, BUSY),
+        (
+            "comm_close",
+            "comm_close",
+            3,
+            r#"{"comm_id":"c","data":{}}"#,
+        ),
+        ("status", "status", 2, IDLE),
+    ],
+    reply: None,
+    marks: NO_MARKS,
+};
 
 #[test]
 fn comms_are_closed_as_they_are_opened(rt: HostRuntime) -> Result<(), Fail> {
-    let asked = (
-        "comm_open",
-        r#"{"comm_id":"c","target_name":"t","data":{}}"#,
-    );
-    answer(
-        &rt,
-        rt.alloc(),
-        Side::Shell,
-        asked,
-        &CLOSED,
-        None,
-        (false, false, false),
-    )
-}
-
-#[test]
-fn shutdowns_end_and_restart(rt: HostRuntime) -> Result<(), Fail> {
     let alloc = rt.alloc();
-    let again = Some(("shutdown_reply", r#"{"restart":true,"status":"ok"}"#));
-    let ended = Some(("shutdown_reply", r#"{"restart":false,"status":"ok"}"#));
-    let asked = ("shutdown_request", r#"{"restart":true}"#);
-    answer(
-        &rt,
-        alloc,
-        Side::Shell,
-        asked,
-        &NOTHING,
-        again,
-        (true, true, false),
-    )?;
-    answer(
-        &rt,
-        alloc,
-        Side::Control,
-        asked,
-        &NOTHING,
-        again,
-        (true, true, false),
-    )?;
-    answer(
-        &rt,
-        alloc,
-        Side::Control,
-        ("shutdown_request", "{}"),
-        &NOTHING,
-        ended,
-        (true, false, false),
-    )
+    let fresh = (Side::Shell, ShellArith::new(alloc));
+    follow(&rt, alloc, fresh, ALWAYS, &[OPENED])
 }
 
-#[test]
-fn control_interrupts_and_tells_what_the_kernel_is(rt: HostRuntime) -> Result<(), Fail> {
-    let alloc = rt.alloc();
-    let info = Some(("kernel_info_reply", INFO));
-    let none = (false, false, false);
-    answer(
-        &rt,
-        alloc,
-        Side::Control,
-        ("kernel_info_request", "{}"),
-        &NOTHING,
-        info,
-        none,
-    )?;
-    let stopped = Some(("interrupt_reply", r#"{"status":"ok"}"#));
-    let asked = ("interrupt_request", "{}");
-    answer(
-        &rt,
-        alloc,
-        Side::Control,
-        asked,
-        &NOTHING,
-        stopped,
-        (false, false, true),
-    )
-}
-
-/// Requests that have no meaning on control.
-const MEANINGLESS: [(&str, &str); 11] = [
-    ("execute_request", r#"{"code":"1"}"#),
-    ("execute_request", "{"),
-    ("complete_request", r#"{"code":"1"}"#),
-    ("inspect_request", r#"{"code":"1"}"#),
-    ("is_complete_request", r#"{"code":"1"}"#),
-    ("history_request", "[]"),
-    ("comm_info_request", "{}"),
-    ("comm_open", r#"{"comm_id":"c"}"#),
-    ("comm_msg", "{}"),
-    ("comm_close", "{}"),
-    ("foo", "{}"),
-];
-
-#[test]
-fn other_requests_mean_nothing_on_control(rt: HostRuntime) -> Result<(), Fail> {
-    silence(&rt, rt.alloc(), Side::Control, &MEANINGLESS)
-}
-
-/// The error that replies to a content that is no JSON.
-const NOT_JSON: &str = concat!(
-    r#"{"ename":"ContentError","evalue":"content is not JSON","status":"error","#,
-    r#""traceback":["ContentError: content is not JSON"]}"#,
-);
-
-/// The error that replies to a content that is no object.
-const NOT_AN_OBJECT: &str = concat!(
-    r#"{"ename":"ContentError","evalue":"content is not an object","status":"error","#,
-    r#""traceback":["ContentError: content is not an object"]}"#,
-);
-
-/// Requests on shell whose content is refused, and the contents of their replies.
-const REFUSED: [(&str, &str, &str, &str); 14] = [
-    ("kernel_info_request", "{", "kernel_info_reply", NOT_JSON),
-    ("complete_request", "{", "complete_reply", NOT_JSON),
-    ("inspect_request", "{", "inspect_reply", NOT_JSON),
-    ("is_complete_request", "{", "is_complete_reply", NOT_JSON),
-    ("history_request", "{", "history_reply", NOT_JSON),
-    ("comm_info_request", "{", "comm_info_reply", NOT_JSON),
-    ("shutdown_request", "{", "shutdown_reply", NOT_JSON),
-    ("interrupt_request", "{", "interrupt_reply", NOT_JSON),
+/// Requests whose content is refused, by their type without `_request`: on which channel, the content, and the evalue
+/// of the error that replies.
+const REFUSED: [(Side, &str, &str, &str); 34] = [
+    (Side::Shell, "kernel_info", "{", "content is not JSON"),
+    (Side::Shell, "kernel_info", "[]", "content is not an object"),
+    (Side::Shell, "execute", "{", "content is not JSON"),
+    (Side::Shell, "execute", "[]", "content is not an object"),
+    (Side::Shell, "execute", "{}", "field code"),
     (
-        "kernel_info_request",
-        "[]",
-        "kernel_info_reply",
-        NOT_AN_OBJECT,
+        Side::Shell,
+        "execute",
+        r#"{"code":"1","silent":1}"#,
+        "field silent",
     ),
-    ("history_request", "[]", "history_reply", NOT_AN_OBJECT),
-    ("comm_info_request", "1", "comm_info_reply", NOT_AN_OBJECT),
-    ("shutdown_request", "null", "shutdown_reply", NOT_AN_OBJECT),
-    ("interrupt_request", "[]", "interrupt_reply", NOT_AN_OBJECT),
+    (Side::Shell, "complete", "{", "content is not JSON"),
+    (Side::Shell, "complete", "[]", "content is not an object"),
+    (Side::Shell, "complete", "{}", "field code"),
     (
-        "complete_request",
+        Side::Shell,
+        "complete",
         r#"{"code":"1","cursor_pos":-1}"#,
-        "complete_reply",
-        concat!(
-            r#"{"ename":"ContentError","evalue":"field cursor_pos","status":"error","#,
-            r#""traceback":["ContentError: field cursor_pos"]}"#,
-        ),
+        "field cursor_pos",
     ),
+    (Side::Shell, "inspect", "{", "content is not JSON"),
+    (Side::Shell, "inspect", "[]", "content is not an object"),
+    (Side::Shell, "inspect", "{}", "field code"),
+    (
+        Side::Shell,
+        "inspect",
+        r#"{"code":"1","detail_level":2}"#,
+        "field detail_level",
+    ),
+    (
+        Side::Shell,
+        "inspect",
+        r#"{"code":"1","detail_level":"0"}"#,
+        "field detail_level",
+    ),
+    (Side::Shell, "is_complete", "{", "content is not JSON"),
+    (Side::Shell, "is_complete", "[]", "content is not an object"),
+    (Side::Shell, "is_complete", "{}", "field code"),
+    (Side::Shell, "history", "{", "content is not JSON"),
+    (Side::Shell, "history", "[]", "content is not an object"),
+    (Side::Shell, "comm_info", "{", "content is not JSON"),
+    (Side::Shell, "comm_info", "1", "content is not an object"),
+    (Side::Shell, "shutdown", "{", "content is not JSON"),
+    (Side::Shell, "shutdown", "null", "content is not an object"),
+    (Side::Shell, "shutdown", r#"{"restart":1}"#, "field restart"),
+    (Side::Shell, "interrupt", "{", "content is not JSON"),
+    (Side::Shell, "interrupt", "[]", "content is not an object"),
+    (Side::Control, "kernel_info", "{", "content is not JSON"),
+    (
+        Side::Control,
+        "kernel_info",
+        "[]",
+        "content is not an object",
+    ),
+    (Side::Control, "shutdown", "{", "content is not JSON"),
+    (Side::Control, "shutdown", "[]", "content is not an object"),
+    (
+        Side::Control,
+        "shutdown",
+        r#"{"restart":1}"#,
+        "field restart",
+    ),
+    (Side::Control, "interrupt", "{", "content is not JSON"),
+    (Side::Control, "interrupt", "[]", "content is not an object"),
 ];
+
+/// The error that replies to a request whose content is refused, which for a cell has the count as it stands.
+fn error(alloc: Global, name: &str, evalue: &str) -> Result<String, Fail> {
+    let is_cell = name == "execute";
+    let count = if is_cell {
+        r#""execution_count":0,"#
+    } else {
+        ""
+    };
+    Ok(format!(in alloc;
+        "{{\"ename\":\"ContentError\",\"evalue\":\"{evalue}\",{count}\"status\":\"error\",\
+        \"traceback\":[\"ContentError: {evalue}\"]}}"
+    )?)
+}
+
+/// That a fresh engine replies to each of these requests with its error.
+fn refuse_each(
+    rt: &impl Abort,
+    alloc: Global,
+    rows: &[(Side, &str, &str, &str)],
+) -> Result<(), Fail> {
+    for (side, name, content, evalue) in rows.iter().copied() {
+        let asked = format!(in alloc; "{name}_request")?;
+        let replied = format!(in alloc; "{name}_reply")?;
+        let error = error(alloc, name, evalue)?;
+        let reply = Some((replied.as_str(), error.as_str()));
+        answer(rt, alloc, side, (asked.as_str(), content), reply, NO_MARKS)?;
+    }
+    Ok(())
+}
 
 #[test]
 fn refused_contents_are_replied_to_with_an_error(rt: HostRuntime) -> Result<(), Fail> {
-    reply(&rt, rt.alloc(), &REFUSED)
-}
-
-/// Cells whose content is refused, and the contents of their replies, which have the count as it stands.
-const REFUSED_CELLS: [(&str, &str, &str, &str); 3] = [
-    (
-        "execute_request",
-        "{",
-        "execute_reply",
-        concat!(
-            r#"{"ename":"ContentError","evalue":"content is not JSON","execution_count":0,"#,
-            r#""status":"error","traceback":["ContentError: content is not JSON"]}"#,
-        ),
-    ),
-    (
-        "execute_request",
-        "{}",
-        "execute_reply",
-        concat!(
-            r#"{"ename":"ContentError","evalue":"field code","execution_count":0,"#,
-            r#""status":"error","traceback":["ContentError: field code"]}"#,
-        ),
-    ),
-    (
-        "execute_request",
-        r#"{"code":"1","silent":1}"#,
-        "execute_reply",
-        concat!(
-            r#"{"ename":"ContentError","evalue":"field silent","execution_count":0,"#,
-            r#""status":"error","traceback":["ContentError: field silent"]}"#,
-        ),
-    ),
-];
-
-#[test]
-fn refused_cells_are_replied_to_with_the_count(rt: HostRuntime) -> Result<(), Fail> {
-    reply(&rt, rt.alloc(), &REFUSED_CELLS)
+    refuse_each(&rt, rt.alloc(), &REFUSED)
 }

@@ -6,31 +6,17 @@ use arith_shell::ShellArith;
 use kernel_block::EngineFault;
 
 /// An engine over a sink that refuses its pushes from one to another.
-type OverRefusing = Engine<ShellArith, Refusing, OneDate, ()>;
+pub(super) type OverRefusing = Engine<ShellArith, Refusing, OneDate, ()>;
 
 /// An engine of this channel over a sink that refuses its pushes from one to another, counted from 1.
-fn over(alloc: Global, side: Side, first: u64, last: u64) -> OverRefusing {
+pub(super) fn over(alloc: Global, side: Side, first: u64, last: u64) -> OverRefusing {
     let sink = Refusing::new(alloc, first, last);
     let signer = Signer::new(Vec::new(alloc));
     Engine::new(side, ShellArith::new(alloc), sink, OneDate, signer)
 }
 
-/// The status that the kernel is busy.
-const BUSY: &str = r#"{"execution_state":"busy"}"#;
-
-/// The status that the kernel is idle.
-const IDLE: &str = r#"{"execution_state":"idle"}"#;
-
-/// What a request is answered: a fault's number, or 0.
-fn number(engine: &mut OverRefusing, alloc: Global, asked: Envelope) -> u8 {
-    match engine.handle(alloc, asked, &Never) {
-        Ok(_) => 0,
-        Err(fault) => fault.number(),
-    }
-}
-
 /// What an engine published when it ended, and whether an idle was owed still.
-fn left(engine: OverRefusing) -> (Vec<Event<()>>, bool) {
+pub(super) fn left(engine: OverRefusing) -> (Vec<Event<()>>, bool) {
     let end = engine.close();
     let owed = end.owed();
     let parts = end.into_parts();
@@ -39,109 +25,133 @@ fn left(engine: OverRefusing) -> (Vec<Event<()>>, bool) {
     (sink.items, owed)
 }
 
-/// The blocks of two requests of which the first was owed its idle.
-const BLOCKS: [Due<'static>; 4] = [
-    ("status", "status", 1, BUSY),
-    ("status", "status", 2, IDLE),
-    ("status", "status", 4, BUSY),
-    ("status", "status", 5, IDLE),
+/// The type of a request that asks what the kernel is.
+const ASKED: &str = "kernel_info_request";
+
+/// The first of two requests.
+const P: Asker<'static> = ("p", ASKED);
+
+/// The second.
+const Q: Asker<'static> = ("q", ASKED);
+
+/// The blocks of both.
+const BLOCKS: [Block<'static>; 2] = [
+    (
+        P,
+        &[("status", "status", 1, BUSY), ("status", "status", 2, IDLE)],
+    ),
+    (
+        Q,
+        &[("status", "status", 4, BUSY), ("status", "status", 5, IDLE)],
+    ),
 ];
 
-/// The type of the first request, whose idle is owed.
-const FIRST: &str = "kernel_info_request";
+/// That a request is replied to with what the kernel is, under an id of this number.
+fn tells(
+    rt: &impl Abort,
+    alloc: Global,
+    engine: &mut OverRefusing,
+    asked: Envelope,
+    asker: Asker<'_>,
+    number: u64,
+) -> Result<(), Fail> {
+    let handled = engine.handle(alloc, asked, &stop_after(ALWAYS))?;
+    let due = ("", "kernel_info_reply", number, INFO);
+    expect_reply(rt, alloc, handled.reply.as_ref(), asker, Some(due))
+}
 
-/// The type of a request that has a reply.
-const ASKED: &str = "interrupt_request";
+/// The request as it comes back, since an idle is owed.
+fn comes_back(alloc: Global, engine: &mut OverRefusing, asked: Envelope) -> Result<Envelope, Fail> {
+    match engine.handle(alloc, asked, &stop_after(ALWAYS)) {
+        Err(EngineFault::OwedIdle(back)) => Ok(back),
+        Ok(_) | Err(_) => Err(Fail::from("the request comes back")),
+    }
+}
 
-/// The content of its reply.
-const DONE: &str = r#"{"status":"ok"}"#;
+/// That the first request is replied to, the second comes back, and is replied to when it is asked again.
+fn ask_both(rt: &impl Abort, alloc: Global, engine: &mut OverRefusing) -> Result<(), Fail> {
+    tells(rt, alloc, engine, request(alloc, P, "{}")?, P, 3)?;
+    let back = comes_back(alloc, engine, request(alloc, Q, "{}")?)?;
+    assert_eq!(rt; back.msg_id.as_str(), "q");
+    tells(rt, alloc, engine, back, Q, 6)
+}
 
 #[test]
 fn owed_idle_hands_the_next_request_back(rt: HostRuntime) -> Result<(), Fail> {
     let alloc = rt.alloc();
     let mut engine = over(alloc, Side::Control, 2, 3);
-    let p = engine.handle(alloc, request(alloc, FIRST, "{}")?, &Never)?;
-    let info = Some(("", "kernel_info_reply", 3, INFO));
-    expect_reply(&rt, alloc, p.reply.as_ref(), FIRST, info)?;
-    let Err(EngineFault::OwedIdle(q)) = engine.handle(alloc, request(alloc, ASKED, "{}")?, &Never)
-    else {
-        return Err(Fail::from("the request comes back"));
-    };
-    assert_eq!(rt; q.msg_type.as_str(), ASKED);
-    let q = engine.handle(alloc, q, &Never)?;
-    expect_reply(
-        &rt,
-        alloc,
-        q.reply.as_ref(),
-        ASKED,
-        Some(("", "interrupt_reply", 6, DONE)),
-    )?;
+    ask_both(&rt, alloc, &mut engine)?;
     let (items, owed) = left(engine);
     assert!(rt; !owed);
-    let first = items.get(..2).ok_or("a block")?;
-    expect_all(&rt, alloc, first, FIRST, &BLOCKS[..2])?;
-    let second = items.get(2..).ok_or("another block")?;
-    expect_all(&rt, alloc, second, ASKED, &BLOCKS[2..])
+    expect_blocks(&rt, alloc, items.as_slice(), &BLOCKS)
 }
 
-/// How an engine ends whose sink refuses its pushes from the second to this one: whether an idle is owed still, and how
-/// many messages were published.
-fn end_after(alloc: Global, last: u64) -> Result<(bool, usize), Fail> {
-    let mut engine = over(alloc, Side::Shell, 2, last);
-    engine.handle(alloc, request(alloc, "comm_msg", "{}")?, &Never)?;
+/// What a request comes to over a sink that refuses its pushes from one to another: a fault's number, or 0; whether an
+/// idle is owed still when the engine has ended; and how many messages were published then.
+fn comes_to(
+    alloc: Global,
+    (msg_type, content): (&str, &str),
+    (first, last): (u64, u64),
+) -> Result<(u8, bool, usize), Fail> {
+    let asked = request(alloc, ("q", msg_type), content)?;
+    let mut engine = over(alloc, Side::Shell, first, last);
+    let number = match engine.handle(alloc, asked, &stop_after(ALWAYS)) {
+        Ok(_) => 0,
+        Err(fault) => fault.number(),
+    };
     let (items, owed) = left(engine);
-    Ok((owed, items.len()))
+    Ok((number, owed, items.len()))
 }
 
-#[test]
-fn ending_tries_the_owed_idle_once_more(rt: HostRuntime) -> Result<(), Fail> {
-    assert_eq!(rt; end_after(rt.alloc(), 2)?, (false, 2));
-    assert_eq!(rt; end_after(rt.alloc(), 3)?, (true, 1));
-    Ok(())
-}
+/// A request that publishes busy and idle.
+const PLAIN: (&str, &str) = ("comm_msg", "{}");
 
-/// What a cell of three steps comes to over a sink that refuses one push, and then how many messages were published.
-fn refused_at(alloc: Global, push: u64) -> Result<(u8, usize), Fail> {
-    let mut engine = over(alloc, Side::Shell, push, push);
-    let asked = request(alloc, "execute_request", r#"{"code":"x=1;x=2;x=3"}"#)?;
-    let fault = number(&mut engine, alloc, asked);
-    let (items, _) = left(engine);
-    Ok((fault, items.len()))
-}
+/// A request that publishes busy, the cell, two streams, the result and idle.
+const CELL: (&str, &str) = ("execute_request", r#"{"code":"x=1;x=2;x=3"}"#);
+
+/// Requests, the first and the last push that is refused, and what each comes to: an owed idle is tried once more as
+/// the engine ends.
+const COMES_TO: [((&str, &str), (u64, u64), (u8, bool, usize)); 8] = [
+    (PLAIN, (2, 2), (0, false, 2)),
+    (PLAIN, (2, 3), (0, true, 1)),
+    (CELL, (1, 1), (71, false, 0)),
+    (CELL, (2, 2), (71, false, 2)),
+    (CELL, (3, 3), (71, false, 3)),
+    (CELL, (4, 4), (71, false, 4)),
+    (CELL, (5, 5), (71, false, 5)),
+    (CELL, (6, 6), (0, false, 6)),
+];
 
 #[test]
 fn each_push_may_be_refused(rt: HostRuntime) -> Result<(), Fail> {
-    // Of busy, the cell, two streams, the result and idle, in their order.
-    let alloc = rt.alloc();
-    assert_eq!(rt; refused_at(alloc, 1)?, (71, 0));
-    assert_eq!(rt; refused_at(alloc, 2)?, (71, 2));
-    assert_eq!(rt; refused_at(alloc, 3)?, (71, 3));
-    assert_eq!(rt; refused_at(alloc, 4)?, (71, 4));
-    assert_eq!(rt; refused_at(alloc, 5)?, (71, 5));
-    assert_eq!(rt; refused_at(alloc, 6)?, (0, 6));
+    for (asked, refused, due) in COMES_TO.iter().copied() {
+        assert_eq!(rt;
+            comes_to(rt.alloc(), asked, refused)?,
+            due,
+            "{asked:?} {refused:?}"
+        );
+    }
     Ok(())
 }
 
-#[test]
-fn refused_start_may_be_tried_again(rt: HostRuntime) -> Result<(), Fail> {
-    let alloc = rt.alloc();
-    let mut engine = over(alloc, Side::Shell, 1, 1);
-    assert_eq!(rt;
-        engine.start(alloc).err().map(|fault| fault.number()),
-        Some(71)
-    );
-    engine.start(alloc)?;
-    engine.start(alloc)?;
-    let (items, _) = left(engine);
-    assert_eq!(rt; items.len(), 1);
-    Ok(())
+/// What a start comes to: a fault's number, or 0.
+fn start(alloc: Global, engine: &mut OverRefusing) -> u8 {
+    match engine.start(alloc) {
+        Ok(()) => 0,
+        Err(fault) => fault.number(),
+    }
 }
 
 #[test]
-fn control_says_nothing_of_starting(rt: HostRuntime) -> Result<(), Fail> {
-    let mut engine = over(rt.alloc(), Side::Control, 0, 0);
-    engine.start(rt.alloc())?;
-    let (items, _) = left(engine);
-    assert_eq!(rt; items.len(), 0);
-    Ok(())
+fn a_refused_start_may_be_tried_again(rt: HostRuntime) {
+    let alloc = rt.alloc();
+    // An engine of control says nothing of starting.
+    for (side, refused, number, published) in [(Side::Shell, 1, 71, 1), (Side::Control, 0, 0, 0)] {
+        let mut engine = over(alloc, side, refused, refused);
+        assert_eq!(rt; start(alloc, &mut engine), number);
+        assert_eq!(rt; start(alloc, &mut engine), 0);
+        assert_eq!(rt; start(alloc, &mut engine), 0);
+        let (items, _) = left(engine);
+        assert_eq!(rt; items.len(), published);
+    }
 }

@@ -1,9 +1,9 @@
 //! Sessions of an engine with a peer, from the greeting on: what is replied on the wire, and how they end.
 
-use super::cells::{INTERRUPTED, STOPPED};
-use super::contents::{BUSY, IDLE, INFO};
+use super::cells::{CELL, EXECUTE, INTERRUPTED, STOPPED};
+use super::contents::INFO;
+use super::owed::{left, over};
 use super::*;
-use arith_shell::ShellArith;
 use kernel_block::EngineFault;
 use kernel_engine::{SessionEnd, session};
 use zmtp_wire::Counted;
@@ -62,80 +62,123 @@ fn written(alloc: Global, replies: &[(&str, Due<'_>)]) -> Result<Vec<u8>, Fail> 
     let mut octets = Vec::from_slice(alloc, GREETING)?;
     octets.extend_from_slice(READY_ROUTER)?;
     for (parent_type, reply) in replies.iter().copied() {
-        let lines = due_text(alloc, parent_type, reply)?;
+        let lines = due_text(alloc, ("q", parent_type), reply)?;
         frame(&mut octets, lines.as_str())?;
     }
     Ok(octets)
 }
 
-#[test]
-fn a_shutdown_is_the_last_that_is_answered(rt: HostRuntime) -> Result<(), Fail> {
-    let alloc = rt.alloc();
-    let restart = r#"{"restart":true}"#;
-    let octets = sent(alloc, &[(ASKED, "{}"), (SHUTDOWN, restart), (ASKED, "{}")])?;
-    let mut reader = Counted::new(octets.as_slice());
-    let mut writer = Counted::new(Vec::new(alloc));
-    let signer = Signer::new(Vec::new(alloc));
-    let arith = ShellArith::new(alloc);
-    let mut engine = Engine::new(Side::Control, arith, ListSink::new(alloc), OneDate, signer);
-    let end = session(alloc, &mut reader, &mut writer, &mut engine, &Never, 1000);
-    assert!(rt; matches!(&end, SessionEnd::Shutdown(true)), "{end:?}");
-    let restarted = r#"{"restart":true,"status":"ok"}"#;
-    let due = written(
-        alloc,
-        &[
-            (ASKED, ("", "kernel_info_reply", 3, INFO)),
-            (SHUTDOWN, ("", "shutdown_reply", 6, restarted)),
-        ],
-    )?;
-    assert_eq!(rt; writer.into_inner().as_slice(), due.as_slice());
-    let publishing = engine.close().into_parts().publishing;
-    let items = publishing.sink.items();
-    let asked = items.get(..2).ok_or("a block")?;
-    let first = [("status", "status", 1, BUSY), ("status", "status", 2, IDLE)];
-    expect_all(&rt, alloc, asked, ASKED, &first)?;
-    let behind = items.get(2..).ok_or("another block")?;
-    let second = [("status", "status", 4, BUSY), ("status", "status", 5, IDLE)];
-    expect_all(&rt, alloc, behind, SHUTDOWN, &second)
+/// A session of a peer with an engine that is fresh.
+struct Visit<'a> {
+    /// The channel of the engine.
+    side: Side,
+    /// The first and the last push that its sink refuses.
+    refused: (u64, u64),
+    /// How often stop says no at first.
+    noes: u64,
+    /// The types and the contents of the requests that are sent.
+    requests: &'a [(&'a str, &'a str)],
+    /// The replies that are written, each to a request of the type beside it.
+    replies: &'a [(&'a str, Due<'a>)],
+    /// What is published.
+    published: &'a [Block<'a>],
+    /// How the session ends.
+    end: &'a str,
 }
 
-#[test]
-fn an_idle_that_stays_owed_ends_a_session(rt: HostRuntime) -> Result<(), Fail> {
-    let alloc = rt.alloc();
-    let octets = sent(alloc, &[(ASKED, "{}"), (SHUTDOWN, "{}")])?;
-    let mut reader = Counted::new(octets.as_slice());
-    let mut writer = Counted::new(Vec::new(alloc));
-    // Busy is published, and idle is refused, and again before the second request.
-    let sink = Refusing::new(alloc, 2, 3);
-    let signer = Signer::new(Vec::new(alloc));
-    let mut engine = Engine::new(Side::Control, ShellArith::new(alloc), sink, OneDate, signer);
-    let end = session(alloc, &mut reader, &mut writer, &mut engine, &Never, 1000);
-    let SessionEnd::Failed(EngineFault::OwedIdle(request)) = end else {
-        return Err(Fail::from("the second request comes back"));
-    };
-    assert_eq!(rt; request.msg_type.as_str(), SHUTDOWN);
-    let due = written(alloc, &[(ASKED, ("", "kernel_info_reply", 3, INFO))])?;
-    assert_eq!(rt; writer.into_inner().as_slice(), due.as_slice());
-    let publishing = engine.close().into_parts().publishing;
-    let block = [("status", "status", 1, BUSY), ("status", "status", 2, IDLE)];
-    expect_all(&rt, alloc, publishing.sink.items.as_slice(), ASKED, &block)
+/// How a session ended, in a word: where a request comes back, its type.
+fn word_of(end: &SessionEnd) -> &str {
+    match end {
+        SessionEnd::Eof => "eof",
+        SessionEnd::Shutdown(true) => "restart",
+        SessionEnd::Shutdown(false) => "shutdown",
+        SessionEnd::Failed(EngineFault::OwedIdle(request)) => request.msg_type.as_str(),
+        SessionEnd::Failed(_) | SessionEnd::Wire(_) => "fault",
+    }
 }
 
-#[test]
-fn a_cell_of_a_session_stops_where_stop_says_yes(rt: HostRuntime) -> Result<(), Fail> {
-    let alloc = rt.alloc();
-    let cell = "execute_request";
-    let octets = sent(alloc, &[(cell, r#"{"code":"1;2;3"}"#)])?;
-    let mut reader = Counted::new(octets.as_slice());
+/// Has an engine serve a peer that sends these octets: what is written to it, and what is published.
+fn served(
+    rt: &impl Abort,
+    alloc: Global,
+    octets: &[u8],
+    visit: &Visit<'_>,
+) -> (Vec<u8>, Vec<Event<()>>) {
+    let mut reader = Counted::new(octets);
     let mut writer = Counted::new(Vec::new(alloc));
-    let signer = Signer::new(Vec::new(alloc));
-    let arith = ShellArith::new(alloc);
-    let mut engine = Engine::new(Side::Shell, arith, ListSink::new(alloc), OneDate, signer);
-    let stop = After { left: Cell::new(2) };
+    let (first, last) = visit.refused;
+    let mut engine = over(alloc, visit.side, first, last);
+    let stop = stop_after(visit.noes);
     let end = session(alloc, &mut reader, &mut writer, &mut engine, &stop, 1000);
-    assert!(rt; matches!(&end, SessionEnd::Eof), "{end:?}");
-    let due = written(alloc, &[(cell, ("", "execute_reply", 7, INTERRUPTED))])?;
-    assert_eq!(rt; writer.into_inner().as_slice(), due.as_slice());
-    let publishing = engine.close().into_parts().publishing;
-    expect_all(&rt, alloc, publishing.sink.items(), cell, &STOPPED)
+    assert_eq!(rt; word_of(&end), visit.end);
+    let (items, _) = left(engine);
+    (writer.into_inner(), items)
+}
+
+/// A shutdown, between two requests that ask what the kernel is.
+const ENDED: Visit<'static> = Visit {
+    side: Side::Control,
+    refused: (0, 0),
+    noes: ALWAYS,
+    requests: &[
+        (ASKED, "{}"),
+        (SHUTDOWN, r#"{"restart":true}"#),
+        (ASKED, "{}"),
+    ],
+    replies: &[
+        (ASKED, ("", "kernel_info_reply", 3, INFO)),
+        (
+            SHUTDOWN,
+            ("", "shutdown_reply", 6, r#"{"restart":true,"status":"ok"}"#),
+        ),
+    ],
+    published: &[
+        (
+            ("q", ASKED),
+            &[("status", "status", 1, BUSY), ("status", "status", 2, IDLE)],
+        ),
+        (
+            ("q", SHUTDOWN),
+            &[("status", "status", 4, BUSY), ("status", "status", 5, IDLE)],
+        ),
+    ],
+    end: "restart",
+};
+
+/// Two requests over a sink that publishes busy and refuses idle, and again before the second request.
+const OWED: Visit<'static> = Visit {
+    side: Side::Control,
+    refused: (2, 3),
+    noes: ALWAYS,
+    requests: &[(ASKED, "{}"), (SHUTDOWN, "{}")],
+    replies: &[(ASKED, ("", "kernel_info_reply", 3, INFO))],
+    published: &[(
+        ("q", ASKED),
+        &[("status", "status", 1, BUSY), ("status", "status", 2, IDLE)],
+    )],
+    end: SHUTDOWN,
+};
+
+/// A cell of three steps, which is interrupted before the third.
+const INTERRUPTED_CELL: Visit<'static> = Visit {
+    side: Side::Shell,
+    refused: (0, 0),
+    noes: 2,
+    requests: &[CELL],
+    replies: &[(EXECUTE, ("", "execute_reply", 7, INTERRUPTED))],
+    published: &[(("q", EXECUTE), &STOPPED)],
+    end: "eof",
+};
+
+#[test]
+fn sessions_are_written_and_published(rt: HostRuntime) -> Result<(), Fail> {
+    let alloc = rt.alloc();
+    for visit in [&ENDED, &OWED, &INTERRUPTED_CELL] {
+        let octets = sent(alloc, visit.requests)?;
+        let (text, items) = served(&rt, alloc, octets.as_slice(), visit);
+        let due = written(alloc, visit.replies)?;
+        assert_eq!(rt; text.as_slice(), due.as_slice());
+        expect_blocks(&rt, alloc, items.as_slice(), visit.published)?;
+    }
+    Ok(())
 }
