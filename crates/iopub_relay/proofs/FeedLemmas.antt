@@ -1,5 +1,5 @@
 -- A table over a list of events, and the writers that it leaves.
-use Rattle.std.proofs.Common.{◌≡◌, inl, inr, ℕ, ◌+◌, nat_eq, Bool, true, false, List, [], ◌∷◌, ◌++◌, length, map}
+use Rattle.std.proofs.Common.{◌≡◌, inl, inr, ℕ, ◌+◌, ◌<◌, nat_eq, Bool, true, false, List, [], ◌∷◌, ◌++◌, length, map}
 use Rattle.std.proofs.Common.{Option, Some}
 use Rattle.std.proofs.Common.{None, refl, sym, ap, subst, ◌∙◌, cond, option_map, if◌then◌else◌}
 use Rattle.std.proofs.Common.{append_assoc, length-append, arith}
@@ -7,7 +7,7 @@ use Rattle.std.proofs.Common.{Result, Ok, Err}
 use Rattle.std.specs.Global.{Vec}
 use Rattle.std.specs.Result.{IfOk}
 use Rattle.zmtp_wire.specs.Frame.{text}
-use Rattle.zmtp_wire.specs.Device.{Outflow}
+use Rattle.zmtp_wire.specs.Device.{Outflow, Puts}
 use Rattle.iopub_event.specs.declared.event.Event.{Event}
 use Rattle.iopub_event.specs.declared.event.Event.TheVariants.{Message}
 use Rattle.iopub_relay.specs.declared.subscriber.Standing.{Standing}
@@ -16,7 +16,7 @@ use Rattle.iopub_relay.specs.declared.subscriber.Subscriber.{Subscriber}
 use Rattle.iopub_relay.specs.Life.{Life, life}
 use Rattle.iopub_relay.specs.Feed.{feed, feed_behind, Gets, IsFed, writer_of, AreAboveId, AreRisingIds}
 use Rattle.iopub_relay.specs.Rows.{row_of, AreAbove, AreRising}
-use Rattle.iopub_relay.specs.Table.{GetsBy, LivesAt, Fits, FitsMore, IsStarved, StarvesOnly}
+use Rattle.iopub_relay.specs.Table.{GetsBy, BreaksOff, LivesAt, Fits, FitsMore, IsStarved, StarvesOnly}
 use Rattle.iopub_relay.proofs.LifeLemmas.{feed_on}
 
 module _ {Writer : Type 0} where
@@ -49,6 +49,21 @@ module _ {Writer : Type 0} where
   abbrev pub NobodyStarves : List (Subscriber Writer) → Type 0
   NobodyStarves rows = (id : ℕ) → IsStarved (row_of id rows) → ⊥
 
+  -- a writer whose subscriber broke off got a beginning of its feed, and not all of it
+  pub broken_off : (old new : Outflow) (id : ℕ) (events : List (Event Writer)) → BreaksOff old new id events
+      → (front : List ℕ) × (lost : List ℕ) × (feed id events ≡ front ++ lost) × (0 < length lost) × Puts old new front 1
+  broken_off old new id events gets =
+      let behind = feed_behind id (gets.before ++ Message gets.message ∷ []) gets.behind in
+      let whole : feed id events ≡ (feed id gets.before ++ gets.front) ++ (gets.lost ++ behind) =
+      ap (feed id) gets.split ∙ feed_on id [] gets.before (Message gets.message ∷ gets.behind)
+      ∙ ap (λ (due : Bool). feed id gets.before ++ ((if due then text gets.message else []) ++ behind)) gets.due
+      ∙ ap (λ (octets : List ℕ). feed id gets.before ++ (octets ++ behind)) gets.cut
+      ∙ ap (λ (octets : List ℕ). feed id gets.before ++ octets) (append_assoc gets.front gets.lost behind)
+      ∙ sym (append_assoc (feed id gets.before) gets.front (gets.lost ++ behind)) in
+      let some = gets.some in
+      let long : length (gets.lost ++ behind) ≡ length gets.lost + length behind = length-append gets.lost behind in
+      (feed id gets.before ++ gets.front, gets.lost ++ behind, whole, omega (arith, some, long), gets.puts)
+
   module _ (outflow : Writer → Outflow) where
     -- A table served these events, and nobody found no memory for a topic.
     pub record Served (events : List (Event Writer)) (rows : List (Subscriber Writer)) : Type 0 where
@@ -75,17 +90,7 @@ module _ {Writer : Type 0} where
         → (standing ≡ Starved → ⊥) → GetsBy standing old new id events → Gets old new (feed id events)
     gets_all IsServed old new id events fed gets = inl gets
     gets_all Starved old new id events fed gets = absurd (fed refl)
-    gets_all Broken old new id events fed gets =
-        let behind = feed_behind id (gets.before ++ Message gets.message ∷ []) gets.behind in
-        let whole : feed id events ≡ (feed id gets.before ++ gets.front) ++ (gets.lost ++ behind) =
-        ap (feed id) gets.split ∙ feed_on id [] gets.before (Message gets.message ∷ gets.behind)
-        ∙ ap (λ (due : Bool). feed id gets.before ++ ((if due then text gets.message else []) ++ behind)) gets.due
-        ∙ ap (λ (octets : List ℕ). feed id gets.before ++ (octets ++ behind)) gets.cut
-        ∙ ap (λ (octets : List ℕ). feed id gets.before ++ octets) (append_assoc gets.front gets.lost behind)
-        ∙ sym (append_assoc (feed id gets.before) gets.front (gets.lost ++ behind)) in
-        let some = gets.some in
-        let long : length (gets.lost ++ behind) ≡ length gets.lost + length behind = length-append gets.lost behind in
-        inr (feed id gets.before ++ gets.front, gets.lost ++ behind, whole, omega (arith, some, long), gets.puts)
+    gets_all Broken old new id events fed gets = inr (broken_off old new id events gets)
 
     fed_at : (id : ℕ) (row : Option (Subscriber Writer)) (now : Option (Life Writer)) → (IsStarved row → ⊥)
         → LivesAt outflow id row now → IsFed outflow id now (option_map (λ row. row.writer) row)
@@ -110,3 +115,11 @@ module _ {Writer : Type 0} where
     fed_ok (Ok left) events rows served writers = λ id.
         subst (λ (writers : List (ℕ × Writer)). IsFed outflow id (life id events) (writer_of id writers)) (sym writers)
         (fed_all events rows id served)
+
+    -- the ids of the answer rise, where there is one
+    pub rising_ok : {Fault : Type 0} (result : Result (Vec (ℕ × Writer)) Fault) (rows : List (Subscriber Writer))
+        → AreRising rows → IfOk result (λ left. left.items ≡ writers_in rows)
+        → IfOk result (λ left. AreRisingIds left.items)
+    rising_ok (Err fault) rows rising writers = tt
+    rising_ok (Ok left) rows rising writers =
+        subst (λ (writers : List (ℕ × Writer)). AreRisingIds writers) (sym writers) (rising_ids rows rising)

@@ -1,11 +1,17 @@
 pub mod BeginningLemmas
+pub mod ChangeLemmas
+pub mod ConcludeLemmas
 pub mod CountLemmas
+pub mod DrainLemmas
 pub mod EditLemmas
 pub mod FeedLemmas
 pub mod HearLemmas
 pub mod LawLemmas
+pub mod LeftLemmas
 pub mod LifeLemmas
 pub mod PlaceLemmas
 pub mod RowLemmas
 pub mod ServeLemmas
+pub mod SettleLemmas
 pub mod TableLemmas
+pub mod TakenLemmas

@@ -3,6 +3,8 @@ pub mod Door
 pub mod Feed
 pub mod Laws
 pub mod Life
+pub mod Relay
 pub mod Rows
 pub mod Table
 pub mod Topics
+pub mod Within

@@ -1,11 +1,12 @@
 //! The relay over a plain list of events.
 
-ghost use Rattle.std.specs.Prelude.{ℕ, IfOk, OnOk};
+ghost use Rattle.std.specs.Prelude.{◌≡◌, ℕ, map, IfOk, OnOk};
 ghost use Rattle.iopub_relay.specs.Life.{life};
 ghost use Rattle.iopub_relay.specs.Feed.{IsFed, writer_of, AreRisingIds};
 ghost use Rattle.iopub_relay.specs.Table.{Serves};
 ghost use Rattle.iopub_relay.specs.declared.table.Outcome.{Outcome};
 
+use crate::subscriber::Subscriber;
 use crate::table::{Outcome, Table};
 use iopub_event::Event;
 use std::alloc::{AllocError, Global};
@@ -30,7 +31,22 @@ pub fn feed_core<W: Outlet + Drop>(
     for event in events {
         serve_or_fail(&mut table, event)?;
     }
-    table.into_writers()
+    writers_of(alloc, table.into_rows())
+}
+
+/// The subscribers, each with its writer.
+///
+/// # Errors
+///
+/// Where memory was refused.
+fn writers_of<W: Drop>(alloc: Global, rows: Vec<Subscriber<W>>) -> Result<Vec<(u64, W)>, AllocError>
+    ensures { IfOk result (λ left. left.items ≡ map (λ row. (row.id, row.writer)) rows.items) }
+{
+    let mut left = Vec::with_capacity(alloc, rows.len())?;
+    for row in rows {
+        left.push((row.id, row.writer))?;
+    }
+    Ok(left)
 }
 
 /// Serves an event.

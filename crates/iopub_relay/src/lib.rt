@@ -1,9 +1,11 @@
 //! What a relay takes: messages, and what its subscribers come, ask for and leave by; and what each subscriber gets.
 #![tactic(auto)]
 
+mod concluding;
 mod door;
 mod feed;
 mod laws;
+mod relay;
 mod subscriber;
 mod table;
 mod topics;
@@ -12,6 +14,7 @@ pub use door::door_event;
 pub use feed::feed_core;
 pub use iopub_event::Event;
 pub use laws::{matching_is_beginning, subscriber_of_everything};
+pub use relay::{Drain, Pumped, Relay};
 
 #[cfg(test)]
 mod tests;

@@ -4,6 +4,7 @@ ghost use Rattle.std.specs.Prelude.{◌≡◌, IfSome};
 ghost use Rattle.listed.specs.Bodies.{bodies};
 ghost use Rattle.zmtp_wire.specs.Frame.{text};
 ghost use Rattle.zmtp_wire.specs.Device.{AddsAll};
+ghost use Rattle.iopub_relay.specs.Relay.{has_failed};
 ghost use Rattle.iopub_relay.specs.Table.{Hears};
 
 use crate::topics::Topics;
@@ -31,6 +32,18 @@ pub(crate) struct Subscriber<W> {
     pub(crate) topics: Topics,
     /// How it stands.
     pub(crate) standing: Standing,
+}
+
+impl<W> Subscriber<W> {
+    /// Whether it has failed.
+    pub(crate) fn has_failed(&self) -> bool
+        ensures { result ≡ has_failed self.now.standing }
+    {
+        match self.standing {
+            Standing::Served => false,
+            Standing::Broken | Standing::Starved => true,
+        }
+    }
 }
 
 impl<W: Outlet> Subscriber<W> {

@@ -1,17 +1,17 @@
 //! The subscribers of a relay.
 
-ghost use Rattle.std.specs.Prelude.{◌≡◌, [], map, IfOk, IfErr, IfSome};
+ghost use Rattle.std.specs.Prelude.{◌≡◌, [], length, IfOk, IfErr, IfSome};
 ghost use Rattle.listed.specs.Bodies.{bodies};
 ghost use Rattle.zmtp_wire.specs.Frame.{text};
-ghost use Rattle.iopub_relay.specs.Feed.{AreRisingIds};
-ghost use Rattle.iopub_relay.specs.Rows.{AreRising, IsAt, IsFree};
+ghost use Rattle.iopub_relay.specs.Relay.{is_failed};
+ghost use Rattle.iopub_relay.specs.Rows.{AreRising, IsAt, IsFree, row_of};
 ghost use Rattle.iopub_relay.specs.Table.{Serves, AllHear};
 
 use crate::subscriber::{Standing, Subscriber};
 use crate::topics::Topics;
 use iopub_event::Event;
 use listed::{Frames, Octets};
-use std::alloc::{AllocError, Global};
+use std::alloc::Global;
 use std::marker::Model;
 use zmtp_wire::{Outlet, write_message};
 
@@ -152,22 +152,41 @@ impl<W: Outlet + Drop> Table<W> {
 }
 
 impl<W> Table<W> {
-    /// The subscribers, each with its writer.
-    ///
-    /// # Errors
-    ///
-    /// Where memory was refused.
-    pub(crate) fn into_writers(self) -> Result<Vec<(u64, W)>, AllocError>
-    where
-        W: Drop,
-        ensures rising { IfOk result (λ left. AreRisingIds left.items) }
-        ensures writers { IfOk result (λ left. left.items ≡ map (λ row. (row.id, row.writer)) self) }
+    /// The subscribers, by rising ids.
+    pub(crate) fn into_rows(self) -> Vec<Subscriber<W>>
+        ensures rows { result.items ≡ self }
+        ensures rising { AreRising result.items }
     {
-        let mut left = Vec::with_capacity(self.alloc, self.rows.len())?;
-        for row in self.rows {
-            left.push((row.id, row.writer))?;
+        self.rows
+    }
+
+    /// What is true of every table: the ids of its subscribers rise. Does nothing.
+    pub(crate) fn is_rising(&self)
+        ensures { AreRising self.now }
+    {
+        let _ = &self.rows;
+    }
+
+    /// How many subscribers there are.
+    pub(crate) fn len(&self) -> usize
+        ensures { result ≡ length self.now }
+    {
+        self.rows.len()
+    }
+
+    /// What gives the memory.
+    pub(crate) fn alloc(&self) -> Global {
+        self.alloc
+    }
+
+    /// Whether a subscriber is there and has failed.
+    pub(crate) fn failed(&self, id: u64) -> bool
+        ensures { result ≡ is_failed (row_of id self.now) }
+    {
+        match place_of(&self.rows, id) {
+            Ok(place) => self.rows[place].has_failed(),
+            Err(_) => false,
         }
-        Ok(left)
     }
 }
 

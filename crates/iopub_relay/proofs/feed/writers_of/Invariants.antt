@@ -1,8 +1,8 @@
 use Rattle.std.proofs.Common.{◌≡◌, ◌++◌, map}
-use Rattle.iopub_relay.proofs.table.Table.into_writers.Given as goal
+use Rattle.iopub_relay.proofs.feed.writers_of.Given as goal
 
 abbrev pub invariant-loop-row : goal.invariant-loop-row
 invariant-loop-row g l = record {
   done : l.left.items ≡ map (λ row. (row.id, row.writer)) l.yielded;
-  rest : l.fn.self ≡ l.yielded ++ l.row-iterator.rest.items;
+  rest : l.fn.rows.items ≡ l.yielded ++ l.row-iterator.rest.items;
 }
