@@ -1,0 +1,2 @@
+mod RelayingLemmas
+pub mod RunningLemmas

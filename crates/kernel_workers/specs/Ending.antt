@@ -1,0 +1,53 @@
+-- What the workers leave: closing tokens of the publishers that they were given, with these lists.
+use Rattle.std.specs.Prelude.{◌≡◌, ⊤, ℕ, List, [], ◌∷◌, ◌++◌, All, map, Option, Some, None}
+use Rattle.interp_core.specs.Interpreter.{Meaning}
+use Rattle.iopub_event.specs.declared.event.Event.{Event}
+use Rattle.iopub_event.specs.declared.event.Event.TheVariants as events
+use Rattle.iopub_queue.specs.Entries.{EndsWithClose}
+use Rattle.iopub_queue.specs.Values.{Publishing}
+use Rattle.jmsg_envelope.specs.Stamp.{StampMeaning}
+use Rattle.kernel_block.specs.declared.side.Side.{Side}
+use Rattle.kernel_block.specs.Block.{Sealing}
+use Rattle.kernel_block.specs.Growth.{item_of}
+use Rattle.kernel_block.specs.WellBlocked.{AreClosed, AreCuts, History, Rise, first_number, said}
+
+-- what all messages of an engine share that was given a key and a stamp
+abbrev pub sealing_by : {S : Type 0} → (S → StampMeaning) → (StampMeaning → ℕ → List ℕ) → List ℕ → S
+    → Sealing
+sealing_by meaning id_text key stamp =
+    record { key = key; session = (meaning stamp).session; id = id_text (meaning stamp) }
+
+-- What a worker of shell or control published, all of it ('Messaging in Jupyter' 5.3, "Kernel status"): that the
+-- kernel starts, where it said so, then one block behind the other, each from busy to idle, with rising numbers and a
+-- beginning of what is published of a request between the two; and last its close.
+pub record IsWellBlocked {State Cell W : Type 0} (m : Meaning State Cell) (side : Side) (sealing : Sealing)
+    (items : List (Option (Event W))) : Type 0 where
+  pub history : History
+  pub next : ℕ
+  pub items_are : items ≡ map item_of (said sealing history) ++ None ∷ []
+  pub cuts : AreCuts m side history.blocks
+  pub rise : Rise (first_number history.started) history.blocks next
+  pub closed : AreClosed history.blocks
+
+-- a worker of shell or control left the closing token of its publisher, whose list is well blocked
+pub record EndsBlocked {State Cell W : Type 0} (m : Meaning State Cell) (side : Side) (sealing : Sealing)
+    (publisher closed : Publishing (Event W)) : Type 0 where
+  pub queue : closed.queue ≡ publisher.queue
+  pub number : closed.number ≡ publisher.number
+  pub blocked : IsWellBlocked m side sealing closed.published
+
+-- what is published is no message
+abbrev pub IsNoMessage : {W : Type 0} → Option (Event W) → Type 0
+IsNoMessage None = ⊤
+IsNoMessage (Some (events.Message frames)) = ⊥
+IsNoMessage (Some (events.Attach id writer)) = ⊤
+IsNoMessage (Some (events.Subscribe id topic)) = ⊤
+IsNoMessage (Some (events.Cancel id topic)) = ⊤
+IsNoMessage (Some (events.Detach id)) = ⊤
+
+-- the door's worker left the closing token of its publisher, whose list has no message and ends with the close
+pub record EndsSilent {W : Type 0} (publisher closed : Publishing (Event W)) : Type 0 where
+  pub queue : closed.queue ≡ publisher.queue
+  pub number : closed.number ≡ publisher.number
+  pub silent : All IsNoMessage closed.published
+  pub close_last : EndsWithClose closed.published

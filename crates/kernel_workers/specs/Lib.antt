@@ -1,0 +1,8 @@
+pub mod Causes
+pub mod Ending
+pub mod Jobs
+pub mod Opening
+pub mod Requests
+pub mod Running
+pub mod Staging
+pub mod Staying

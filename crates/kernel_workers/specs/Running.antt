@@ -1,0 +1,57 @@
+-- How a kernel ends, and why one doesn't run.
+use Rattle.std.specs.Prelude.{◌≡◌, ℕ, Bool, true, false, List, All, Option, Some, None}
+use Rattle.interp_core.specs.Interpreter.{Meaning}
+use Rattle.zmtp_wire.specs.Device.{Outflow}
+use Rattle.iopub_event.specs.declared.event.Event.{Event}
+use Rattle.iopub_queue.specs.Calls.{IsCapacity}
+use Rattle.iopub_queue.specs.Entries.{Entry, of, CloseIsLast, IsComplete}
+use Rattle.iopub_queue.specs.Fault.{open_fault_number}
+use Rattle.iopub_relay.specs.Relay.{AreOfNumbers, IsLeftOf}
+use Rattle.jmsg_envelope.specs.Stamp.{StampMeaning}
+use Rattle.kernel_block.specs.declared.side.Side.TheVariants.{Shell, Control}
+use Rattle.kernel_workers.specs.declared.fault.KernelFault.{KernelFault}
+use Rattle.kernel_workers.specs.declared.fault.KernelFault.TheVariants.{Queue, NoThread}
+use Rattle.kernel_workers.specs.declared.parts.Parts.{Parts}
+use Rattle.kernel_workers.specs.declared.running.KernelEnd.{KernelEnd}
+use Rattle.kernel_workers.specs.Ending.{IsNoMessage, IsWellBlocked, sealing_by}
+
+-- the number of a kernel's fault
+abbrev pub kernel_fault_number : KernelFault → ℕ
+kernel_fault_number (Queue fault) = open_fault_number fault
+kernel_fault_number NoThread = 65
+
+-- whether a kernel is to begin anew, where control was asked for a shutdown or shell was: control's word counts first
+abbrev pub restart_by : Option Bool → Option Bool → Bool
+restart_by (Some restart) shell = restart
+restart_by None (Some restart) = restart
+restart_by None None = false
+
+-- A kernel ended with all that was published taken: of shell, of control and of the door just what each published, each
+-- up to its close, and nothing else. Its subscribers are those that are left of a relay which took that.
+pub record TookAll {W : Type 0} (outflow : W → Outflow) (shell control door : List (Option (Event W)))
+    (ended : KernelEnd W) : Type 0 where
+  pub taken : List (Entry (Event W))
+  pub says : ended.complete ≡ true
+  pub complete : IsComplete 3 taken
+  pub last : (number : ℕ) → CloseIsLast (of number taken)
+  pub shell_is : of 0 taken ≡ shell
+  pub control_is : of 1 taken ≡ control
+  pub door_is : of 2 taken ≡ door
+  pub others : AreOfNumbers 3 taken
+  pub left : IsLeftOf outflow taken ended.no_room ended.subscribers.items
+
+-- How a kernel ends. All that was published was taken. What shell published, and what control did, is well blocked:
+-- each request's messages stand between its busy and its idle, signed with the kernel's key, under the ids of the
+-- channel's stamp. The door published no message. Each subscriber that is left got the texts of the messages of its
+-- life that match its topics, or a beginning of that where it failed.
+pub record EndsWell {I S W Cell : Type 0} (m : Meaning I Cell) (meaning : S → StampMeaning)
+    (id_text : StampMeaning → ℕ → List ℕ) (outflow : W → Outflow) (parts : Parts I S W) (ended : KernelEnd W)
+    : Type 0 where
+  pub capacity : IsCapacity parts.capacity
+  pub shell : List (Option (Event W))
+  pub control : List (Option (Event W))
+  pub door : List (Option (Event W))
+  pub took : TookAll outflow shell control door ended
+  pub shell_blocked : IsWellBlocked m Shell (sealing_by meaning id_text parts.key.items parts.shell.1) shell
+  pub control_blocked : IsWellBlocked m Control (sealing_by meaning id_text parts.key.items parts.control.1) control
+  pub door_silent : All IsNoMessage door

@@ -1,0 +1,140 @@
+//! Control's worker.
+
+ghost use Rattle.std.specs.Prelude.{◌≡◌, [], true};
+ghost use Rattle.kernel_block.specs.declared.side.Side.TheVariants.{Control};
+ghost use Rattle.kernel_workers.specs.Ending.{EndsBlocked, sealing_by};
+ghost use Rattle.kernel_workers.specs.Jobs.{DoesJob};
+ghost use Rattle.kernel_workers.specs.Staying.{IsSameEngine};
+
+use crate::ended::{Cause, Ended};
+use crate::flags::{Flags, Never};
+use crate::inbox::{Note, tell_end};
+use crate::job::Job;
+use crate::request::{after_fault, close, is_shutdown, open_request, reply};
+use crate::waking::Waking;
+use crossbeam_channel::{Receiver, Sender};
+use interp_core::Interpreter;
+use iopub_event::Event;
+use jmsg_envelope::{Signer, Stamp};
+use kernel_block::{Engine, Side};
+use std::alloc::Global;
+use std::sync::Wait;
+
+/// What control's worker hears, and whom it ends.
+#[derive(Drop)]
+pub struct ControlLines<W> {
+    /// Its inbox.
+    pub inbox: Receiver<Note<Job>>,
+    /// What it stops shell by.
+    pub flags: Flags,
+    /// The inbox of shell, which it ends before itself.
+    pub shell: Sender<Note<Job>>,
+    /// Where shell tells that it ended.
+    pub shell_ended: Receiver<()>,
+    /// The inbox of the door, which it ends last.
+    pub door: Sender<Note<Event<W>>>,
+}
+
+impl<W: Drop> ControlLines<W> {
+    /// Ends shell's worker, and waits until it ended.
+    fn end_shell<R: Wait>(&self, rt: &R) {
+        self.flags.end();
+        tell_end(rt, &self.shell);
+        let _ = self.shell_ended.recv(rt);
+    }
+}
+
+/// The work of control: does the jobs of its inbox one after the other, until it is told to end, a request asks for the
+/// end, all ids were given, or nobody is left who could tell it anything. Shell is ended before a shutdown is handled,
+/// and in any case before control closes; the door is ended last.
+pub fn work_control<I, S, W, R>(
+    rt: R,
+    alloc: Global,
+    interp: I,
+    stamp: S,
+    signer: Signer,
+    sink: Waking<Event<W>, R>,
+    lines: ControlLines<W>,
+) -> Ended<W>
+where
+    I: Interpreter + Drop,
+    I::Cell: Drop,
+    S: Stamp + Drop,
+    W: Drop,
+    R: Wait + Drop,
+    requires { sink.published ≡ [] }
+    ensures { EndsBlocked I.meaning Control (sealing_by S.meaning S.id_text signer stamp) sink result.closed }
+{
+    let mut engine = Engine::new(Side::Control, interp, sink, stamp, signer);
+    let mut shell_ended = false;
+    let cause = serve(&rt, alloc, &mut engine, &lines, &mut shell_ended);
+    if !shell_ended {
+        lines.end_shell(&rt);
+    }
+    let closed = close(engine);
+    tell_end(&rt, &lines.door);
+    Ended {
+        closed,
+        restart: cause.restart(),
+    }
+}
+
+/// Does the jobs of the inbox, until something ends that.
+fn serve<I, S, W, R>(
+    rt: &R,
+    alloc: Global,
+    engine: &mut Engine<I, Waking<Event<W>, R>, S, W>,
+    lines: &ControlLines<W>,
+    shell_ended: &mut bool,
+) -> Cause
+where
+    I: Interpreter,
+    S: Stamp,
+    W: Drop,
+    R: Wait,
+    ensures { IsSameEngine S.meaning engine.old engine.new }
+{
+    for _ in rt.forever() {
+        let Ok(Note::Job(job)) = lines.inbox.recv(rt) else {
+            return Cause::Told;
+        };
+        if let Some(cause) = do_job(rt, alloc, engine, job, lines, shell_ended) {
+            return cause;
+        }
+    }
+    unreachable!()
+}
+
+/// Does a job: has its request handled, and sends the reply. Where it asks for a shutdown, shell is ended first; where
+/// it asks for an interrupt, the flag is raised before the reply is sent.
+fn do_job<I, S, W, R>(
+    rt: &R,
+    alloc: Global,
+    engine: &mut Engine<I, Waking<Event<W>, R>, S, W>,
+    job: Job,
+    lines: &ControlLines<W>,
+    shell_ended: &mut bool,
+) -> Option<Cause>
+where
+    I: Interpreter,
+    S: Stamp,
+    W: Drop,
+    R: Wait,
+    ensures does { DoesJob I.meaning S.meaning S.id_text S.is_date ⊥ job.frames engine.old result engine.new }
+    ensures same { IsSameEngine S.meaning engine.old engine.new }
+{
+    let request = open_request(alloc, engine.signer(), job.frames)?;
+    if is_shutdown(alloc, &request).ok()? && !*shell_ended {
+        lines.end_shell(rt);
+        *shell_ended = true;
+    }
+    match engine.handle(alloc, request, &Never) {
+        Ok(handled) => {
+            if handled.interrupt {
+                lines.flags.interrupt();
+            }
+            reply(rt, handled, &job.reply)
+        }
+        Err(fault) => after_fault(&fault),
+    }
+}

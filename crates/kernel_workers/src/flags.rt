@@ -1,0 +1,83 @@
+//! The flags by which control stops what shell does.
+
+use kernel_block::Stop;
+use std::alloc::{AllocError, Global};
+use std::sync::Arc;
+use std::sync::atomic::{AtomicBool, Ordering};
+
+/// The flags by which control stops what shell does, for both of them. Control raises the one of the end before the one
+/// of an interrupt, and shell lowers the latter before it reads the former: so a job that begins behind a raised end
+/// isn't done, and the cell of one that began before is interrupted.
+#[derive(Drop)]
+pub struct Flags {
+    /// Whether shell is to end.
+    ending: Arc<AtomicBool, Global>,
+    /// Whether the cell that runs is to be interrupted.
+    interrupt: Arc<AtomicBool, Global>,
+}
+
+impl Flags {
+    /// Flags that are down.
+    ///
+    /// # Errors
+    ///
+    /// Where an allocation is refused.
+    pub fn new(alloc: Global) -> Result<Flags, AllocError> {
+        let Ok(ending) = Arc::new(alloc, AtomicBool::new(false)) else {
+            return Err(AllocError);
+        };
+        let Ok(interrupt) = Arc::new(alloc, AtomicBool::new(false)) else {
+            return Err(AllocError);
+        };
+        Ok(Flags { ending, interrupt })
+    }
+
+    /// The same flags, for the other worker.
+    ///
+    /// # Errors
+    ///
+    /// Where the flags have too many owners.
+    pub fn try_clone(&self) -> Result<Flags, AllocError> {
+        Ok(Flags {
+            ending: Arc::try_clone(&self.ending)?,
+            interrupt: Arc::try_clone(&self.interrupt)?,
+        })
+    }
+
+    /// Raises the flag of an interrupt.
+    pub(crate) fn interrupt(&self) {
+        self.interrupt.store(true, Ordering::SeqCst);
+    }
+
+    /// Raises the flag of the end, and then that of an interrupt.
+    pub(crate) fn end(&self) {
+        self.ending.store(true, Ordering::SeqCst);
+        self.interrupt();
+    }
+
+    /// Lowers the flag of an interrupt, and then says whether the one of the end is down.
+    pub(crate) fn may_begin(&self) -> bool {
+        self.interrupt.store(false, Ordering::SeqCst);
+        !self.ending.load(Ordering::SeqCst)
+    }
+}
+
+impl Stop for Flags {
+    ghost may_ask = { λ _. Unit };
+
+    fn asked(&self) -> bool {
+        self.interrupt.load(Ordering::SeqCst)
+    }
+}
+
+/// Stops nothing: what control does is never interrupted.
+#[derive(Clone, Copy, Debug)]
+pub(crate) struct Never;
+
+impl Stop for Never {
+    ghost may_ask = { λ _. ⊥ };
+
+    fn asked(&self) -> bool {
+        false
+    }
+}

@@ -1,0 +1,130 @@
+//! Shell's worker.
+
+ghost use Rattle.std.specs.Prelude.{◌≡◌, []};
+ghost use Rattle.kernel_block.specs.declared.side.Side.TheVariants.{Shell};
+ghost use Rattle.kernel_workers.specs.Ending.{EndsBlocked, sealing_by};
+ghost use Rattle.kernel_workers.specs.Jobs.{DoesJob};
+ghost use Rattle.kernel_workers.specs.Staying.{IsSameEngine};
+
+use crate::ended::{Cause, Ended};
+use crate::flags::Flags;
+use crate::inbox::{Note, tell_end};
+use crate::job::Job;
+use crate::request::{after_fault, close, open_request, reply};
+use crate::waking::Waking;
+use crossbeam_channel::{Receiver, Sender};
+use interp_core::Interpreter;
+use iopub_event::Event;
+use jmsg_envelope::{Signer, Stamp};
+use kernel_block::{Engine, Side};
+use std::alloc::Global;
+use std::sync::Wait;
+
+/// What shell's worker hears, and whom it tells that it ended.
+#[derive(Drop)]
+pub struct ShellLines {
+    /// Its inbox.
+    pub inbox: Receiver<Note<Job>>,
+    /// What control stops it by.
+    pub flags: Flags,
+    /// Tells control that it ended.
+    pub ended: Sender<()>,
+    /// The inbox of control, which it ends where a client asked for that.
+    pub control: Sender<Note<Job>>,
+}
+
+/// The work of shell: publishes that the kernel starts, and does the jobs of its inbox one after the other, until it is
+/// told to end, a request asks for the end, all ids were given, or nobody is left who could tell it anything. Then it
+/// closes, and tells control.
+pub fn work_shell<I, S, W, R>(
+    rt: R,
+    alloc: Global,
+    interp: I,
+    stamp: S,
+    signer: Signer,
+    sink: Waking<Event<W>, R>,
+    lines: ShellLines,
+) -> Ended<W>
+where
+    I: Interpreter + Drop,
+    I::Cell: Drop,
+    S: Stamp + Drop,
+    W: Drop,
+    R: Wait + Drop,
+    requires { sink.published ≡ [] }
+    ensures { EndsBlocked I.meaning Shell (sealing_by S.meaning S.id_text signer stamp) sink result.closed }
+{
+    let mut engine = Engine::new(Side::Shell, interp, sink, stamp, signer);
+    start(alloc, &mut engine);
+    let cause = serve(&rt, alloc, &mut engine, &lines);
+    let closed = close(engine);
+    let _ = lines.ended.send(&rt, ());
+    tell_end(&rt, &lines.control);
+    Ended {
+        closed,
+        restart: cause.restart(),
+    }
+}
+
+/// Publishes that the kernel starts. Where memory is refused it isn't published, and shell goes on.
+fn start<I, S, W, R>(alloc: Global, engine: &mut Engine<I, Waking<Event<W>, R>, S, W>)
+where
+    I: Interpreter,
+    S: Stamp,
+    W: Drop,
+    R: Wait,
+    ensures { IsSameEngine S.meaning engine.old engine.new }
+{
+    let _ = engine.start(alloc);
+}
+
+/// Does the jobs of the inbox, until something ends that.
+fn serve<I, S, W, R>(
+    rt: &R,
+    alloc: Global,
+    engine: &mut Engine<I, Waking<Event<W>, R>, S, W>,
+    lines: &ShellLines,
+) -> Cause
+where
+    I: Interpreter,
+    S: Stamp,
+    W: Drop,
+    R: Wait,
+    ensures { IsSameEngine S.meaning engine.old engine.new }
+{
+    for _ in rt.forever() {
+        let Ok(Note::Job(job)) = lines.inbox.recv(rt) else {
+            return Cause::Told;
+        };
+        if let Some(cause) = do_job(rt, alloc, engine, job, &lines.flags) {
+            return cause;
+        }
+    }
+    unreachable!()
+}
+
+/// Does a job: has its request handled, and sends the reply. A job that begins once the end was asked for is dropped.
+fn do_job<I, S, W, R>(
+    rt: &R,
+    alloc: Global,
+    engine: &mut Engine<I, Waking<Event<W>, R>, S, W>,
+    job: Job,
+    flags: &Flags,
+) -> Option<Cause>
+where
+    I: Interpreter,
+    S: Stamp,
+    W: Drop,
+    R: Wait,
+    ensures does { DoesJob I.meaning S.meaning S.id_text S.is_date Unit job.frames engine.old result engine.new }
+    ensures same { IsSameEngine S.meaning engine.old engine.new }
+{
+    if !flags.may_begin() {
+        return None;
+    }
+    let request = open_request(alloc, engine.signer(), job.frames)?;
+    match engine.handle(alloc, request, flags) {
+        Ok(handled) => reply(rt, handled, &job.reply),
+        Err(fault) => after_fault(&fault),
+    }
+}

@@ -1,0 +1,75 @@
+//! A sink that wakes the relay.
+
+ghost use Rattle.std.specs.Prelude.{◌≡◌, None};
+ghost use Rattle.iopub_queue.specs.Calls.{Adds};
+
+use crossbeam_utils::sync::Unparker;
+use iopub_queue::{Closed, Publish, Publisher, Refused};
+use std::marker::Model;
+use std::sync::Wait;
+
+/// A publisher that wakes the relay's worker behind each publication, and behind its close. A contract sees the
+/// publisher.
+#[derive(Drop)]
+pub struct Waking<T, R> {
+    /// The publisher.
+    publisher: Publisher<T, R>,
+    /// What wakes the relay's worker.
+    relay: Unparker,
+}
+
+impl<T, R> Model for Waking<T, R> {
+    ghost use Rattle.iopub_queue.specs.Values.{Publishing};
+
+    ghost Value = { Publishing T };
+
+    ghost view = { λ waking. waking.publisher };
+}
+
+impl<T, R> Waking<T, R> {
+    /// This publisher, which wakes the relay's worker.
+    pub fn new(publisher: Publisher<T, R>, relay: Unparker) -> Waking<T, R>
+        ensures { result ≡ publisher }
+    {
+        Waking { publisher, relay }
+    }
+}
+
+impl<T: Drop, R: Wait + Drop> Waking<T, R> {
+    /// Publishes the close, behind all that this publisher published, and wakes the relay's worker. Needs no memory.
+    pub fn close(self) -> Closed<T>
+        ensures { Adds self None result }
+    {
+        let Waking { publisher, relay } = self;
+        let Ok(closed) = publisher.close() else {
+            unreachable!()
+        };
+        relay.unpark();
+        closed
+    }
+}
+
+impl<T, R: Wait> Publish for Waking<T, R> {
+    ghost use Rattle.std.specs.Prelude.{◌≡◌, refl};
+    ghost use Rattle.std.proofs.Common.{◌∙◌};
+
+    type Item = T;
+
+    ghost items_of = { λ waking. waking.published };
+
+    ghost may_refuse = { λ waking. ⊥ };
+
+    ghost is_same = { λ a b. (b.queue ≡ a.queue) × (b.number ≡ a.number) };
+
+    fn publish(&mut self, item: T) -> Result<(), Refused<T>> {
+        let published = self.publisher.publish(item);
+        self.relay.unpark();
+        published
+    }
+
+    ghost same_itself = { λ _. (refl, refl) };
+
+    ghost same_on = { λ a b c ab bc. (bc.0 ∙ ab.0, bc.1 ∙ ab.1) };
+
+    ghost same_may_refuse = { λ _ _ _. (λ none. none, λ none. none) };
+}
