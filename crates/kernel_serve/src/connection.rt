@@ -1,0 +1,112 @@
+//! Connections of shell and control: one thread reads a peer's requests, another writes the replies.
+
+use crate::outgoing::Outgoing;
+use crossbeam_channel::{Receiver, SendError, Sender, unbounded};
+use kernel_engine::{Intake, hear, shake};
+use kernel_workers::{Job, Note};
+use listed::Frames;
+use std::alloc::{AllocError, Global};
+use std::net::TcpStream;
+use std::sync::Wait;
+use std::thread;
+use std::thread::Threads;
+use zmtp_wire::{Counted, SocketType, Traffic, write_all, write_message};
+
+/// The most reads of one handshake, and of hearing behind it.
+pub(crate) const TURNS: u64 = 1_000_000_000;
+
+/// Where a peer's messages go as jobs. Its commands are dropped.
+#[derive(Drop)]
+struct Requests<R> {
+    /// The handle to wait by.
+    rt: R,
+    /// The worker's inbox.
+    inbox: Sender<Note<Job>>,
+    /// Where replies to this peer go.
+    replies: Sender<Frames>,
+}
+
+impl<R: Wait> Intake for Requests<R> {
+    ghost use Rattle.std.specs.Prelude.{⊤, None, []};
+
+    ghost takes = { λ _ _ _ _. ⊤ };
+
+    ghost told = { λ _. None };
+
+    ghost names = { λ _. [] };
+
+    fn put(&mut self, traffic: Traffic) -> Result<bool, AllocError> {
+        let Traffic::Message(message) = traffic else {
+            return Ok(true);
+        };
+        let job = Job {
+            frames: Frames::new(message.into_vec()),
+            reply: self.replies.clone()?,
+        };
+        match self.inbox.send(&self.rt, Note::Job(job)) {
+            Ok(()) => Ok(true),
+            Err(SendError::Disconnected(_)) => Ok(false),
+            Err(SendError::OutOfMemory(_)) => Err(AllocError),
+        }
+    }
+}
+
+/// Serves a peer of shell or control as a ROUTER: shakes hands with it, and puts each message that it sends into the
+/// inbox, while a second thread writes the replies. Returns when its octets ended or are refused, and all replies
+/// were written or a write failed.
+pub(crate) fn serve_requests<R>(
+    rt: R,
+    alloc: Global,
+    reader: TcpStream,
+    writer: TcpStream,
+    inbox: Sender<Note<Job>>,
+)
+where
+    R: Threads + Wait + Copy + Send + Sync + Drop + 'static,
+{
+    let mut reader = Counted::new(reader);
+    let mut writer = Counted::new(Outgoing::new(writer));
+    let Ok(mut shaken) = shake(alloc, &mut reader, &mut writer, SocketType::Router, TURNS) else {
+        return;
+    };
+    let Ok((replies, due)) = unbounded(alloc) else {
+        return;
+    };
+    let Ok(writing) = thread::spawn(&rt, move || write_replies(rt, alloc, due, writer)) else {
+        return;
+    };
+    let mut requests = Requests { rt, inbox, replies };
+    let _ = hear(alloc, &mut reader, &mut shaken, &mut requests, TURNS);
+    // The writing thread ends once nobody is left who could reply.
+    drop(requests);
+    writing.join(&rt);
+}
+
+/// Writes replies to a peer, until nobody is left who could send one, a write fails or there is no memory for a text.
+fn write_replies<R: Wait + Drop>(
+    rt: R,
+    alloc: Global,
+    replies: Receiver<Frames>,
+    writer: Counted<Outgoing>,
+) {
+    let mut writer = writer;
+    for _ in rt.forever() {
+        let Ok(frames) = replies.recv(&rt) else {
+            return;
+        };
+        if !write_reply(alloc, &mut writer, &frames) {
+            break;
+        }
+    }
+    // The peer lost a reply. It is to know that, and isn't heard any more.
+    writer.into_inner().shut();
+}
+
+/// Writes a reply in as few writes as it takes, and answers whether that went well.
+fn write_reply(alloc: Global, writer: &mut Counted<Outgoing>, frames: &Frames) -> bool {
+    if frames.is_empty() {
+        return true;
+    }
+    let mut text = Vec::new(alloc);
+    write_message(alloc, frames.as_slice(), &mut text).is_ok() && write_all(writer, &text).is_ok()
+}

@@ -1,0 +1,162 @@
+//! Serving a connection file: the ports, the kernel behind them, and their end.
+
+use crate::ending::{Acceptor, end_all, start};
+use crate::fault::{Port, ServeFault};
+use crate::ports::{Ports, bind_ports};
+use crate::service::Service;
+use crate::stamp::KernelStamp;
+use crate::subscriber::Writer;
+use arith_shell::ShellArith;
+use conn_file::Connection;
+use crossbeam_channel::unbounded;
+use kernel_workers::{Inbox, KernelEnd, Parts, run_kernel};
+use std::alloc::{AllocError, Global};
+use std::net::{Net, TcpListener, TcpStream};
+use std::random::RandomSource;
+use std::sync::Wait;
+use std::thread::Threads;
+use std::time::Clock;
+use uuid::Uuid;
+
+/// How many publications may wait for the relay.
+const CAPACITY: usize = 1_024;
+
+/// How many octets the text of a session's id has.
+const ID_LENGTH: usize = 36;
+
+/// How a kernel that served ended.
+#[derive(Clone, Copy, Debug, PartialEq, Eq)]
+pub struct Served {
+    /// Whether all that was published was taken.
+    pub complete: bool,
+    /// Whether the kernel is to begin anew.
+    pub restart: bool,
+}
+
+/// What a kernel of shell arithmetic runs on.
+type KernelParts<R> = Parts<ShellArith, KernelStamp<R>, Writer>;
+
+/// Runs a kernel on the ports of a connection file, until a client asks for its end: binds them, accepts whoever
+/// connects, and ends every connection and every thread before it returns.
+///
+/// # Errors
+///
+/// `CannotBind` with the first port that can't be bound, in the order shell, iopub, control, heartbeat; `NoThread`,
+/// `NoRandomness` or `OutOfMemory` where the system gives none.
+pub fn serve<R>(rt: R, alloc: Global, connection: Connection) -> Result<Served, ServeFault>
+where
+    R: Net<Listener = TcpListener, Stream = TcpStream>
+        + Threads
+        + Wait
+        + Clock
+        + RandomSource
+        + Copy
+        + Send
+        + Sync
+        + Drop
+        + 'static,
+{
+    let ports = bind_ports(&rt, &connection)?;
+    let parts = parts_of(rt, alloc, connection.key.into_vec())?;
+    let mut acceptors = Vec::new(alloc);
+    acceptors.reserve(4)?;
+    let served = match accept_on(rt, alloc, ports, &parts, &mut acceptors) {
+        Ok(()) => run(rt, alloc, parts),
+        Err(fault) => {
+            drop(parts);
+            Err(fault)
+        }
+    };
+    end_all(&rt, acceptors);
+    served
+}
+
+/// Runs the kernel itself.
+fn run<R>(rt: R, alloc: Global, parts: KernelParts<R>) -> Result<Served, ServeFault>
+where
+    R: Threads + Wait + Clock + Copy + Send + Sync + Drop + 'static,
+{
+    let KernelEnd {
+        complete,
+        restart,
+        ..
+    } = run_kernel(rt, alloc, parts)?;
+    Ok(Served { complete, restart })
+}
+
+/// What the kernel runs on: an interpreter for shell and one for control, and a session of its own.
+///
+/// # Errors
+///
+/// `NoRandomness` where the system gives no random octets, `OutOfMemory`.
+fn parts_of<R>(rt: R, alloc: Global, key: Vec<u8>) -> Result<KernelParts<R>, ServeFault>
+where
+    R: RandomSource + Copy + Drop,
+{
+    let Ok(session) = Uuid::try_new_v4(&rt) else {
+        return Err(ServeFault::NoRandomness);
+    };
+    let mut buffer = [0; ID_LENGTH];
+    let session = session.hyphenated();
+    let session: &str = session.encode_lower(&mut buffer);
+    Ok(Parts {
+        shell: (ShellArith::new(alloc), stamp_of(rt, alloc, session, "s")?),
+        control: (ShellArith::new(alloc), stamp_of(rt, alloc, session, "c")?),
+        key,
+        capacity: CAPACITY,
+        shell_in: inbox(alloc)?,
+        control_in: inbox(alloc)?,
+        door_in: inbox(alloc)?,
+    })
+}
+
+/// The stamp of a channel, whose ids are told apart from the other's by a letter.
+fn stamp_of<R>(
+    rt: R,
+    alloc: Global,
+    session: &str,
+    letter: &str,
+) -> Result<KernelStamp<R>, AllocError>
+where
+    R: Drop,
+{
+    let label = format!(in alloc; "{session}_{letter}")?;
+    Ok(KernelStamp::new(rt, String::from_str(alloc, session)?, label))
+}
+
+/// An inbox with nothing in it.
+fn inbox<T: Drop>(alloc: Global) -> Result<Inbox<T>, AllocError> {
+    let (to, from) = unbounded(alloc)?;
+    Ok(Inbox { to, from })
+}
+
+/// Starts to accept on each port. Those that were started before a fault are among the acceptors.
+///
+/// # Errors
+///
+/// `NoThread` or `OutOfMemory`, and `CannotBind` where the system doesn't say where a port listens.
+fn accept_on<R>(
+    rt: R,
+    alloc: Global,
+    ports: Ports,
+    parts: &KernelParts<R>,
+    acceptors: &mut Vec<Acceptor>,
+) -> Result<(), ServeFault>
+where
+    R: Threads + Wait + Clock + Copy + Send + Sync + Drop + 'static,
+{
+    let shell = Service::Requests(parts.shell_in.to.clone()?);
+    let iopub = Service::Subscriptions(parts.door_in.to.clone()?);
+    let control = Service::Requests(parts.control_in.to.clone()?);
+    acceptors.push(start(rt, alloc, Port::Shell, ports.shell, shell)?)?;
+    acceptors.push(start(rt, alloc, Port::Iopub, ports.iopub, iopub)?)?;
+    acceptors.push(start(rt, alloc, Port::Control, ports.control, control)?)?;
+    acceptors.push(start(
+        rt,
+        alloc,
+        Port::Heartbeat,
+        ports.heartbeat,
+        Service::Heartbeat,
+    )?)?;
+    Ok(())
+}
