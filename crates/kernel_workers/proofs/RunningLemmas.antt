@@ -1,7 +1,6 @@
 -- How a kernel ends, of what its workers promised.
-use Rattle.std.proofs.Common.{◌≡◌, ◌↔◌, inl, inr, ℕ, zero, suc, ◌<◌, Bool, true, List, [], ◌∷◌, ◌++◌, IsTrue, Option}
-use Rattle.std.proofs.Common.{None}
-use Rattle.std.proofs.Common.{refl, sym, ap, subst, ◌∙◌, arith, All, Result, Ok, Err}
+use Rattle.std.proofs.Common.{◌≡◌, ◌↔◌, inl, inr, ℕ, zero, suc, ◌<◌, List, [], ◌∷◌, IsTrue, Option}
+use Rattle.std.proofs.Common.{sym, subst, ◌∙◌, arith, All, Result, Ok, Err}
 use Rattle.std.specs.Result.{IfOk}
 use Rattle.std.specs.List.{AllByRecursion}
 use Rattle.interp_core.specs.Interpreter.{Meaning}
