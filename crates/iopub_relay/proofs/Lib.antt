@@ -6,6 +6,7 @@ pub mod DrainLemmas
 pub mod EditLemmas
 pub mod FeedLemmas
 pub mod HearLemmas
+pub mod LastLemmas
 pub mod LawLemmas
 pub mod LeftLemmas
 pub mod LifeLemmas

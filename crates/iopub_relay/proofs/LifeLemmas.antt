@@ -22,7 +22,7 @@ any_last test [] last passes = ap (λ (b : Bool). b || false) passes
 any_last test (item ∷ items) last passes =
     ap (λ (b : Bool). test item || b) (any_last test items last passes) ∙ or_true (test item)
 
-any_but_last : {A : Type 0} (test : A → Bool) (items : List A) (last : A) → test last ≡ false
+pub any_but_last : {A : Type 0} (test : A → Bool) (items : List A) (last : A) → test last ≡ false
     → list_any test (items ++ last ∷ []) ≡ list_any test items
 any_but_last test [] last fails = ap (λ (b : Bool). b || false) fails
 any_but_last test (item ∷ items) last fails = ap (λ (b : Bool). test item || b) (any_but_last test items last fails)

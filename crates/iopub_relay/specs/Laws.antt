@@ -1,9 +1,11 @@
 -- Laws of lives and feeds.
-use Rattle.std.specs.Prelude.{◌≡◌, ℕ, ◌<◌, true, false, List, [], ◌∷◌, ◌++◌, map, length, flat_map, Some}
-use Rattle.std.specs.List.{AllByRecursion}
+use Rattle.std.specs.Prelude.{◌≡◌, ℕ, ◌<◌, true, false, List, [], ◌∷◌, ◌++◌, map, length, flat_map, Some, None, IfSome}
+use Rattle.std.specs.Prelude.{is_some}
+use Rattle.std.specs.List.{AllByRecursion, list_any}
 use Rattle.zmtp_wire.specs.Frame.{text}
-use Rattle.iopub_event.specs.declared.event.Event.TheVariants.{Message, Attach, Subscribe}
-use Rattle.iopub_relay.specs.Life.{Life, life}
+use Rattle.iopub_event.specs.declared.event.Event.{Event}
+use Rattle.iopub_event.specs.declared.event.Event.TheVariants.{Message, Attach, Subscribe, Detach}
+use Rattle.iopub_relay.specs.Life.{Life, life, leaves, comes_with}
 use Rattle.iopub_relay.specs.Topics.{Holding, matches}
 use Rattle.iopub_relay.specs.Feed.{feed}
 
@@ -33,3 +35,29 @@ abbrev pub NoMatchBeginsNot : Type 0
 NoMatchBeginsNot =
     (topics : Holding) (first : List ℕ) (others : List (List ℕ)) → matches topics (first ∷ others) ≡ false
     → (topic rest : List ℕ) → first ≡ topic ++ rest → topics topic ≡ 0
+
+-- a life began behind these events, where there was none, by this subscriber's coming with the life's writer, and what
+-- stands behind that is the life's: the subscriber doesn't leave in it
+pub record BeganIn (Writer : Type 0) (id : ℕ) (events : List (Event Writer)) (now : Life Writer) : Type 0 where
+  pub before : List (Event Writer)
+  pub split : events ≡ before ++ Attach id now.writer ∷ now.events
+  pub none : life id before ≡ None
+  pub stays : list_any (leaves id) now.events ≡ false
+
+-- a life is what stands behind a coming since which the subscriber didn't leave
+abbrev pub LifeBegan : Type 0 → Type 0
+LifeBegan Writer =
+    (id : ℕ) (events : List (Event Writer)) → IfSome (life id events) (λ now. BeganIn Writer id events now)
+
+-- who came, and didn't leave since, has a life
+abbrev pub WhoCameLives : Type 0 → Type 0
+WhoCameLives Writer =
+    (id : ℕ) (before : List (Event Writer)) (writer : Writer) (after : List (Event Writer))
+    → list_any (leaves id) after ≡ false → is_some (life id (before ++ Attach id writer ∷ after)) ≡ true
+
+-- who left, and didn't come since, has none
+abbrev pub WhoLeftLivesNot : Type 0 → Type 0
+WhoLeftLivesNot Writer =
+    (id : ℕ) (before after : List (Event Writer))
+    → list_any (λ event. is_some (comes_with id event)) after ≡ false
+    → life id (before ++ Detach id ∷ after) ≡ None

@@ -13,7 +13,7 @@ mod topics;
 pub use door::door_event;
 pub use feed::feed_core;
 pub use iopub_event::Event;
-pub use laws::{matching_is_beginning, subscriber_of_everything};
+pub use laws::{life_is_since_it_came, matching_is_beginning, subscriber_of_everything};
 pub use relay::{Drain, Pumped, Relay};
 
 #[cfg(test)]
