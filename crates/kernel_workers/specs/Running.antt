@@ -6,6 +6,7 @@ use Rattle.iopub_event.specs.declared.event.Event.{Event}
 use Rattle.iopub_queue.specs.Calls.{IsCapacity}
 use Rattle.iopub_queue.specs.Entries.{Entry, of, CloseIsLast, IsComplete}
 use Rattle.iopub_queue.specs.Fault.{open_fault_number}
+use Rattle.iopub_queue.specs.declared.fault.OpenFault.TheVariants.{Count, Capacity, OutOfMemory}
 use Rattle.iopub_relay.specs.Relay.{AreOfNumbers, IsLeftOf}
 use Rattle.jmsg_envelope.specs.Stamp.{StampMeaning}
 use Rattle.kernel_block.specs.declared.side.Side.TheVariants.{Shell, Control}
@@ -19,6 +20,14 @@ use Rattle.kernel_workers.specs.Ending.{IsNoMessage, IsWellBlocked, sealing_by}
 abbrev pub kernel_fault_number : KernelFault → ℕ
 kernel_fault_number (Queue fault) = open_fault_number fault
 kernel_fault_number NoThread = 65
+
+-- Why a kernel of this capacity doesn't run: the capacity is judged first, and only where it is one of a queue can
+-- memory or a thread be wanting. The count of its publishers is never refused.
+abbrev pub FailsBy : ℕ → KernelFault → Type 0
+FailsBy capacity (Queue Count) = ⊥
+FailsBy capacity (Queue Capacity) = ¬ IsCapacity capacity
+FailsBy capacity (Queue OutOfMemory) = IsCapacity capacity
+FailsBy capacity NoThread = IsCapacity capacity
 
 -- whether a kernel is to begin anew, where control was asked for a shutdown or shell was: control's word counts first
 abbrev pub restart_by : Option Bool → Option Bool → Bool

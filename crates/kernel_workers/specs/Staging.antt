@@ -1,6 +1,5 @@
 -- A kernel that is set up, and the promises under which its workers begin.
 use Rattle.std.specs.Prelude.{◌≡◌}
-use Rattle.iopub_queue.specs.Calls.{IsCapacity}
 use Rattle.kernel_block.specs.declared.side.Side.{Side}
 use Rattle.kernel_workers.specs.declared.parts.Parts.{Parts}
 use Rattle.kernel_workers.specs.declared.promises.ClosesBlocked.{ClosesBlocked}
@@ -11,7 +10,6 @@ use Rattle.kernel_workers.specs.Opening.{IsOpened}
 -- A kernel is set up of its parts: its publishers and its taker are of one queue that was just opened, and both
 -- channels have its key and a stamp each.
 pub record IsSetUp {I S W R : Type 0} (parts : Parts I S W) (stage : Stage I S W R) : Type 0 where
-  pub capacity : IsCapacity parts.capacity
   pub opened : IsOpened stage.shell.sink stage.control.sink stage.door stage.relay.taker
   pub shell_signer : stage.shell.signer ≡ parts.key.items
   pub shell_stamp : stage.shell.stamp ≡ parts.shell.1

@@ -34,6 +34,3 @@ pub use running::{KernelEnd, run_kernel};
 pub use shell::{ShellLines, work_shell};
 pub use spawning::{spawn_control, spawn_door, spawn_relay, spawn_shell};
 pub use waking::Waking;
-
-#[cfg(test)]
-mod tests;

@@ -1,10 +1,12 @@
 //! The queue of a kernel.
 
-ghost use Rattle.std.specs.Prelude.{Err, IfErr, IfOk, OnOk};
-ghost use Rattle.iopub_queue.specs.Calls.{IsCapacity, OpenGives};
+ghost use Rattle.std.specs.Prelude.{IfErr, IfOk, OnOk};
+ghost use Rattle.iopub_queue.specs.Calls.{IsCapacity};
 ghost use Rattle.kernel_workers.specs.Opening.{IsOpened};
+ghost use Rattle.kernel_workers.specs.Running.{FailsBy};
 
-use iopub_queue::{OpenFault, Publisher, Taker, open_queue};
+use crate::fault::KernelFault;
+use iopub_queue::{Publisher, Taker, open_queue};
 use std::alloc::Global;
 
 /// The publishers of a kernel's queue, and its taker.
@@ -24,15 +26,16 @@ pub(crate) struct Opened<T, R> {
 ///
 /// # Errors
 ///
-/// `Capacity` where the capacity isn't from 1 to 65,536, `OutOfMemory` where memory is wanting.
+/// `Queue`: `Capacity` where the capacity isn't from 1 to 65,536, which is judged first, `OutOfMemory` where memory is
+/// wanting.
 pub(crate) fn open_three<T: Drop, R: Copy + Drop>(
     rt: &R,
     alloc: Global,
     capacity: usize,
-) -> Result<Opened<T, R>, OpenFault>
+) -> Result<Opened<T, R>, KernelFault>
     ensures opened { IfOk result (λ opened. IsOpened opened.shell opened.control opened.door opened.taker) }
     ensures capacity { OnOk result (IsCapacity capacity) }
-    ensures refused { IfErr result (λ fault. OpenGives {T = T} 3 capacity (Err fault)) }
+    ensures refused { IfErr result (FailsBy capacity) }
 {
     let (publishers, taker) = open_queue(rt, alloc, 3, capacity)?;
     let mut publishers = publishers.into_iter();

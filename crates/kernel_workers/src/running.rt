@@ -3,7 +3,8 @@
 ghost use Rattle.std.specs.Prelude.{◌≡◌, ◌≤◌, [], IfOk, IfErr, vec_capacity};
 ghost use Rattle.iopub_queue.specs.Entries.{EndsWithClose};
 ghost use Rattle.kernel_block.specs.declared.side.Side.TheVariants.{Shell, Control};
-ghost use Rattle.kernel_workers.specs.Running.{EndsWell, TookAll, restart_by};
+ghost use Rattle.kernel_workers.specs.Opening.{IsOpened};
+ghost use Rattle.kernel_workers.specs.Running.{EndsWell, FailsBy, TookAll, restart_by};
 ghost use Rattle.kernel_workers.specs.Staging.{IsSetUp, Promises};
 
 use crate::control::ControlLines;
@@ -12,7 +13,7 @@ use crate::fault::KernelFault;
 use crate::flags::Flags;
 use crate::inbox::{Inbox, Note, tell_end};
 use crate::job::Job;
-use crate::opening::open_three;
+use crate::opening::{Opened, open_three};
 use crate::parts::Parts;
 use crate::promises::{ClosesBlocked, ClosesSilent, ServesOn};
 use crate::relaying::{RelayEnd, RelayLines};
@@ -179,24 +180,24 @@ struct Stage<I, S, W: Outlet, R> {
     lines: Lines<W>,
 }
 
-/// Sets a kernel up: opens its queue, and gives each worker what it owns.
+/// Sets a kernel up, whose queue was just opened: gives each worker what it owns.
 ///
 /// # Errors
 ///
-/// `Queue` where the capacity isn't from 1 to 65,536, or memory is refused.
+/// Where memory is refused.
 fn set_up<I, S, W, R>(
-    rt: &R,
     alloc: Global,
+    opened: Opened<Event<W>, R>,
     parts: Parts<I, S, W>,
-) -> Result<Stage<I, S, W, R>, KernelFault>
+) -> Result<Stage<I, S, W, R>, AllocError>
 where
     I: Drop,
     S: Drop,
     W: Outlet + Drop,
     R: Copy + Drop,
+    requires { IsOpened opened.shell opened.control opened.door opened.taker }
     ensures { IfOk result (IsSetUp parts) }
 {
-    let opened = open_three(rt, alloc, parts.capacity)?;
     let (relay_lines, relay_end) = RelayLines::new(alloc)?;
     let (shell, shell_stamp) = parts.shell;
     let (control, control_stamp) = parts.control;
@@ -337,9 +338,11 @@ where
     S: Stamp + Drop + Send + 'static,
     W: Outlet + Drop + Send + 'static,
     R: Threads + Wait + Copy + Send + Sync + Drop + 'static,
-    ensures { IfOk result (EndsWell I.meaning S.meaning S.id_text W.outflow parts) }
+    ensures ends { IfOk result (EndsWell I.meaning S.meaning S.id_text W.outflow parts) }
+    ensures refused { IfErr result (FailsBy parts.capacity) }
 {
-    let stage = set_up(&rt, alloc, parts)?;
+    let opened = open_three(&rt, alloc, parts.capacity)?;
+    let stage = set_up(alloc, opened, parts)?;
     let mut tokens = Vec::new(alloc);
     tokens.reserve(3)?;
     let Workers {

@@ -1,9 +1,9 @@
 //! Shell in a thread of its own, with nobody else.
 
 use super::*;
-use crate::{Flags, ShellLines, spawn_shell};
 use arith_shell::ShellArith;
 use jmsg_envelope::Signer;
+use kernel_workers::{Flags, ShellLines, spawn_shell};
 
 /// What the kernel says of itself.
 pub(super) const INFO: &str = concat!(

@@ -9,13 +9,12 @@ mod shell;
 
 ghost use Rattle.std.specs.Prelude.{◌≡◌, [], IfOk};
 
-use crate::opening::open_three;
-use crate::{Job, Note, Waking};
 use crossbeam_channel::{Receiver, Sender, unbounded};
 use crossbeam_utils::sync::Parker;
 use iopub_event::Event;
-use iopub_queue::{Taken, Taker};
+use iopub_queue::{Taken, Taker, open_queue};
 use jmsg_envelope::Stamp;
+use kernel_workers::{Job, Note, Waking};
 use listed::Frames;
 use std::alloc::{AllocError, Global};
 use std::process::Abort;
@@ -76,12 +75,20 @@ impl<R: Wait + Copy + Drop> Queue<R> {
             × (queue.door.published ≡ [])) }
     {
         let parker = Parker::new(alloc)?;
-        let opened = open_three(rt, alloc, capacity)?;
+        let (publishers, taker) = open_queue(rt, alloc, 3, capacity)?;
+        let mut publishers = publishers.into_iter();
+        let (Some(shell), Some(control), Some(door)) = (
+            publishers.next(),
+            publishers.next(),
+            publishers.next(),
+        ) else {
+            return Err(Fail::from("three publishers"));
+        };
         Ok(Queue {
-            shell: Waking::new(opened.shell, parker.unparker().clone()?),
-            control: Waking::new(opened.control, parker.unparker().clone()?),
-            door: Waking::new(opened.door, parker.unparker().clone()?),
-            taker: opened.taker,
+            shell: Waking::new(shell, parker.unparker().clone()?),
+            control: Waking::new(control, parker.unparker().clone()?),
+            door: Waking::new(door, parker.unparker().clone()?),
+            taker,
             parker,
         })
     }

@@ -1,7 +1,7 @@
 //! The door: what it publishes and what it drops.
 
 use super::*;
-use crate::spawn_door;
+use kernel_workers::spawn_door;
 use listed::Octets;
 
 #[test]

@@ -1,9 +1,9 @@
 //! Control beside shell and the door: it interrupts a cell, and ends all.
 
 use super::*;
-use crate::{ControlLines, Flags, ShellLines, spawn_control, spawn_door, spawn_shell};
 use arith_shell::ShellArith;
 use jmsg_envelope::Signer;
+use kernel_workers::{ControlLines, Flags, ShellLines, spawn_control, spawn_door, spawn_shell};
 use std::thread;
 
 /// The steps of the cell that is interrupted.
