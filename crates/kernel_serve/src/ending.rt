@@ -67,6 +67,8 @@ where
 {
     for acceptor in acceptors.iter() {
         acceptor.gate.end();
+        // Those that are open are ended at once, and not only when the thread that accepts has seen it.
+        acceptor.gate.end_reads(rt);
     }
     for acceptor in acceptors.iter() {
         wake(rt, acceptor);

@@ -8,6 +8,7 @@ mod fault;
 mod gate;
 mod heartbeat;
 mod outgoing;
+mod parent;
 mod ports;
 mod service;
 mod serving;
@@ -15,5 +16,6 @@ mod stamp;
 mod subscriber;
 
 pub use fault::{Port, ServeFault};
+pub use parent::Until;
 pub use serving::{Served, serve};
 pub use stamp::{KernelStamp, is_utc_date};

@@ -1,7 +1,10 @@
 //! Serving a connection file: the ports, the kernel behind them, and their end.
 
+ghost use Rattle.std.specs.Prelude.{◌≡◌, IfOk, true};
+
 use crate::ending::{Acceptor, end_all, start};
 use crate::fault::{Port, ServeFault};
+use crate::parent::{Until, start_watch};
 use crate::ports::{Ports, bind_ports};
 use crate::service::Service;
 use crate::stamp::KernelStamp;
@@ -36,14 +39,20 @@ pub struct Served {
 /// What a kernel of shell arithmetic runs on.
 type KernelParts<R> = Parts<ShellArith, KernelStamp<R>, Writer>;
 
-/// Runs a kernel on the ports of a connection file, until a client asks for its end: binds them, accepts whoever
-/// connects, and ends every connection and every thread before it returns.
+/// Runs a kernel on the ports of a connection file until its end: binds them, accepts whoever connects, and ends every
+/// connection and every thread before it returns. A parent that changed ends it as a shutdown on control does, without
+/// a reply.
 ///
 /// # Errors
 ///
 /// `CannotBind` with the first port that can't be bound, in the order shell, iopub, control, heartbeat; `NoThread`,
 /// `NoRandomness` or `OutOfMemory` where the system gives none.
-pub fn serve<R>(rt: R, alloc: Global, connection: Connection) -> Result<Served, ServeFault>
+pub fn serve<R>(
+    rt: R,
+    alloc: Global,
+    connection: Connection,
+    until: Until,
+) -> Result<Served, ServeFault>
 where
     R: Net<Listener = TcpListener, Stream = TcpStream>
         + Threads
@@ -55,13 +64,15 @@ where
         + Sync
         + Drop
         + 'static,
+    // A kernel that ended has taken all that was published.
+    ensures complete { IfOk result (λ served. served.complete ≡ true) }
 {
     let ports = bind_ports(&rt, &connection)?;
     let parts = parts_of(rt, alloc, connection.key.into_vec())?;
     let mut acceptors = Vec::new(alloc);
     acceptors.reserve(4)?;
     let served = match accept_on(rt, alloc, ports, &parts, &mut acceptors) {
-        Ok(()) => run(rt, alloc, parts),
+        Ok(()) => run_until(rt, alloc, parts, until),
         Err(fault) => {
             drop(parts);
             Err(fault)
@@ -71,10 +82,38 @@ where
     served
 }
 
+/// Runs the kernel, and looks after the parent meanwhile, where that is asked for.
+///
+/// # Errors
+///
+/// `NoThread` and `OutOfMemory`.
+fn run_until<R>(
+    rt: R,
+    alloc: Global,
+    parts: KernelParts<R>,
+    until: Until,
+) -> Result<Served, ServeFault>
+where
+    R: Threads + Wait + Clock + Copy + Send + Sync + Drop + 'static,
+    ensures complete { IfOk result (λ served. served.complete ≡ true) }
+{
+    let watch = start_watch(rt, alloc, until, &parts.control_in.to)?;
+    let served = run(rt, alloc, parts);
+    if let Some(watch) = watch {
+        watch.end(&rt);
+    }
+    served
+}
+
 /// Runs the kernel itself.
+///
+/// # Errors
+///
+/// `NoThread` and `OutOfMemory`.
 fn run<R>(rt: R, alloc: Global, parts: KernelParts<R>) -> Result<Served, ServeFault>
 where
     R: Threads + Wait + Clock + Copy + Send + Sync + Drop + 'static,
+    ensures complete { IfOk result (λ served. served.complete ≡ true) }
 {
     let KernelEnd {
         complete,

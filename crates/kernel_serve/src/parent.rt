@@ -1,0 +1,90 @@
+//! Until when a kernel runs, and the thread that looks after its parent.
+
+use crate::fault::ServeFault;
+use crossbeam_channel::{Receiver, RecvTimeoutError, Sender, unbounded};
+use kernel_workers::{Job, Note};
+use std::alloc::Global;
+use std::os::unix::process::parent_id;
+use std::rt::Process;
+use std::sync::Wait;
+use std::thread;
+use std::thread::{JoinHandle, Threads};
+use std::time::{Clock, Duration};
+
+/// How many seconds pass between two looks at the parent.
+const PERIOD: u64 = 1;
+
+/// Until when a kernel runs.
+#[derive(Clone, Copy)]
+pub enum Until {
+    /// Until a client asks for its end.
+    Asked,
+    /// Until a client asks for its end, or the process has another parent than when the kernel began: a client that
+    /// ended without a word leaves no kernel behind.
+    ParentChanges(Process),
+}
+
+/// A thread that looks after the parent.
+#[derive(Drop)]
+pub(crate) struct Watch {
+    /// Ends the thread by being dropped.
+    ending: Sender<()>,
+    /// The thread.
+    thread: JoinHandle<()>,
+}
+
+impl Watch {
+    /// Ends the thread, and waits until it ended.
+    pub(crate) fn end<R: Threads + Wait>(self, rt: &R) {
+        let Watch { ending, thread } = self;
+        drop(ending);
+        thread.join(rt);
+    }
+}
+
+/// Starts to look after the parent, where that is asked for. Once it changed, control is told to end.
+///
+/// # Errors
+///
+/// `NoThread` and `OutOfMemory`.
+pub(crate) fn start_watch<R>(
+    rt: R,
+    alloc: Global,
+    until: Until,
+    control: &Sender<Note<Job>>,
+) -> Result<Option<Watch>, ServeFault>
+where
+    R: Threads + Wait + Clock + Copy + Send + Sync + Drop + 'static,
+{
+    let Until::ParentChanges(process) = until else {
+        return Ok(None);
+    };
+    let control = control.clone()?;
+    let (ending, ended) = unbounded(alloc)?;
+    let began = parent_id(process);
+    match thread::spawn(&rt, move || look(&rt, process, began, &control, &ended)) {
+        Ok(thread) => Ok(Some(Watch { ending, thread })),
+        Err(_) => Err(ServeFault::NoThread),
+    }
+}
+
+/// Looks at the parent now and then, until it is another and control was told to end, or nobody waits for that.
+fn look<R: Wait + Clock>(
+    rt: &R,
+    process: Process,
+    began: u32,
+    control: &Sender<Note<Job>>,
+    ended: &Receiver<()>,
+) {
+    for _ in rt.forever() {
+        match ended.recv_timeout(rt, Duration::from_secs(PERIOD)) {
+            Err(RecvTimeoutError::Timeout) => {}
+            Ok(()) | Err(RecvTimeoutError::Disconnected) => return,
+        }
+        // Where memory is refused the next look tries again.
+        if parent_id(process) != began && control.send(rt, Note::End).is_ok() {
+            return;
+        }
+    }
+    unreachable!()
+}
