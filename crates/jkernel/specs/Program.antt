@@ -15,12 +15,12 @@ use Rattle.jkernel.specs.declared.words.Order.{Order}
 use Rattle.jkernel.specs.declared.words.Order.TheVariants.{Replay, Serve, KernelSpec, Help}
 use Rattle.jkernel.specs.declared.status.Status.{Status}
 use Rattle.jkernel.specs.declared.status.Status.TheVariants.{Done, Failed, WordsRefused, FileUnreadable, FileRefused}
-use Rattle.jkernel.specs.declared.status.Status.TheVariants.{InputRefused}
+use Rattle.jkernel.specs.declared.status.Status.TheVariants.{CannotBind, Incomplete, InputRefused}
 use Rattle.jkernel.specs.Replay.{IsNotHex, IsReplayed}
 use Rattle.jkernel.specs.Words.{AreWrong, IsOrder, IsOrdered, order_of}
 
 -- What an order that was carried out did: a replay printed its lines, the kernelspec and help stand on the output, and
--- of a connection file that is fine nothing is printed.
+-- where a connection file was served nothing is printed.
 abbrev pub IsDone : Order → Option (List ℕ) → Option (List ℕ) → Option (List ℕ) → Option (List ℕ) → Type 0
 IsDone (Replay key) input left before after = IsReplayed key input left before after
 IsDone (Serve file) input left before after = after ≡ before
@@ -41,15 +41,28 @@ IsServe (Serve file) = ⊤
 IsServe KernelSpec = ⊥
 IsServe (Help text) = ⊥
 
--- How the octets of a connection file may be judged: they are fine, they are no text, or they are refused; or memory
--- was wanting.
+-- Why the octets of a connection file are not served: they are no text, or they are refused; or memory was wanting.
 abbrev pub JudgesFile : List ℕ → Status → Type 0
-JudgesFile octets Done = (connection : Connection) × (connection_of octets ≡ Ok connection)
+JudgesFile octets Done = ⊥
 JudgesFile octets Failed = ⊤
 JudgesFile octets WordsRefused = ⊥
 JudgesFile octets FileUnreadable = ¬ (IsUtf8 octets)
 JudgesFile octets (FileRefused fault) = connection_of octets ≡ Err fault
+JudgesFile octets (CannotBind port) = ⊥
+JudgesFile octets Incomplete = ⊥
 JudgesFile octets InputRefused = ⊥
+
+-- How serving a connection ends: a kernel ended that had taken all that was published, a port can't be bound, or memory,
+-- a thread or random octets were wanting.
+abbrev pub EndsServing : Status → Type 0
+EndsServing Done = ⊤
+EndsServing Failed = ⊤
+EndsServing WordsRefused = ⊥
+EndsServing FileUnreadable = ⊥
+EndsServing (FileRefused fault) = ⊥
+EndsServing (CannotBind port) = ⊤
+EndsServing Incomplete = ⊥
+EndsServing InputRefused = ⊥
 
 -- command words as the system gives them: texts, or the error of reading them
 abbrev pub GivenWords : Type 0
@@ -77,6 +90,10 @@ RefusesWords words = MatchResult words (λ read. AreWrong (map string_bytes read
 -- status 3: the words order that a file be served
 abbrev pub RefusesFile : GivenWords → Type 0
 RefusesFile words = WordsSay words (λ read. (file : List ℕ) × IsOrder read (Serve file))
+
+-- status 4: the words order that a file be served
+abbrev pub CannotServe : GivenWords → Type 0
+CannotServe words = WordsSay words (λ read. (file : List ℕ) × IsOrder read (Serve file))
 
 -- status 6: the words order a replay, and its input spells no octets
 abbrev pub RefusesInput : GivenWords → Option (List ℕ) → Type 0

@@ -6,7 +6,7 @@ use Rattle.kernel_engine.specs.declared.end.SessionEnd.TheVariants.{Eof}
 use Rattle.kernel_engine.specs.Session.{Run}
 use Rattle.jkernel.specs.declared.status.Status.{Status}
 use Rattle.jkernel.specs.declared.status.Status.TheVariants.{Done, Failed, WordsRefused, FileUnreadable, FileRefused}
-use Rattle.jkernel.specs.declared.status.Status.TheVariants.{InputRefused}
+use Rattle.jkernel.specs.declared.status.Status.TheVariants.{CannotBind, Incomplete, InputRefused}
 use Rattle.jkernel.specs.Lines.{hex_octets}
 use Rattle.jkernel.specs.Session.{IsPrinted, IsLines}
 
@@ -39,4 +39,6 @@ Replays key input left before after Failed = ⊤
 Replays key input left before after WordsRefused = ⊥
 Replays key input left before after FileUnreadable = ⊥
 Replays key input left before after (FileRefused fault) = ⊥
+Replays key input left before after (CannotBind port) = ⊥
+Replays key input left before after Incomplete = ⊥
 Replays key input left before after InputRefused = IsNotHex input

@@ -1,5 +1,5 @@
-//! `jkernel`: a Jupyter kernel. It replays one peer of the shell channel, reads a connection file, or prints the
-//! kernelspec, as its command words order.
+//! `jkernel`: a Jupyter kernel. It serves the ports of a connection file, replays one peer of the shell channel, or
+//! prints the kernelspec, as its command words order.
 #![tactic(auto)]
 
 mod input;
@@ -12,9 +12,11 @@ mod stamp;
 mod status;
 mod words;
 
+use kernel_serve::Until;
 use program::run;
 use std::env::Env;
 use std::process::ExitCode;
+use std::rt::Process;
 use std::{env, io};
 
 #[cfg(test)]
@@ -26,6 +28,7 @@ fn main(rt: HostRuntime) -> ExitCode {
         &rt,
         rt.alloc(),
         &words_behind(&rt),
+        runs_until(&rt, rt.process()),
         &mut rt.reader(),
         &mut io::writer(&rt),
         &mut rt.stderr(),
@@ -37,4 +40,12 @@ fn main(rt: HostRuntime) -> ExitCode {
 fn words_behind<R: Env + AllocGlobal>(rt: &R) -> io::Result<Vec<String>> {
     let words: Vec<String> = env::args(rt)?.skip(1).collect(rt.alloc())?;
     Ok(words)
+}
+
+/// Until when a kernel runs: jupyter's programs name themselves in `JPY_PARENT_PID` to one that is to end with them.
+fn runs_until<R: Env + AllocGlobal>(rt: &R, process: Process) -> Until {
+    match env::var(rt, "JPY_PARENT_PID") {
+        Ok(parent) if parent.as_str() != "0" => Until::ParentChanges(process),
+        _ => Until::Asked,
+    }
 }

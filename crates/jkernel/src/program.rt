@@ -1,9 +1,10 @@
 //! The whole program: what its command words order.
 
-ghost use Rattle.std.specs.Prelude.{◌≡◌, ◌++◌, ◌⊎◌};
+ghost use Rattle.std.specs.Prelude.{◌≡◌, ◌++◌, ◌⊎◌, Ok, IfOk, IfErr};
+ghost use Rattle.conn_file.specs.Connection.{connection_of};
 ghost use Rattle.std.specs.Io.KnownBytes.{Appends};
 ghost use Rattle.std.specs.declared.io.ErrorKind.TheVariants.{InvalidData};
-ghost use Rattle.jkernel.specs.Program.{DoesOrder, IsDone, IsReplay, IsServe, JudgesFile};
+ghost use Rattle.jkernel.specs.Program.{CannotServe, DoesOrder, EndsServing, IsDone, IsReplay, IsServe, JudgesFile};
 ghost use Rattle.jkernel.specs.Program.{RefusesFile, RefusesInput, RefusesWords};
 ghost use Rattle.jkernel.specs.Replay.{IsNotHex};
 
@@ -11,23 +12,43 @@ use crate::lines::write_out;
 use crate::replay::run_replay;
 use crate::status::Status;
 use crate::words::{Order, WordsFault, read_words};
-use conn_file::{ConnFault, kernelspec_text, read_connection};
+use conn_file::{ConnFault, Connection, kernelspec_text, read_connection};
+use kernel_serve::{ServeFault, Until};
 use std::alloc::Global;
 use std::fs::{self, Files};
 use std::io::{self, ErrorKind, Read, Write};
+use std::net::{Net, TcpListener, TcpStream};
+use std::random::RandomSource;
 use std::str;
+use std::sync::Wait;
+use std::thread::Threads;
+use std::time::Clock;
 
 /// Does what the words behind the program's name order: replays what the reader has, serves a connection file, prints
-/// the kernelspec or help to the writer. What a person is to know goes to `faults`; what can't be written there is
-/// lost. The result is the exit status.
-pub fn run<E: Files + Alloc, R: Read, W: Write, F: Write>(
+/// the kernelspec or help to the writer. A kernel runs until it is asked for its end, or as `until` says. What a person
+/// is to know goes to `faults`; what can't be written there is lost. The result is the exit status.
+pub fn run<E, R: Read, W: Write, F: Write>(
     rt: &E,
     alloc: Global,
     words: &io::Result<Vec<String>>,
+    until: Until,
     reader: &mut R,
     writer: &mut W,
     faults: &mut F,
 ) -> u8
+where
+    E: Files
+        + Alloc
+        + Net<Listener = TcpListener, Stream = TcpStream>
+        + Threads
+        + Wait
+        + Clock
+        + RandomSource
+        + Copy
+        + Send
+        + Sync
+        + Drop
+        + 'static,
     // 0: what the words order was done.
     ensures done { result ≡ 0 → DoesOrder words.now (R.remaining reader.old) (R.remaining reader.new)
         (W.contents writer.old) (W.contents writer.new) }
@@ -38,15 +59,19 @@ pub fn run<E: Files + Alloc, R: Read, W: Write, F: Write>(
     // 3: the words order that a file be served, and nothing was printed.
     ensures file { result ≡ 3 → RefusesFile words.now × (writer.new ≡ writer.old) }
 
+    // 4: the words order that a file be served, and nothing was printed: a port can't be bound.
+    ensures port { result ≡ 4 → CannotServe words.now × (writer.new ≡ writer.old) }
+
     // 6: the words order a replay, whose input is refused, and nothing was printed.
     ensures input { result ≡ 6 → RefusesInput words.now (R.remaining reader.old) × (writer.new ≡ writer.old) }
 
-    ensures status { (result ≡ 0) ⊎ ((result ≡ 1) ⊎ ((result ≡ 2) ⊎ ((result ≡ 3) ⊎ (result ≡ 6)))) }
+    // And never 5: a kernel that ends has taken all that was published.
+    ensures status { (result ≡ 0) ⊎ ((result ≡ 1) ⊎ ((result ≡ 2) ⊎ ((result ≡ 3) ⊎ ((result ≡ 4) ⊎ (result ≡ 6))))) }
 {
     match words {
         Ok(words) => match read_words(alloc, words) {
             Ok(order) => {
-                let code = obey(rt, alloc, order, reader, writer, faults);
+                let code = obey(rt, alloc, order, until, reader, writer, faults);
                 with_line(faults, code)
             }
             Err(WordsFault::Refused(text)) => {
@@ -86,23 +111,38 @@ fn refuse<F: Write>(kind: ErrorKind, faults: &mut F) -> Status
 }
 
 /// Does what is ordered: the exit status.
-fn obey<E: Files + Alloc, R: Read, W: Write, F: Write>(
+fn obey<E, R: Read, W: Write, F: Write>(
     rt: &E,
     alloc: Global,
     order: Order,
+    until: Until,
     reader: &mut R,
     writer: &mut W,
     faults: &mut F,
 ) -> u8
+where
+    E: Files
+        + Alloc
+        + Net<Listener = TcpListener, Stream = TcpStream>
+        + Threads
+        + Wait
+        + Clock
+        + RandomSource
+        + Copy
+        + Send
+        + Sync
+        + Drop
+        + 'static,
     ensures done { result ≡ 0 → IsDone order (R.remaining reader.old) (R.remaining reader.new)
         (W.contents writer.old) (W.contents writer.new) }
     ensures file { result ≡ 3 → IsServe order × (writer.new ≡ writer.old) }
+    ensures port { result ≡ 4 → IsServe order × (writer.new ≡ writer.old) }
     ensures input { result ≡ 6 → IsReplay order × IsNotHex (R.remaining reader.old) × (writer.new ≡ writer.old) }
-    ensures status { (result ≡ 0) ⊎ ((result ≡ 1) ⊎ ((result ≡ 3) ⊎ (result ≡ 6))) }
+    ensures status { (result ≡ 0) ⊎ ((result ≡ 1) ⊎ ((result ≡ 3) ⊎ ((result ≡ 4) ⊎ (result ≡ 6)))) }
 {
     match order {
         Order::Replay(key) => run_replay(alloc, reader, writer, key.into_string().into_bytes()),
-        Order::Serve(file) => serve(rt, alloc, file.as_str(), faults),
+        Order::Serve(file) => serve(rt, alloc, file.as_str(), until, faults),
         Order::KernelSpec => print(writer, kernelspec_text(), "\n"),
         Order::Help(text) => print(writer, text.as_str(), ""),
     }
@@ -129,49 +169,103 @@ fn tell<F: Write>(faults: &mut F, text: &str) {
     let _ = write_out(faults, text.as_bytes());
 }
 
-/// Reads a connection file, judges it, and tells what is wrong with it: the exit status. There are no sockets yet to
-/// serve it on.
-fn serve<E: Files + Alloc, F: Write>(rt: &E, alloc: Global, file: &str, faults: &mut F) -> u8
-    ensures { (result ≡ 0) ⊎ ((result ≡ 1) ⊎ (result ≡ 3)) }
+/// Reads a connection file, judges it, and serves it until the kernel's end; tells what is wrong. The exit status.
+fn serve<E, F: Write>(rt: &E, alloc: Global, file: &str, until: Until, faults: &mut F) -> u8
+where
+    E: Files
+        + Alloc
+        + Net<Listener = TcpListener, Stream = TcpStream>
+        + Threads
+        + Wait
+        + Clock
+        + RandomSource
+        + Copy
+        + Send
+        + Sync
+        + Drop
+        + 'static,
+    ensures { (result ≡ 0) ⊎ ((result ≡ 1) ⊎ ((result ≡ 3) ⊎ (result ≡ 4))) }
 {
     let status = match fs::read(rt, file) {
-        Ok(octets) => judge(alloc, &octets),
+        Ok(octets) => match judge(alloc, &octets) {
+            Ok(connection) => serve_on(*rt, alloc, connection, until),
+            Err(status) => status,
+        },
         Err(error) if error.kind() == ErrorKind::OutOfMemory => Status::Failed,
         Err(_) => Status::FileUnreadable,
     };
-    tell_judgement(alloc, faults, status).code()
+    tell_status(alloc, faults, status).code()
 }
 
-/// How a connection file of these octets is judged.
-pub(crate) fn judge(alloc: Global, octets: &[u8]) -> Status
-    ensures { JudgesFile octets.now result }
+/// Judges the octets of a connection file: what it connects, or how the program ends.
+///
+/// # Errors
+///
+/// `FileUnreadable` where they are no UTF-8, `FileRefused` with what is wrong, `Failed` without memory.
+pub(crate) fn judge(alloc: Global, octets: &[u8]) -> Result<Connection, Status>
+    ensures connection { IfOk result (λ connection. connection_of octets.now ≡ Ok connection) }
+    ensures refused { IfErr result (JudgesFile octets.now) }
 {
     let Ok(text) = str::from_utf8(octets) else {
-        return Status::FileUnreadable;
+        return Err(Status::FileUnreadable);
     };
     match read_connection(alloc, text) {
-        Ok(_) => Status::Done,
-        Err(ConnFault::OutOfMemory) => Status::Failed,
-        Err(fault) => Status::FileRefused(fault),
+        Ok(connection) => Ok(connection),
+        Err(ConnFault::OutOfMemory) => Err(Status::Failed),
+        Err(fault) => Err(Status::FileRefused(fault)),
     }
 }
 
-/// Tells why a connection file is refused, its number and on a line of its own what is wrong: how the program ends.
-fn tell_judgement<F: Write>(alloc: Global, faults: &mut F, status: Status) -> Status
+/// Serves a connection until the kernel's end: how the program ends.
+fn serve_on<E>(rt: E, alloc: Global, connection: Connection, until: Until) -> Status
+where
+    E: Net<Listener = TcpListener, Stream = TcpStream>
+        + Threads
+        + Wait
+        + Clock
+        + RandomSource
+        + Copy
+        + Send
+        + Sync
+        + Drop
+        + 'static,
+    ensures { EndsServing result }
+{
+    match kernel_serve::serve(rt, alloc, connection, until) {
+        Ok(served) => Status::of_end(served.complete),
+        Err(ServeFault::CannotBind(port)) => Status::CannotBind(port),
+        Err(ServeFault::NoThread | ServeFault::NoRandomness | ServeFault::OutOfMemory) => {
+            Status::Failed
+        }
+    }
+}
+
+/// Tells why a kernel doesn't serve, where the exit status alone doesn't say it: how the program ends.
+fn tell_status<F: Write>(alloc: Global, faults: &mut F, status: Status) -> Status
     ensures { (result ≡ status) ⊎ (result ≡ Status.Failed) }
 {
-    match status {
-        Status::FileUnreadable => tell(faults, "jkernel: connection file unreadable\n"),
+    let line = match status {
+        Status::FileUnreadable => String::from_str(alloc, "jkernel: connection file unreadable\n"),
+        // The number, and on a line of its own what is wrong.
         Status::FileRefused(fault) => {
             let number = fault.number();
-            let Ok(text) = format!(in alloc;
-                "jkernel: connection file refused: {number}\njkernel: {fault}\n"
-            ) else {
-                return Status::Failed;
-            };
-            tell(faults, text.as_str());
+            format!(in alloc; "jkernel: connection file refused: {number}\njkernel: {fault}\n")
         }
-        Status::Done | Status::Failed | Status::WordsRefused | Status::InputRefused => (),
+        Status::CannotBind(port) => {
+            let name = port.name();
+            format!(in alloc; "jkernel: cannot bind {name}\n")
+        }
+        Status::Done
+        | Status::Failed
+        | Status::WordsRefused
+        | Status::Incomplete
+        | Status::InputRefused => return status,
+    };
+    match line {
+        Ok(line) => {
+            tell(faults, line.as_str());
+            status
+        }
+        Err(_) => Status::Failed,
     }
-    status
 }

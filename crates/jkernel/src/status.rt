@@ -1,9 +1,10 @@
 //! How the program ends: its exit status, and what a person is told.
 
 ghost use Rattle.std.specs.Prelude.{◌≡◌, option_map};
-ghost use Rattle.jkernel.specs.Status.{status_code, status_words};
+ghost use Rattle.jkernel.specs.Status.{end_status, status_code, status_words};
 
 use conn_file::ConnFault;
+use kernel_serve::Port;
 
 /// How the program ends.
 #[derive(Clone, Copy, Debug, PartialEq, Eq)]
@@ -18,11 +19,26 @@ pub(crate) enum Status {
     FileUnreadable,
     /// The connection file is refused.
     FileRefused(ConnFault),
+    /// This port of the connection file can't be bound.
+    CannotBind(Port),
+    /// The kernel ended, and not all that was published was taken.
+    Incomplete,
     /// The input of a replay is no even number of hexadecimal digits, and nothing was printed.
     InputRefused,
 }
 
 impl Status {
+    /// How the program ends when its kernel did, by whether all that was published was taken.
+    pub(crate) fn of_end(complete: bool) -> Status
+        ensures { result ≡ end_status complete }
+    {
+        if complete {
+            Status::Done
+        } else {
+            Status::Incomplete
+        }
+    }
+
     /// The exit status of the program.
     pub(crate) fn code(self) -> u8
         ensures { result ≡ status_code self }
@@ -32,6 +48,8 @@ impl Status {
             Status::Failed => 1,
             Status::WordsRefused => 2,
             Status::FileUnreadable | Status::FileRefused(_) => 3,
+            Status::CannotBind(_) => 4,
+            Status::Incomplete => 5,
             Status::InputRefused => 6,
         }
     }
@@ -42,6 +60,7 @@ impl Status {
     {
         match code {
             1 => Some("jkernel: failed\n"),
+            5 => Some("jkernel: ended without complete\n"),
             6 => Some("jkernel: replay input refused\n"),
             _ => None,
         }

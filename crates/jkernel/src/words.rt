@@ -140,8 +140,8 @@ fn serve<'a>(alloc: Global) -> Result<Command<'a>, AllocError>
         .help("The connection file that a Jupyter server wrote; words behind it are ignored");
     Command::new(alloc, "serve")
         .about(concat!(
-            "Reads a connection file, and prints nothing where it is fine, and else what is wrong with it; there are ",
-            "no sockets yet",
+            "Serves the ports of a connection file until a client asks for the kernel's end; prints nothing but what ",
+            "is wrong",
         ))
         .arg(file)
 }

@@ -5,10 +5,17 @@ use crate::status::Status;
 use crate::tests::devices::{Buffered, Closed};
 use crate::tests::sent::{first_session, lines};
 use conn_file::{ConnFault, Field, kernelspec_text};
+use kernel_serve::Until;
 use std::alloc::Global;
+use std::fs::Files;
 use std::io::{self, ErrorKind};
+use std::net::{Net, TcpListener, TcpStream};
+use std::random::RandomSource;
 use std::str;
+use std::sync::Wait;
 use std::test::Fail;
+use std::thread::Threads;
+use std::time::Clock;
 
 /// What a run of the program came to: its status, and what it printed and told.
 #[derive(Drop)]
@@ -31,13 +38,36 @@ fn given(alloc: Global, words: &[&str]) -> Result<io::Result<Vec<String>>, Fail>
 }
 
 /// Runs the program with these words on this input.
-fn run_on(rt: &HostRuntime, words: &[&str], input: &str) -> Result<Ran, Fail> {
+fn run_on<R>(rt: &R, words: &[&str], input: &str) -> Result<Ran, Fail>
+where
+    R: Files
+        + AllocGlobal
+        + Net<Listener = TcpListener, Stream = TcpStream>
+        + Threads
+        + Wait
+        + Clock
+        + RandomSource
+        + Copy
+        + Send
+        + Sync
+        + Drop
+        + 'static,
+{
     let alloc = rt.alloc();
     let words = given(alloc, words)?;
     let mut reader = input.as_bytes();
     let mut output = Vec::new(alloc);
     let mut faults = Vec::new(alloc);
-    let status = run(rt, alloc, &words, &mut reader, &mut output, &mut faults);
+    let until = Until::Asked;
+    let status = run(
+        rt,
+        alloc,
+        &words,
+        until,
+        &mut reader,
+        &mut output,
+        &mut faults,
+    );
     Ok(Ran {
         status,
         output,
@@ -148,24 +178,27 @@ fn a_connection_file_that_is_not_there_is_told(rt: HostRuntime) -> Result<(), Fa
 }
 
 #[test]
-fn connection_files_are_judged(rt: HostRuntime) {
+fn connection_files_are_judged(rt: HostRuntime) -> Result<(), Fail> {
     let alloc = rt.alloc();
-    assert_eq!(rt; judge(alloc, b"\xff"), Status::FileUnreadable);
+    assert_eq!(rt; refused(alloc, b"\xff"), Some(Status::FileUnreadable));
     assert_eq!(rt;
-        judge(alloc, b"[]"),
-        Status::FileRefused(ConnFault::NotJson)
+        refused(alloc, b"[]"),
+        Some(Status::FileRefused(ConnFault::NotJson))
     );
     assert_eq!(rt;
-        judge(alloc, b"{}"),
-        Status::FileRefused(ConnFault::Missing(Field::Transport))
+        refused(alloc, b"{}"),
+        Some(Status::FileRefused(ConnFault::Missing(Field::Transport)))
     );
     let ports = r#""shell_port":1,"iopub_port":2,"control_port":3,"hb_port":4"#;
     let front = r#"{"transport":"tcp","ip":"127.0.0.1","signature_scheme":"hmac-sha256","key":"","#;
-    if let Ok(file) = format!(in alloc; "{front}{ports}}}") {
-        assert_eq!(rt; judge(alloc, file.as_bytes()), Status::Done);
-    } else {
-        assert!(rt; false);
-    }
+    let file = format!(in alloc; "{front}{ports}}}")?;
+    assert_eq!(rt; refused(alloc, file.as_bytes()), None);
+    Ok(())
+}
+
+/// Why the octets of a connection file are refused, where they are.
+fn refused(alloc: Global, octets: &[u8]) -> Option<Status> {
+    judge(alloc, octets).err()
 }
 
 #[test]
@@ -175,7 +208,16 @@ fn output_that_fails_is_told(rt: HostRuntime) -> Result<(), Fail> {
         let words = given(alloc, &[word])?;
         let mut reader = b"".as_slice();
         let mut faults = Vec::new(alloc);
-        let status = run(&rt, alloc, &words, &mut reader, &mut Closed, &mut faults);
+        let until = Until::Asked;
+        let status = run(
+            &rt,
+            alloc,
+            &words,
+            until,
+            &mut reader,
+            &mut Closed,
+            &mut faults,
+        );
         assert_eq!(rt; status, 1, "{word}");
         assert_eq!(rt;
             faults.as_slice(),
@@ -194,7 +236,15 @@ fn what_is_printed_and_told_is_flushed(rt: HostRuntime) -> Result<(), Fail> {
         let mut reader = b"".as_slice();
         let mut writer = Buffered::new(alloc);
         let mut faults = Buffered::new(alloc);
-        run(&rt, alloc, &words, &mut reader, &mut writer, &mut faults);
+        run(
+            &rt,
+            alloc,
+            &words,
+            Until::Asked,
+            &mut reader,
+            &mut writer,
+            &mut faults,
+        );
         assert_eq!(rt; !writer.flushed.is_empty(), printed, "{word}");
         assert_eq!(rt; !faults.flushed.is_empty(), told, "{word}");
     }
@@ -213,7 +263,15 @@ fn what_cannot_be_told_changes_no_status(rt: HostRuntime) -> Result<(), Fail> {
         let words = given(alloc, words)?;
         let mut reader = b"zz".as_slice();
         let mut output = Vec::new(alloc);
-        let status = run(&rt, alloc, &words, &mut reader, &mut output, &mut Closed);
+        let status = run(
+            &rt,
+            alloc,
+            &words,
+            Until::Asked,
+            &mut reader,
+            &mut output,
+            &mut Closed,
+        );
         assert_eq!(rt; status, wanted);
         assert!(rt; output.is_empty());
     }
@@ -235,7 +293,15 @@ fn words_that_cannot_be_read_are_told(rt: HostRuntime) {
         let mut reader = b"".as_slice();
         let mut output = Vec::new(alloc);
         let mut faults = Vec::new(alloc);
-        let status = run(&rt, alloc, &words, &mut reader, &mut output, &mut faults);
+        let status = run(
+            &rt,
+            alloc,
+            &words,
+            Until::Asked,
+            &mut reader,
+            &mut output,
+            &mut faults,
+        );
         assert_eq!(rt; status, wanted);
         assert!(rt; output.is_empty());
         assert_eq!(rt; faults.as_slice(), told.as_bytes());
