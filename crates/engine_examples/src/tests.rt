@@ -2,6 +2,7 @@
 
 mod cells;
 mod contents;
+mod fault;
 mod letters;
 mod owed;
 mod session;

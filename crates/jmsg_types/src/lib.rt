@@ -22,6 +22,3 @@ pub use publication::{
 };
 pub use reply::{Reply, Shown, Verdict, content_of, content_text};
 pub use request::{Request, read_known, read_request};
-
-#[cfg(test)]
-mod tests;

@@ -30,6 +30,3 @@ pub use publishing::Publishing;
 pub use respond::{Answered, respond_to};
 pub use side::Side;
 pub use stop::Stop;
-
-#[cfg(test)]
-mod tests;

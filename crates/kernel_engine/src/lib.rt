@@ -24,6 +24,3 @@ pub use server::{Answered, Server};
 pub use serving::serve;
 pub use shaking::{Shaken, shake};
 pub use working::session;
-
-#[cfg(test)]
-mod tests;

@@ -22,6 +22,3 @@ pub use traffic::frame::Frame;
 pub use traffic::head::{Head, frame_head};
 pub use traffic::limits::Limits;
 pub use traffic::message::{Message, text_len, write_frames, write_message};
-
-#[cfg(test)]
-mod tests;

@@ -4,7 +4,7 @@ use super::{
     ERROR, Ended, GREETING, HELLO, PEER_GREETING, PING, Peer, READY_REP, READY_REQ, READY_ROUTER,
     Sink, failed, join,
 };
-use crate::{EngineFault, echo};
+use kernel_engine::{EngineFault, echo};
 use std::alloc::Global;
 use std::io::ErrorKind;
 use std::test::Fail;

@@ -1,8 +1,8 @@
 //! Messages and commands, read and written.
 
-use crate::{Decoder, Fed, Limits, Message, Traffic, write_message};
 use std::alloc::Global;
 use std::test::Fail;
+use zmtp_wire::{Decoder, Fed, Limits, Message, Traffic, write_message};
 
 /// What a feed says, one word for each traffic and its bodies, and the fault's number.
 fn said(alloc: Global, fed: &Fed) -> Result<String, Fail> {

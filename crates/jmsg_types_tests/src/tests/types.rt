@@ -1,6 +1,6 @@
 //! The types of requests and of their replies.
 
-use crate::{MessageType, each_type_is_found, replies_are_named_for_requests, reply_type};
+use jmsg_types::{MessageType, each_type_is_found, replies_are_named_for_requests, reply_type};
 
 #[test]
 fn replies_have_their_types(rt: HostRuntime) {

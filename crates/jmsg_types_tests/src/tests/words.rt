@@ -1,6 +1,6 @@
 //! The numbers and words of faults.
 
-use crate::{ContentFault, content_words};
+use jmsg_types::{ContentFault, content_words};
 use std::test::Fail;
 
 #[test]

@@ -4,7 +4,7 @@ use super::{
     Answer, ERROR, Ended, HELLO, PEER_GREETING, PING, Peer, READY_DEALER, READY_REQ, Shelf, Sink,
     failed, join,
 };
-use crate::{EngineFault, Shaken, hear, shake};
+use kernel_engine::{EngineFault, Shaken, hear, shake};
 use std::alloc::Global;
 use std::test::Fail;
 use zmtp_wire::{Counted, SocketType, WireFault};

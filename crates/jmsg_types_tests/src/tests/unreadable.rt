@@ -1,7 +1,7 @@
 //! Contents that are no JSON, or no object, and large ones.
 
 use super::answer;
-use crate::{Request, read_request};
+use jmsg_types::{Request, read_request};
 use std::alloc::{AllocError, Global};
 use std::test::Fail;
 

@@ -8,7 +8,7 @@ mod types;
 mod unreadable;
 mod words;
 
-use crate::{ContentFault, Request, read_request};
+use jmsg_types::{ContentFault, Request, read_request};
 use listed::{Row, Text};
 use std::alloc::{AllocError, Global};
 

@@ -1,7 +1,7 @@
 //! The numbers and the words of the faults.
 
-use crate::EngineFault;
 use jmsg_envelope::Envelope;
+use kernel_block::EngineFault;
 use listed::{Frames, Octets, Text};
 use std::alloc::Global;
 use std::test::Fail;

@@ -3,7 +3,7 @@
 use super::{
     ERROR, Ended, GREETING, HELLO, PEER_GREETING, PING, Peer, READY_REP, READY_REQ, Sink, join,
 };
-use crate::{echo, one_hearing};
+use kernel_engine::{echo, one_hearing};
 use std::alloc::Global;
 use std::test::Fail;
 use zmtp_wire::{Counted, WireFault};

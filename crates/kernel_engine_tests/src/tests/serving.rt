@@ -3,7 +3,7 @@
 use super::{
     ERROR, Ended, GREETING, PEER_GREETING, Peer, READY_DEALER, READY_ROUTER, Sink, failed, join,
 };
-use crate::{Answered, EngineFault, Server, SessionEnd, serve};
+use kernel_engine::{Answered, EngineFault, Server, SessionEnd, serve};
 use std::alloc::{AllocError, Global};
 use std::io::ErrorKind;
 use std::test::Fail;

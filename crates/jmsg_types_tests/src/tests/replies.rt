@@ -1,7 +1,7 @@
 //! The contents of replies, letter for letter.
 
 use super::text;
-use crate::{Reply, Shown, Verdict, content_of, content_text};
+use jmsg_types::{Reply, Shown, Verdict, content_of, content_text};
 use listed::Row;
 use std::alloc::{AllocError, Global};
 use std::test::Fail;

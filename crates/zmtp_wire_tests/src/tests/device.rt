@@ -1,8 +1,8 @@
 //! Devices of the standard library, and one of its own.
 
-use crate::{Counted, Inlet, Outlet, ReadFailed, WriteFailed, write_all};
 use std::io::{self, ErrorKind, Read, Write};
 use std::test::Fail;
+use zmtp_wire::{Counted, Inlet, Outlet, ReadFailed, WriteFailed, write_all};
 
 /// Refuses a number of calls with one kind of error, and then gives its octets, two at a time.
 #[derive(Drop)]

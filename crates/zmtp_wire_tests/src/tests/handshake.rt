@@ -1,12 +1,12 @@
 //! The greeting, READY and socket types.
 
-use crate::{
-    Decoder, Limits, Message, Peer, Ready, SocketType, Traffic, WireFault, greeting, read_greeting,
-    read_ready, ready_text,
-};
 use listed::Octets;
 use std::alloc::{AllocError, Global};
 use std::test::Fail;
+use zmtp_wire::{
+    Decoder, Limits, Message, Peer, Ready, SocketType, Traffic, WireFault, greeting, read_greeting,
+    read_ready, ready_text,
+};
 
 /// Our greeting: signature, version 3.0, `NULL`, not as server, filler.
 const GREETING: [u8; 64] = [

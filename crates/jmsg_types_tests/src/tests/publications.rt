@@ -1,7 +1,7 @@
 //! The types, topics and contents of publications, letter for letter.
 
 use super::text;
-use crate::{
+use jmsg_types::{
     Publication, State, content_of_publication, content_text_of_publication, topic_of, type_of,
 };
 use std::alloc::Global;

@@ -4,7 +4,7 @@ use super::{
     ERROR, Ended, GREETING, HELLO, PEER_GREETING, PING, Peer, READY_DEALER, READY_REP, READY_REQ,
     READY_ROUTER, Sink, failed, heard_then, join,
 };
-use crate::{EngineFault, shake};
+use kernel_engine::{EngineFault, shake};
 use std::alloc::Global;
 use std::io::ErrorKind;
 use std::test::Fail;

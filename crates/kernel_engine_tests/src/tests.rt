@@ -6,7 +6,7 @@ mod laws;
 mod serving;
 mod shaking;
 
-use crate::{EngineFault, Intake, SessionEnd, Shaken, hear};
+use kernel_engine::{EngineFault, Intake, SessionEnd, Shaken, hear};
 use std::alloc::{AllocError, Global};
 use std::io::{self, ErrorKind, Read, Write};
 use std::test::Fail;

@@ -1,11 +1,11 @@
 //! Heads of frames, texts of messages, and what messages ask for.
 
-use crate::{
-    Message, Outlet, Traffic, WriteFailed, frame_head, text_len, write_frames, write_message,
-};
 use listed::Octets;
 use std::alloc::{AllocError, Global};
 use std::test::Fail;
+use zmtp_wire::{
+    Message, Outlet, Traffic, WriteFailed, frame_head, text_len, write_frames, write_message,
+};
 
 /// Takes so many octets a write, and so many writes, and then fails.
 #[derive(Drop)]

@@ -1,7 +1,7 @@
 //! The numbers and the words of the faults.
 
-use crate::WireFault;
 use std::test::Fail;
+use zmtp_wire::WireFault;
 
 #[test]
 fn faults_have_numbers_and_words(rt: HostRuntime) -> Result<(), Fail> {
