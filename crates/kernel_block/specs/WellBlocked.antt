@@ -109,7 +109,7 @@ AreCuts m side [] = ⊤
 AreCuts m side (block ∷ earlier) = IsCut m side block.publications × AreCuts m side earlier
 
 -- What an engine keeps: what it published is well blocked, and the last block is open exactly where its idle is owed,
--- which happens only where the sink may refuse. It counted fewer cells than it gave ids.
+-- which happens only where the sink may refuse. It counted no more cells than the number of its next id.
 pub record KeepsBlocks {I P S W Cell : Type 0} (m : Meaning I Cell) (items_of : P → List (Option (Event W)))
     (may_refuse : P → Type 0) (meaning : S → StampMeaning) (id_text : StampMeaning → ℕ → List ℕ)
     (parts : Parts I P S W) : Type 0 where
