@@ -1,4 +1,5 @@
-//! Workers in threads of their own.
+//! Workers in threads of their own, with the stacks that the system gives a thread. What takes the most of one is JSON
+//! that nests as deep as may be, 127 deep: 96 KiB.
 
 ghost use Rattle.std.specs.Prelude.{◌≡◌, [], IfSome};
 ghost use Rattle.kernel_block.specs.declared.side.Side.TheVariants.{Shell, Control};
