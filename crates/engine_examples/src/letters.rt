@@ -1,6 +1,7 @@
 //! A language of a few lines.
 
-ghost use Rattle.std.specs.Prelude.{◌≡◌, ◌==◌, IfOk, length};
+ghost use Rattle.std.specs.Prelude.{◌≡◌, ◌⊎◌, ◌==◌, IfOk, length};
+ghost use Rattle.interp_core.specs.declared.fault.InterpFault.TheVariants.{OutOfMemory};
 ghost use Rattle.engine_examples.specs.Letters.{next_of, outputs_of};
 
 use interp_core::{
@@ -15,7 +16,23 @@ use std::marker::Model;
 /// output, on standard error and on display, `b` the first two, `x` fails, and `v` at the end is a value. `m` finds no
 /// memory, and no memory is found to read `!`. An expression is worth its own text. All else has a fault.
 #[derive(Clone, Copy, Debug)]
-pub struct Letters;
+pub struct Letters {
+    /// Whether no memory is found for anything but cells.
+    pub is_wanting: bool,
+}
+
+impl Letters {
+    /// A fault of the language, or want of memory.
+    fn fault(self, fault: InterpFault) -> InterpFault
+        ensures { (result ≡ fault) ⊎ (result ≡ OutOfMemory) }
+    {
+        if self.is_wanting {
+            InterpFault::OutOfMemory
+        } else {
+            fault
+        }
+    }
+}
 
 /// The letters of a cell that haven't run yet: a contract sees the list of them.
 #[derive(Drop)]
@@ -96,7 +113,7 @@ impl Interpreter for Letters {
     ghost meaning = { letters_meaning };
 
     fn info(&self, _alloc: Global) -> Result<Info, InterpFault> {
-        Err(InterpFault::Shift)
+        Err(self.fault(InterpFault::Shift))
     }
 
     fn begin(&mut self, alloc: Global, code: &str) -> Result<Waiting, InterpFault> {
@@ -131,7 +148,7 @@ impl Interpreter for Letters {
         _code: &str,
         _cursor: u64,
     ) -> Result<Completion, InterpFault> {
-        Err(InterpFault::TooDeep)
+        Err(self.fault(InterpFault::TooDeep))
     }
 
     fn inspect(
@@ -140,14 +157,17 @@ impl Interpreter for Letters {
         _code: &str,
         _cursor: u64,
     ) -> Result<Option<Text>, InterpFault> {
-        Err(InterpFault::Syntax(3))
+        Err(self.fault(InterpFault::Syntax(3)))
     }
 
     fn is_complete(&self, _alloc: Global, _code: &str) -> Result<Completeness, InterpFault> {
-        Err(InterpFault::ZeroDivision)
+        Err(self.fault(InterpFault::ZeroDivision))
     }
 
     fn evaluate(&mut self, alloc: Global, text: &str) -> Result<Text, InterpFault> {
+        if self.is_wanting {
+            return Err(InterpFault::OutOfMemory);
+        }
         Ok(Text::new(String::from_str(alloc, text)?))
     }
 

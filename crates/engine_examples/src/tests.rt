@@ -5,6 +5,7 @@ mod contents;
 mod fault;
 mod letters;
 mod owed;
+mod refused;
 mod session;
 mod worn;
 
@@ -13,9 +14,9 @@ ghost use Rattle.std.specs.Prelude.{◌≡◌, []};
 use interp_core::Interpreter;
 use iopub_event::Event;
 use iopub_queue::{ListSink, Publish, Refused};
-use jmsg_envelope::{Envelope, Signer, Stamp};
-use kernel_block::{Engine, Side, Stop};
-use listed::{Frames, Octets, Text};
+use jmsg_envelope::{Envelope, Signer, Stamp, open_envelope};
+use kernel_block::{Engine, EngineFault, Handled, Side, Stop};
+use listed::Frames;
 use std::alloc::{AllocError, Global};
 use std::cell::Cell;
 use std::process::Abort;
@@ -49,6 +50,63 @@ impl Stamp for OneDate {
     }
 
     fn date(&mut self, alloc: Global) -> Result<String, AllocError> {
+        String::from_str(alloc, DATE)
+    }
+}
+
+/// The stamp of `OneDate`, of which one call is refused, as where no memory is left for it.
+#[derive(Drop)]
+struct Scarce {
+    /// The call that is refused, counted from 1 over ids and dates, or 0.
+    refused: u64,
+    /// How many calls there were.
+    calls: Cell<u64>,
+}
+
+impl Scarce {
+    /// A stamp of which no call was made.
+    fn new(refused: u64) -> Scarce {
+        Scarce {
+            refused,
+            calls: Cell::new(0),
+        }
+    }
+
+    /// Counts a call: an error where it is the one that is refused.
+    fn count(&self) -> Result<(), AllocError> {
+        let calls = self.calls.get().saturating_add(1);
+        self.calls.set(calls);
+        if calls == self.refused {
+            Err(AllocError)
+        } else {
+            Ok(())
+        }
+    }
+}
+
+impl Stamp for Scarce {
+    ghost use Rattle.std.specs.Prelude.{codes, true};
+    ghost use Rattle.jmsg_envelope.specs.Stamp.{numbered, numbered-differ};
+
+    ghost meaning = { λ _. record { session = codes "s"; label = codes "s" } };
+
+    ghost id_text = { numbered };
+
+    ghost is_date = { λ _ _. true };
+
+    ghost ids_differ = { numbered-differ };
+
+    fn session(&self) -> &str {
+        "s"
+    }
+
+    fn id(&self, alloc: Global, n: u64) -> Result<String, AllocError> {
+        self.count()?;
+        OneDate.id(alloc, n)
+    }
+
+    fn date(&mut self, alloc: Global) -> Result<String, AllocError> {
+        self.count()?;
         String::from_str(alloc, DATE)
     }
 }
@@ -139,19 +197,14 @@ const ALWAYS: u64 = u64::MAX;
 /// The id and the type of a request.
 type Asker<'a> = (&'a str, &'a str);
 
-/// A request of this content.
+/// A request of this content, under no key.
 fn request(alloc: Global, (msg_id, msg_type): Asker<'_>, content: &str) -> Result<Envelope, Fail> {
     let header = format!(in alloc; "{{\"msg_id\":\"{msg_id}\",\"msg_type\":\"{msg_type}\"}}")?;
-    Ok(Envelope {
-        identities: Frames::new(Vec::new(alloc)),
-        header: Octets::new(header.into_bytes()),
-        msg_id: Text::new(String::from_str(alloc, msg_id)?),
-        msg_type: Text::new(String::from_str(alloc, msg_type)?),
-        parent: Octets::new(Vec::new(alloc)),
-        metadata: Octets::new(Vec::new(alloc)),
-        content: Octets::new(Vec::from_slice(alloc, content.as_bytes())?),
-        buffers: Frames::new(Vec::new(alloc)),
-    })
+    let mut frames = Vec::new(alloc);
+    for frame in ["<IDS|MSG>", "", header.as_str(), "{}", "{}", content] {
+        frames.push(Vec::from_slice(alloc, frame.as_bytes())?)?;
+    }
+    Ok(open_envelope(alloc, &Signer::new(Vec::new(alloc)), frames)?)
 }
 
 /// A message that is to come: its topic, or nothing where it is a reply, its type, the number of its id, its content.
@@ -239,6 +292,14 @@ fn expect_reply(
         expect(rt, alloc, frames, asker, due)?;
     }
     Ok(())
+}
+
+/// The number of the fault by which a request was refused, or 0.
+fn number_of(handled: Result<Handled, EngineFault>) -> u8 {
+    match handled {
+        Ok(_) => 0,
+        Err(fault) => fault.number(),
+    }
 }
 
 /// What is published of a request.

@@ -1,6 +1,6 @@
 //! The ruled queue, and the steps on it that keep the rule.
 
-ghost use Rattle.std.specs.Prelude.{◌≡◌, ◌<◌, [], List, IfOk, MatchOption};
+ghost use Rattle.std.specs.Prelude.{◌≡◌, ◌<◌, [], IfOk, MatchOption};
 ghost use Rattle.crossbeam_queue.specs.Passes.{view, IsSamePass, IsPassOf};
 ghost use Rattle.iopub_queue.specs.declared.view.Role.TheVariants.{Publishes, Takes, Tells};
 ghost use Rattle.iopub_queue.specs.Entries.{HasNoClose};
@@ -15,16 +15,16 @@ use std::sync::Wait;
 use std::thread;
 
 /// An entry: a publisher's number, and an item or its close.
-pub type Entry<T> = (usize, Option<T>);
+pub(crate) type Entry<T> = (usize, Option<T>);
 
 /// The queue under the rule.
-pub type Line<T> = RuledArrayQueue<Entry<T>, View<T>, InOrder>;
+pub(crate) type Line<T> = RuledArrayQueue<Entry<T>, View<T>, InOrder>;
 
 /// What one holder knows of the queue. It has no bytes.
-pub type Seat<T> = Pass<Entry<T>, View<T>>;
+pub(crate) type Seat<T> = Pass<Entry<T>, View<T>>;
 
 /// A queue of this many places, and the taker's seat.
-pub fn open_line<T>(alloc: Global, capacity: usize) -> Result<(Line<T>, Seat<T>), AllocError>
+pub(crate) fn open_line<T>(alloc: Global, capacity: usize) -> Result<(Line<T>, Seat<T>), AllocError>
     requires { 0 < capacity }
     ensures { IfOk result (λ made. IsPassOf made.0 made.1 × (view made.1 ≡ taking)) }
 {
@@ -33,7 +33,7 @@ pub fn open_line<T>(alloc: Global, capacity: usize) -> Result<(Line<T>, Seat<T>)
 }
 
 /// Pushes an entry of the seat's number. Where the queue is full it is tried again.
-pub fn push<T, R: Wait>(rt: &R, line: &Line<T>, seat: &mut Seat<T>, entry: Entry<T>)
+pub(crate) fn push<T, R: Wait>(rt: &R, line: &Line<T>, seat: &mut Seat<T>, entry: Entry<T>)
     requires seat { IsPassOf line.now seat.old }
     requires role { (view seat.old).role ≡ Publishes }
     requires number { entry.0 ≡ (view seat.old).number }
@@ -53,7 +53,7 @@ pub fn push<T, R: Wait>(rt: &R, line: &Line<T>, seat: &mut Seat<T>, entry: Entry
 }
 
 /// Pops the entry that waits first.
-pub fn pop<T, R: Wait>(rt: &R, line: &Line<T>, seat: &mut Seat<T>) -> Option<Entry<T>>
+pub(crate) fn pop<T, R: Wait>(rt: &R, line: &Line<T>, seat: &mut Seat<T>) -> Option<Entry<T>>
     requires seat { IsPassOf line.now seat.old }
     requires role { (view seat.old).role ≡ Takes }
     ensures seat { IsSamePass seat.old seat.new }
@@ -64,7 +64,7 @@ pub fn pop<T, R: Wait>(rt: &R, line: &Line<T>, seat: &mut Seat<T>) -> Option<Ent
 }
 
 /// What the taker can know at one moment.
-pub fn look<T>(line: &Line<T>, seat: &mut Seat<T>)
+pub(crate) fn look<T>(line: &Line<T>, seat: &mut Seat<T>)
     requires seat { IsPassOf line.now seat.old }
     requires role { (view seat.old).role ≡ Takes }
     ensures seat { IsSamePass seat.old seat.new × (view seat.new ≡ view seat.old) }
@@ -74,7 +74,7 @@ pub fn look<T>(line: &Line<T>, seat: &mut Seat<T>)
 }
 
 /// Splits the next number's seat off the taker's.
-pub fn split_publisher<T>(line: &Line<T>, taker: &mut Seat<T>) -> Seat<T>
+pub(crate) fn split_publisher<T>(line: &Line<T>, taker: &mut Seat<T>) -> Seat<T>
     requires seat { IsPassOf line.now taker.old }
     requires role { (view taker.old).role ≡ Takes }
     ensures seat { IsSamePass taker.old taker.new × IsPassOf line.now result }
@@ -85,7 +85,7 @@ pub fn split_publisher<T>(line: &Line<T>, taker: &mut Seat<T>) -> Seat<T>
 }
 
 /// Splits a word's seat off.
-pub fn split_word<T>(line: &Line<T>, seat: &mut Seat<T>) -> Seat<T>
+pub(crate) fn split_word<T>(line: &Line<T>, seat: &mut Seat<T>) -> Seat<T>
     requires seat { IsPassOf line.now seat.old }
     ensures seat { IsSamePass seat.old seat.new × IsPassOf line.now result }
     ensures same { view seat.new ≡ view seat.old }
@@ -95,7 +95,7 @@ pub fn split_word<T>(line: &Line<T>, seat: &mut Seat<T>) -> Seat<T>
 }
 
 /// Takes a word in.
-pub fn join_word<T>(line: &Line<T>, seat: &mut Seat<T>, word: Seat<T>)
+pub(crate) fn join_word<T>(line: &Line<T>, seat: &mut Seat<T>, word: Seat<T>)
     requires seat { IsPassOf line.now seat.old × IsPassOf line.now word }
     requires role { (view word).role ≡ Tells }
     ensures seat { IsSamePass seat.old seat.new }
@@ -105,7 +105,7 @@ pub fn join_word<T>(line: &Line<T>, seat: &mut Seat<T>, word: Seat<T>)
 }
 
 /// Takes a publisher's seat in.
-pub fn join_publisher<T>(line: &Line<T>, taker: &mut Seat<T>, closed: Seat<T>)
+pub(crate) fn join_publisher<T>(line: &Line<T>, taker: &mut Seat<T>, closed: Seat<T>)
     requires seat { IsPassOf line.now taker.old × IsPassOf line.now closed }
     requires roles { ((view taker.old).role ≡ Takes) × ((view closed).role ≡ Publishes) }
     ensures seat { IsSamePass taker.old taker.new }

@@ -1,7 +1,7 @@
 //! Publishers.
 
 ghost use Rattle.std.specs.Prelude.{◌≡◌, Some, None, Ok, IsOkAnd};
-ghost use Rattle.iopub_queue.specs.Entries.{of, EndsWithClose, StandsBehind};
+ghost use Rattle.iopub_queue.specs.Entries.{of, StandsBehind};
 ghost use Rattle.iopub_queue.specs.Calls.{Adds};
 
 use crate::closed::Closed;

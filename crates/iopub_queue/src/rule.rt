@@ -5,7 +5,7 @@ use crate::view::View;
 use crossbeam_queue::protocol::{Join, Lesson, Outcome, Protocol, Split};
 
 /// The rule: there is one lawful state of the core, and each seat knows a part of it.
-pub struct InOrder;
+pub(crate) struct InOrder;
 
 impl<T> Protocol<(usize, Option<T>), View<T>> for InOrder {
     ghost use Rattle.iopub_queue.specs.Rule.{Kept};
@@ -17,7 +17,7 @@ impl<T> Protocol<(usize, Option<T>), View<T>> for InOrder {
 }
 
 /// A push of an entry by the seat of its number.
-pub struct Publishing;
+pub(crate) struct Publishing;
 
 impl<T> Outcome<(usize, Option<T>), View<T>> for Publishing {
     ghost use Rattle.iopub_queue.specs.Steps.{Published};
@@ -32,7 +32,7 @@ impl<T> Lesson<(usize, Option<T>), View<T>> for Publishing {
 }
 
 /// A pop by the taker.
-pub struct Taking;
+pub(crate) struct Taking;
 
 impl<T> Outcome<(usize, Option<T>), View<T>> for Taking {
     ghost use Rattle.iopub_queue.specs.Steps.{Took};
@@ -47,7 +47,7 @@ impl<T> Lesson<(usize, Option<T>), View<T>> for Taking {
 }
 
 /// One more number is split off the taker's seat.
-pub struct Opening;
+pub(crate) struct Opening;
 
 impl<T> Split<View<T>> for Opening {
     ghost use Rattle.iopub_queue.specs.Views.{one_more, newcomer};
@@ -58,7 +58,7 @@ impl<T> Split<View<T>> for Opening {
 }
 
 /// A word is split off.
-pub struct Telling;
+pub(crate) struct Telling;
 
 impl<T> Split<View<T>> for Telling {
     ghost use Rattle.iopub_queue.specs.Views.{word_of};
@@ -69,7 +69,7 @@ impl<T> Split<View<T>> for Telling {
 }
 
 /// A word is taken in, by the taker or by a publisher.
-pub struct Learning;
+pub(crate) struct Learning;
 
 impl<T> Join<View<T>> for Learning {
     ghost use Rattle.iopub_queue.specs.Views.{learnt, spent};
@@ -80,7 +80,7 @@ impl<T> Join<View<T>> for Learning {
 }
 
 /// A publisher's seat goes over to the taker.
-pub struct Settling;
+pub(crate) struct Settling;
 
 impl<T> Join<View<T>> for Settling {
     ghost use Rattle.iopub_queue.specs.Views.{settled_with, spent};

@@ -4,7 +4,7 @@
 use std::collections::LinkedList;
 
 /// What a seat is for.
-pub enum Role {
+pub(crate) enum Role {
     /// It holds a publisher's number.
     Publishes,
     /// It takes.
@@ -16,29 +16,29 @@ pub enum Role {
 }
 
 /// A publisher's seat as it was when the taker settled with it.
-pub struct Ended<T> {
+pub(crate) struct Ended<T> {
     /// The publisher's number.
-    pub number: usize,
+    pub(crate) number: usize,
     /// All that it published.
-    pub published: LinkedList<Option<T>>,
+    pub(crate) published: LinkedList<Option<T>>,
     /// What it knew of the queue's history.
-    pub told: LinkedList<(usize, Option<T>)>,
+    pub(crate) told: LinkedList<(usize, Option<T>)>,
 }
 
 /// What a seat knows.
-pub struct View<T> {
+pub(crate) struct View<T> {
     /// What the seat is for.
-    pub role: Role,
+    pub(crate) role: Role,
     /// The number of a publisher; of the taker how many numbers there are.
-    pub number: usize,
+    pub(crate) number: usize,
     /// What a publisher published.
-    pub published: LinkedList<Option<T>>,
+    pub(crate) published: LinkedList<Option<T>>,
     /// What the history of the queue begins with.
-    pub seen: LinkedList<(usize, Option<T>)>,
+    pub(crate) seen: LinkedList<(usize, Option<T>)>,
     /// What the history begins with by the last word that was taken in.
-    pub heard: LinkedList<(usize, Option<T>)>,
+    pub(crate) heard: LinkedList<(usize, Option<T>)>,
     /// What the taker took.
-    pub taken: LinkedList<(usize, Option<T>)>,
+    pub(crate) taken: LinkedList<(usize, Option<T>)>,
     /// The publishers that the taker settled with.
-    pub settled: LinkedList<Ended<T>>,
+    pub(crate) settled: LinkedList<Ended<T>>,
 }

@@ -5,10 +5,10 @@ use Rattle.zmtp_wire.specs.Device.{Outflow}
 use Rattle.iopub_event.specs.declared.event.Event.TheVariants.{Attach, Subscribe, Cancel, Detach}
 use Rattle.iopub_relay.specs.declared.subscriber.Standing.TheVariants.{Served, Starved}
 use Rattle.iopub_relay.specs.declared.subscriber.Subscriber.{Subscriber}
-use Rattle.iopub_relay.specs.declared.table.Outcome.TheVariants.{Done, NoTopic}
+use Rattle.iopub_relay.specs.declared.table.EventOutcome.TheVariants.{Done, NoTopic}
 use Rattle.iopub_relay.specs.Counts.{holding_of}
 use Rattle.iopub_relay.specs.Rows.{AreBelow, AreAbove, AreRising, IsAt, IsFree}
-use Rattle.iopub_relay.specs.Table.{Serves}
+use Rattle.iopub_relay.specs.Table.{ServesEvent}
 use Rattle.iopub_relay.proofs.RowLemmas.{rising_with, rising_without, rising_at, set_here, removed_here}
 use Rattle.iopub_relay.proofs.RowLemmas.{inserted_here, here}
 use Rattle.iopub_relay.proofs.TableLemmas.{attach_new, detach_there}
@@ -77,13 +77,13 @@ module _ {Writer : Type 0} (id place : ℕ) (rows : List (Subscriber Writer)) wh
 
   module _ (outflow : Writer → Outflow) where
     -- a subscriber's row was taken out
-    pub detach_removed : IsAt id place rows → Serves outflow rows (remove rows place) (Detach id) Done
+    pub detach_removed : IsAt id place rows → ServesEvent outflow rows (remove rows place) (Detach id) Done
     detach_removed stands = detach_there outflow id place rows (remove rows place) stands (removed stands)
 
     -- a subscriber's row was put in
     pub attach_inserted : IsFree id place rows → (row : Subscriber Writer) → row.id ≡ id → row.standing ≡ Served
         → ((topic : List ℕ) → holding_of row.topics topic ≡ 0)
-        → Serves outflow rows (insert rows place row) (Attach id row.writer) Done
+        → ServesEvent outflow rows (insert rows place row) (Attach id row.writer) Done
     attach_inserted free row is served holding =
         attach_new outflow id place rows (insert rows place row) row free (inserted free row) is served holding
 
@@ -93,25 +93,25 @@ module _ {Writer : Type 0} (id place : ℕ) (rows : List (Subscriber Writer)) wh
         → one.standing ≡ stands.row.standing
         → ((other : List ℕ) → holding_of one.topics other ≡ (if bytes_eq topic other
         then holding_of stands.row.topics other + 1 else holding_of stands.row.topics other))
-        → Serves outflow rows (slice_set rows place one) (Subscribe id topic) Done
+        → ServesEvent outflow rows (slice_set rows place one) (Subscribe id topic) Done
     subscribe_set stands one topic served is writer standing topics =
         subscribe_there outflow id place rows (slice_set rows place one) one topic stands served (set stands one) is
         writer standing topics
 
     -- a subscriber's row has failed
     pub failed_set : (stands : IsAt id place rows) (row : Subscriber Writer) (topic : List ℕ) → row ≡ stands.row
-        → (row.standing ≡ Served → ⊥) → Serves outflow rows (slice_set rows place row) (Subscribe id topic) Done
+        → (row.standing ≡ Served → ⊥) → ServesEvent outflow rows (slice_set rows place row) (Subscribe id topic) Done
     failed_set stands row topic same failed =
-        subst (λ (new : List (Subscriber Writer)). Serves outflow rows new (Subscribe id topic) Done)
+        subst (λ (new : List (Subscriber Writer)). ServesEvent outflow rows new (Subscribe id topic) Done)
         (sym (set_same stands row same))
         (subscribe_failed outflow id place rows topic stands
         (λ served. failed (ap (λ (one : Subscriber Writer). one.standing) same ∙ served)))
 
     -- the same where a topic is given up
     pub failed_cancel_set : (stands : IsAt id place rows) (row : Subscriber Writer) (topic : List ℕ) → row ≡ stands.row
-        → (row.standing ≡ Served → ⊥) → Serves outflow rows (slice_set rows place row) (Cancel id topic) Done
+        → (row.standing ≡ Served → ⊥) → ServesEvent outflow rows (slice_set rows place row) (Cancel id topic) Done
     failed_cancel_set stands row topic same failed =
-        subst (λ (new : List (Subscriber Writer)). Serves outflow rows new (Cancel id topic) Done)
+        subst (λ (new : List (Subscriber Writer)). ServesEvent outflow rows new (Cancel id topic) Done)
         (sym (set_same stands row same))
         (cancel_failed outflow id place rows topic stands
         (λ served. failed (ap (λ (one : Subscriber Writer). one.standing) same ∙ served)))
@@ -119,7 +119,7 @@ module _ {Writer : Type 0} (id place : ℕ) (rows : List (Subscriber Writer)) wh
     -- a subscriber's row is starved
     pub starved_set : (stands : IsAt id place rows) (one : Subscriber Writer) (topic : List ℕ) → one.id ≡ id
         → one.writer ≡ stands.row.writer → stands.row.standing ≡ Served → one.standing ≡ Starved
-        → Serves outflow rows (slice_set rows place one) (Subscribe id topic) (NoTopic id)
+        → ServesEvent outflow rows (slice_set rows place one) (Subscribe id topic) (NoTopic id)
     starved_set stands one topic is writer served starved =
         subscribe_starved outflow id place rows (slice_set rows place one) one topic stands (set stands one) is writer
         served starved
@@ -130,7 +130,7 @@ module _ {Writer : Type 0} (id place : ℕ) (rows : List (Subscriber Writer)) wh
         → one.standing ≡ stands.row.standing
         → ((other : List ℕ) → holding_of one.topics other ≡ (if bytes_eq topic other
         then holding_of stands.row.topics other - 1 else holding_of stands.row.topics other))
-        → Serves outflow rows (slice_set rows place one) (Cancel id topic) Done
+        → ServesEvent outflow rows (slice_set rows place one) (Cancel id topic) Done
     cancel_set stands one topic served is writer standing topics =
         cancel_there outflow id place rows (slice_set rows place one) one topic stands served (set stands one) is
         writer standing topics

@@ -67,7 +67,8 @@ module _ {Writer : Type 0} (id : ℕ) where
 
   all_more : (before events : List (Event Writer)) → Began before (life id before)
       → Began (before ++ events) (life id (before ++ events))
-  all_more before [] began = subst (λ (all : List (Event Writer)). Began all (life id all)) (sym (append-nil before)) began
+  all_more before [] began =
+      subst (λ (all : List (Event Writer)). Began all (life id all)) (sym (append-nil before)) began
   all_more before (event ∷ events) began =
       subst (λ (all : List (Event Writer)). Began all (life id all)) (append_assoc before (event ∷ []) events)
       (all_more (before ++ event ∷ []) events (one_more before event (leaves id event) refl began))
@@ -85,7 +86,8 @@ module _ {Writer : Type 0} (id : ℕ) where
 
   stays_there : (before after : List (Event Writer)) → is_some (life id before) ≡ true
       → list_any (leaves id) after ≡ false → is_some (life id (before ++ after)) ≡ true
-  stays_there before [] there stay = ap (λ (all : List (Event Writer)). is_some (life id all)) (append-nil before) ∙ there
+  stays_there before [] there stay =
+      ap (λ (all : List (Event Writer)). is_some (life id all)) (append-nil before) ∙ there
   stays_there before (event ∷ after) there stay =
       ap (λ (all : List (Event Writer)). is_some (life id all)) (sym (append_assoc before (event ∷ []) after))
       ∙ stays_there (before ++ event ∷ []) after

@@ -10,13 +10,13 @@ use Rattle.iopub_event.specs.declared.event.Event.TheVariants.{Message, Subscrib
 use Rattle.iopub_relay.specs.declared.subscriber.Standing.{Standing}
 use Rattle.iopub_relay.specs.declared.subscriber.Standing.TheVariants.{Served, Broken, Starved}
 use Rattle.iopub_relay.specs.declared.subscriber.Subscriber.{Subscriber}
-use Rattle.iopub_relay.specs.declared.table.Outcome.TheVariants.{Done, NoTopic}
+use Rattle.iopub_relay.specs.declared.table.EventOutcome.TheVariants.{Done, NoTopic}
 use Rattle.iopub_relay.specs.Counts.{holding_of}
 use Rattle.iopub_relay.specs.Life.{Life, leaves, comes_with, life}
 use Rattle.iopub_relay.specs.Topics.{held, held_after, matches}
 use Rattle.iopub_relay.specs.Feed.{brings, feed}
 use Rattle.iopub_relay.specs.Rows.{row_of, IsAt}
-use Rattle.iopub_relay.specs.Table.{GetsBy, Lives, LivesAt, IsStarved, Serves, GetsText, HearsBy}
+use Rattle.iopub_relay.specs.Table.{GetsBy, Lives, LivesAt, IsStarved, ServesEvent, GetsText, HearsBy}
 use Rattle.iopub_relay.specs.Table.{Hears, AllHear}
 use Rattle.iopub_relay.proofs.LifeLemmas.{onward, life_more, held_more, feed_more}
 use Rattle.iopub_relay.proofs.RowLemmas.{same_id, found}
@@ -61,7 +61,7 @@ module _ {Writer : Type 0} (outflow : Writer → Outflow) where
       → one.writer ≡ stands.row.writer → one.standing ≡ stands.row.standing
       → ((other : List ℕ) → holding_of one.topics other ≡ (if bytes_eq topic other
       then holding_of stands.row.topics other + 1 else holding_of stands.row.topics other))
-      → Serves outflow rows new (Subscribe id topic) Done
+      → ServesEvent outflow rows new (Subscribe id topic) Done
   subscribe_there id place rows new one topic stands served is_new is writer standing topics =
       let (fits, others, before, after) = changed outflow id place rows new one (Subscribe id topic) stands is_new is
       (subscribe_is_of outflow id topic) refl
@@ -82,7 +82,7 @@ module _ {Writer : Type 0} (outflow : Writer → Outflow) where
       → one.writer ≡ stands.row.writer → one.standing ≡ stands.row.standing
       → ((other : List ℕ) → holding_of one.topics other ≡ (if bytes_eq topic other
       then holding_of stands.row.topics other - 1 else holding_of stands.row.topics other))
-      → Serves outflow rows new (Cancel id topic) Done
+      → ServesEvent outflow rows new (Cancel id topic) Done
   cancel_there id place rows new one topic stands served is_new is writer standing topics =
       let (fits, others, before, after) = changed outflow id place rows new one (Cancel id topic) stands is_new is
       (cancel_is_of outflow id topic) refl
@@ -98,7 +98,7 @@ module _ {Writer : Type 0} (outflow : Writer → Outflow) where
 
   failed_still : (id place : ℕ) (rows : List (Subscriber Writer)) (event : Event Writer) (stands : IsAt id place rows)
       → (stands.row.standing ≡ Served → ⊥) → IsOf outflow id event → leaves id event ≡ false
-      → comes_with id event ≡ None → Serves outflow rows rows event Done
+      → comes_with id event ≡ None → ServesEvent outflow rows rows event Done
   failed_still id place rows event stands failed of stays away =
       let there : row_of id rows ≡ Some stands.row =
       ap (row_of id) stands.split ∙ found id stands.before stands.behind stands.row stands.is stands.below in record {
@@ -113,12 +113,12 @@ module _ {Writer : Type 0} (outflow : Writer → Outflow) where
 
   -- a subscriber that has failed subscribes to a topic, or gives one up: it stays as it is
   pub subscribe_failed : (id place : ℕ) (rows : List (Subscriber Writer)) (topic : List ℕ) (stands : IsAt id place rows)
-      → (stands.row.standing ≡ Served → ⊥) → Serves outflow rows rows (Subscribe id topic) Done
+      → (stands.row.standing ≡ Served → ⊥) → ServesEvent outflow rows rows (Subscribe id topic) Done
   subscribe_failed id place rows topic stands failed =
       failed_still id place rows (Subscribe id topic) stands failed (subscribe_is_of outflow id topic) refl refl
 
   pub cancel_failed : (id place : ℕ) (rows : List (Subscriber Writer)) (topic : List ℕ) (stands : IsAt id place rows)
-      → (stands.row.standing ≡ Served → ⊥) → Serves outflow rows rows (Cancel id topic) Done
+      → (stands.row.standing ≡ Served → ⊥) → ServesEvent outflow rows rows (Cancel id topic) Done
   cancel_failed id place rows topic stands failed =
       failed_still id place rows (Cancel id topic) stands failed (cancel_is_of outflow id topic) refl refl
 
@@ -126,7 +126,7 @@ module _ {Writer : Type 0} (outflow : Writer → Outflow) where
   pub subscribe_starved : (id place : ℕ) (rows new : List (Subscriber Writer)) (one : Subscriber Writer)
       (topic : List ℕ) (stands : IsAt id place rows) → new ≡ stands.before ++ one ∷ stands.behind → one.id ≡ id
       → one.writer ≡ stands.row.writer → stands.row.standing ≡ Served → one.standing ≡ Starved
-      → Serves outflow rows new (Subscribe id topic) (NoTopic id)
+      → ServesEvent outflow rows new (Subscribe id topic) (NoTopic id)
   subscribe_starved id place rows new one topic stands is_new is writer served starved =
       let (fits, others, before, after) = changed outflow id place rows new one (Subscribe id topic) stands is_new is
       (subscribe_is_of outflow id topic) refl
@@ -300,7 +300,7 @@ module _ {Writer : Type 0} (outflow : Writer → Outflow) where
 
   -- a message came to all subscribers
   pub message_served : (frames : List (List ℕ)) (old new : List (Subscriber Writer)) → AllHear outflow frames old new
-      → Serves outflow old new (Message frames) Done
+      → ServesEvent outflow old new (Message frames) Done
   message_served frames old new hear = record {
     fits = λ events fits id. subst (λ (now : Option (Life Writer)). LivesAt outflow id (row_of id new) now)
         (sym (life_more id events (Message frames) refl))

@@ -15,14 +15,14 @@ use Rattle.iopub_event.specs.declared.event.Event.TheVariants.{Message, Attach, 
 use Rattle.iopub_relay.specs.declared.subscriber.Standing.{Standing}
 use Rattle.iopub_relay.specs.declared.subscriber.Standing.TheVariants.{Served, Broken, Starved}
 use Rattle.iopub_relay.specs.declared.subscriber.Subscriber.{Subscriber}
-use Rattle.iopub_relay.specs.declared.table.Outcome.TheVariants.{Done}
+use Rattle.iopub_relay.specs.declared.table.EventOutcome.TheVariants.{Done}
 use Rattle.iopub_relay.specs.Counts.{holding_of}
 use Rattle.iopub_relay.specs.Life.{Life, leaves, comes_with, life_begun, life}
 use Rattle.iopub_relay.specs.Topics.{Holding, held, held_after, beginnings, matches}
 use Rattle.iopub_relay.specs.Feed.{brings, feed}
 use Rattle.iopub_relay.specs.Rows.{row_of, IsAt, IsFree}
 use Rattle.iopub_relay.specs.Table.{GetsBy, Lives, LivesAt, Fits, FitsMore, IsStarved, StarvesOnly, LeavesFailed}
-use Rattle.iopub_relay.specs.Table.{Serves}
+use Rattle.iopub_relay.specs.Table.{ServesEvent}
 use Rattle.iopub_relay.proofs.LifeLemmas.{onward, life_left, life_more, held_more, feed_more}
 use Rattle.iopub_relay.proofs.RowLemmas.{same_id, found, missing, other_found}
 
@@ -229,7 +229,7 @@ module _ {Writer : Type 0} where
 
     -- that a subscriber comes that is there already changes nothing
     pub attach_there : (id place : ℕ) (rows : List (Subscriber Writer)) (writer : Writer) → IsAt id place rows
-        → Serves outflow rows rows (Attach id writer) Done
+        → ServesEvent outflow rows rows (Attach id writer) Done
     attach_there id place rows writer stands = record {
       fits = λ events fits.
           let there : row_of id rows ≡ Some stands.row =
@@ -268,7 +268,7 @@ module _ {Writer : Type 0} where
     pub attach_new : (id place : ℕ) (rows new : List (Subscriber Writer)) (row : Subscriber Writer)
         (free : IsFree id place rows) → new ≡ free.before ++ row ∷ free.behind → row.id ≡ id → row.standing ≡ Served
         → ((topic : List ℕ) → holding_of row.topics topic ≡ 0)
-        → Serves outflow rows new (Attach id row.writer) Done
+        → ServesEvent outflow rows new (Attach id row.writer) Done
     attach_new id place rows new row free is_new is served holding =
         let here : row_of id new ≡ Some row =
         ap (row_of id) is_new ∙ found id free.before free.behind row is free.below in
@@ -298,7 +298,7 @@ module _ {Writer : Type 0} where
 
     -- that one subscribes or gives up who isn't there changes nothing
     pub subscribe_absent : (id place : ℕ) (rows : List (Subscriber Writer)) (topic : List ℕ) → IsFree id place rows
-        → Serves outflow rows rows (Subscribe id topic) Done
+        → ServesEvent outflow rows rows (Subscribe id topic) Done
     subscribe_absent id place rows topic free =
         record {
           fits = absent_still id place rows (Subscribe id topic) (subscribe_is_of id topic) refl refl free;
@@ -307,7 +307,7 @@ module _ {Writer : Type 0} where
         }
 
     pub cancel_absent : (id place : ℕ) (rows : List (Subscriber Writer)) (topic : List ℕ) → IsFree id place rows
-        → Serves outflow rows rows (Cancel id topic) Done
+        → ServesEvent outflow rows rows (Cancel id topic) Done
     cancel_absent id place rows topic free =
         record {
           fits = absent_still id place rows (Cancel id topic) (cancel_is_of id topic) refl refl free;
@@ -317,7 +317,7 @@ module _ {Writer : Type 0} where
 
     -- that a subscriber leaves who isn't there changes nothing
     pub detach_absent : (id place : ℕ) (rows : List (Subscriber Writer)) → IsFree id place rows
-        → Serves outflow rows rows (Detach id) Done
+        → ServesEvent outflow rows rows (Detach id) Done
     detach_absent id place rows free =
         let none : row_of id rows ≡ None =
         ap (row_of id) free.split ∙ missing id free.before free.behind free.below free.above in record {
@@ -331,7 +331,7 @@ module _ {Writer : Type 0} where
 
     -- a subscriber that leaves is no more in the table
     pub detach_there : (id place : ℕ) (rows new : List (Subscriber Writer)) (stands : IsAt id place rows)
-        → new ≡ stands.before ++ stands.behind → Serves outflow rows new (Detach id) Done
+        → new ≡ stands.before ++ stands.behind → ServesEvent outflow rows new (Detach id) Done
     detach_there id place rows new stands is_new =
         let none : row_of id new ≡ None =
         ap (row_of id) is_new ∙ missing id stands.before stands.behind stands.below stands.above in

@@ -7,8 +7,8 @@ use Rattle.iopub_event.specs.declared.event.Event.TheVariants.{Message, Attach, 
 use Rattle.iopub_relay.specs.declared.subscriber.Standing.{Standing}
 use Rattle.iopub_relay.specs.declared.subscriber.Standing.TheVariants.{Served, Broken, Starved}
 use Rattle.iopub_relay.specs.declared.subscriber.Subscriber.{Subscriber}
-use Rattle.iopub_relay.specs.declared.table.Outcome.{Outcome}
-use Rattle.iopub_relay.specs.declared.table.Outcome.TheVariants.{Done, NoTopic, NoRoom}
+use Rattle.iopub_relay.specs.declared.table.EventOutcome.{EventOutcome}
+use Rattle.iopub_relay.specs.declared.table.EventOutcome.TheVariants.{Done, NoTopic, NoRoom}
 use Rattle.iopub_relay.specs.Counts.{holding_of}
 use Rattle.iopub_relay.specs.Life.{Life, life}
 use Rattle.iopub_relay.specs.Topics.{held, matches}
@@ -128,10 +128,10 @@ pub record Grows {Writer : Type 0} (outflow : Writer → Outflow) (May : ℕ →
   pub starves : StarvesOnly May old new
 
 -- what a table is after an event, by what came of it
-abbrev pub Serves : {Writer : Type 0} → (Writer → Outflow) → List (Subscriber Writer) → List (Subscriber Writer)
-    → Event Writer → Outcome → Type 0
-Serves outflow old new event Done = Grows outflow (λ id. ⊥) old new event
-Serves outflow old new event (NoTopic id) = ((topic : List ℕ) × (event ≡ Subscribe id topic))
+abbrev pub ServesEvent : {Writer : Type 0} → (Writer → Outflow) → List (Subscriber Writer) → List (Subscriber Writer)
+    → Event Writer → EventOutcome → Type 0
+ServesEvent outflow old new event Done = Grows outflow (λ id. ⊥) old new event
+ServesEvent outflow old new event (NoTopic id) = ((topic : List ℕ) × (event ≡ Subscribe id topic))
     × (Grows outflow (λ other. other ≡ id) old new event × IsStarved (row_of id new))
-Serves {Writer} outflow old new event (NoRoom id) =
+ServesEvent {Writer} outflow old new event (NoRoom id) =
     ((writer : Writer) × (event ≡ Attach id writer)) × ((row_of id old ≡ None) × (new ≡ old))

@@ -3,11 +3,11 @@
 ghost use Rattle.std.specs.Prelude.{◌≡◌, ℕ, map, IfOk, OnOk};
 ghost use Rattle.iopub_relay.specs.Life.{life};
 ghost use Rattle.iopub_relay.specs.Feed.{IsFed, writer_of, AreRisingIds};
-ghost use Rattle.iopub_relay.specs.Table.{Serves};
-ghost use Rattle.iopub_relay.specs.declared.table.Outcome.{Outcome};
+ghost use Rattle.iopub_relay.specs.Table.{ServesEvent};
+ghost use Rattle.iopub_relay.specs.declared.table.EventOutcome.{EventOutcome};
 
 use crate::subscriber::Subscriber;
-use crate::table::{Outcome, Table};
+use crate::table::{EventOutcome, Table};
 use iopub_event::Event;
 use std::alloc::{AllocError, Global};
 use zmtp_wire::Outlet;
@@ -55,10 +55,10 @@ fn writers_of<W: Drop>(alloc: Global, rows: Vec<Subscriber<W>>) -> Result<Vec<(u
 ///
 /// Where memory was refused for what the event asks for.
 fn serve_or_fail<W: Outlet + Drop>(table: &mut Table<W>, event: Event<W>) -> Result<(), AllocError>
-    ensures { OnOk result (Serves W.outflow table.old table.new event Outcome.Done) }
+    ensures { OnOk result (ServesEvent W.outflow table.old table.new event EventOutcome.Done) }
 {
     match table.serve(event) {
-        Outcome::Done => Ok(()),
-        Outcome::NoTopic(_) | Outcome::NoRoom(_) => Err(AllocError),
+        EventOutcome::Done => Ok(()),
+        EventOutcome::NoTopic(_) | EventOutcome::NoRoom(_) => Err(AllocError),
     }
 }

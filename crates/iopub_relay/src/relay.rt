@@ -9,7 +9,7 @@ ghost use Rattle.iopub_relay.specs.Relay.{ServesTaken, Pumps, Drains, Meets, Are
 ghost use Rattle.iopub_relay.specs.Relay.{IsLeftOf, left_by};
 
 use crate::subscriber::Subscriber;
-use crate::table::{Outcome, Table};
+use crate::table::{EventOutcome, Table};
 use iopub_event::Event;
 use iopub_queue::{Closed, Settled, Taken, Taker, Word};
 use std::alloc::Global;
@@ -128,9 +128,9 @@ impl<W: Outlet + Drop, R: Wait> Relay<W, R> {
                 let outcome = self.table.serve(event);
                 self.table.is_rising();
                 match outcome {
-                    Outcome::Done => Pumped::Did,
-                    Outcome::NoTopic(_) => Pumped::Did,
-                    Outcome::NoRoom(id) => {
+                    EventOutcome::Done => Pumped::Did,
+                    EventOutcome::NoTopic(_) => Pumped::Did,
+                    EventOutcome::NoRoom(id) => {
                         self.no_room = self.no_room.saturating_add(1);
                         Pumped::NoRoom(id)
                     }

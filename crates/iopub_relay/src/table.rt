@@ -5,7 +5,7 @@ ghost use Rattle.listed.specs.Bodies.{bodies};
 ghost use Rattle.zmtp_wire.specs.Frame.{text};
 ghost use Rattle.iopub_relay.specs.Relay.{is_failed};
 ghost use Rattle.iopub_relay.specs.Rows.{AreRising, IsAt, IsFree, row_of};
-ghost use Rattle.iopub_relay.specs.Table.{Serves, AllHear};
+ghost use Rattle.iopub_relay.specs.Table.{ServesEvent, AllHear};
 
 use crate::subscriber::{Standing, Subscriber};
 use crate::topics::Topics;
@@ -17,7 +17,7 @@ use zmtp_wire::{Outlet, write_message};
 
 /// What came of an event.
 #[derive(Clone, Copy, Debug)]
-pub(crate) enum Outcome {
+pub(crate) enum EventOutcome {
     /// What the event asks for.
     Done,
     /// There was no memory for a topic of this subscriber, which has failed so.
@@ -61,8 +61,8 @@ impl<W> Table<W> {
 
 impl<W: Outlet + Drop> Table<W> {
     /// Serves an event.
-    pub(crate) fn serve(&mut self, event: Event<W>) -> Outcome
-        ensures { Serves W.outflow self.old self.new event result }
+    pub(crate) fn serve(&mut self, event: Event<W>) -> EventOutcome
+        ensures { ServesEvent W.outflow self.old self.new event result }
     {
         match event {
             Event::Message(frames) => self.message(frames),
@@ -75,8 +75,8 @@ impl<W: Outlet + Drop> Table<W> {
 
     /// Serves a message: each subscriber with a topic that its first frame begins with gets its text. That is built
     /// once for all where there is memory for it, also where nobody gets it.
-    pub(crate) fn message(&mut self, frames: Frames) -> Outcome
-        ensures { Serves W.outflow self.old self.new (Event.Message frames) result }
+    pub(crate) fn message(&mut self, frames: Frames) -> EventOutcome
+        ensures { ServesEvent W.outflow self.old self.new (Event.Message frames) result }
     {
         let frames = frames.as_slice();
         let built = text_of(self.alloc, frames);
@@ -85,15 +85,15 @@ impl<W: Outlet + Drop> Table<W> {
             None => None,
         };
         hear_all(&mut self.rows, frames, octets);
-        Outcome::Done
+        EventOutcome::Done
     }
 
     /// Serves that a subscriber comes. Where it is there already its new writer is dropped.
-    pub(crate) fn attach(&mut self, id: u64, writer: W) -> Outcome
-        ensures { Serves W.outflow self.old self.new (Event.Attach id writer) result }
+    pub(crate) fn attach(&mut self, id: u64, writer: W) -> EventOutcome
+        ensures { ServesEvent W.outflow self.old self.new (Event.Attach id writer) result }
     {
         let Err(place) = place_of(&self.rows, id) else {
-            return Outcome::Done;
+            return EventOutcome::Done;
         };
         let row = Subscriber {
             id,
@@ -102,52 +102,52 @@ impl<W: Outlet + Drop> Table<W> {
             standing: Standing::Served,
         };
         if let Err(_) = self.rows.insert(place, row) {
-            return Outcome::NoRoom(id);
+            return EventOutcome::NoRoom(id);
         }
-        Outcome::Done
+        EventOutcome::Done
     }
 
     /// Serves that a subscriber subscribes to a topic.
-    pub(crate) fn subscribe(&mut self, id: u64, topic: Octets) -> Outcome
-        ensures { Serves W.outflow self.old self.new (Event.Subscribe id topic) result }
+    pub(crate) fn subscribe(&mut self, id: u64, topic: Octets) -> EventOutcome
+        ensures { ServesEvent W.outflow self.old self.new (Event.Subscribe id topic) result }
     {
         let Ok(place) = place_of(&self.rows, id) else {
-            return Outcome::Done;
+            return EventOutcome::Done;
         };
         let row = &mut self.rows[place];
         let Standing::Served = row.standing else {
-            return Outcome::Done;
+            return EventOutcome::Done;
         };
         if row.topics.add(topic).is_err() {
             row.standing = Standing::Starved;
-            return Outcome::NoTopic(id);
+            return EventOutcome::NoTopic(id);
         }
-        Outcome::Done
+        EventOutcome::Done
     }
 
     /// Serves that a subscriber gives a topic up.
-    pub(crate) fn cancel(&mut self, id: u64, topic: Octets) -> Outcome
-        ensures { Serves W.outflow self.old self.new (Event.Cancel id topic) result }
+    pub(crate) fn cancel(&mut self, id: u64, topic: Octets) -> EventOutcome
+        ensures { ServesEvent W.outflow self.old self.new (Event.Cancel id topic) result }
     {
         let Ok(place) = place_of(&self.rows, id) else {
-            return Outcome::Done;
+            return EventOutcome::Done;
         };
         let row = &mut self.rows[place];
         let Standing::Served = row.standing else {
-            return Outcome::Done;
+            return EventOutcome::Done;
         };
         row.topics.take_out(topic.as_slice());
-        Outcome::Done
+        EventOutcome::Done
     }
 
     /// Serves that a subscriber leaves.
-    pub(crate) fn detach(&mut self, id: u64) -> Outcome
-        ensures { Serves W.outflow self.old self.new (Event.Detach id) result }
+    pub(crate) fn detach(&mut self, id: u64) -> EventOutcome
+        ensures { ServesEvent W.outflow self.old self.new (Event.Detach id) result }
     {
         if let Ok(place) = place_of(&self.rows, id) {
             self.rows.remove(place);
         }
-        Outcome::Done
+        EventOutcome::Done
     }
 }
 

@@ -1,6 +1,6 @@
 -- What the whole program says by its exit status: of its command words, and of what its reader and its writer hold
 -- before and after.
-use Rattle.std.specs.Prelude.{◌≡◌, ◌⊎◌, ℕ, List, [], ◌∷◌, ◌++◌, Option, None, ⊤, Result, Ok, Err, IsOkAnd, MatchResult}
+use Rattle.std.specs.Prelude.{◌≡◌, ◌⊎◌, ℕ, List, [], ◌∷◌, ◌++◌, Option, None, ⊤, Result, Err, IsOkAnd, MatchResult}
 use Rattle.std.specs.Prelude.{IsUtf8, Vec, String, map, string_bytes}
 use Rattle.std.specs.Global.{Global}
 use Rattle.std.specs.IoError.{error_kind}
@@ -10,7 +10,6 @@ use Rattle.std.specs.declared.io.ErrorKind.TheVariants.{InvalidData}
 use Rattle.clap.specs.Words.{Text}
 use Rattle.conn_file.specs.Connection.{connection_of}
 use Rattle.conn_file.specs.Kernelspec.{kernelspec}
-use Rattle.conn_file.specs.declared.connection.Connection.{Connection}
 use Rattle.jkernel.specs.declared.words.Order.{Order}
 use Rattle.jkernel.specs.declared.words.Order.TheVariants.{Replay, Serve, KernelSpec, Help}
 use Rattle.jkernel.specs.declared.status.Status.{Status}
@@ -52,8 +51,8 @@ JudgesFile octets (CannotBind port) = ⊥
 JudgesFile octets Incomplete = ⊥
 JudgesFile octets InputRefused = ⊥
 
--- How serving a connection ends: a kernel ended that had taken all that was published, a port can't be bound, or memory,
--- a thread or random octets were wanting.
+-- How serving a connection ends: a kernel ended that had taken all that was published, a port can't be bound, or
+-- memory, a thread or random octets were wanting.
 abbrev pub EndsServing : Status → Type 0
 EndsServing Done = ⊤
 EndsServing Failed = ⊤

@@ -1,6 +1,6 @@
 //! The ids and dates of a replay, which are the same in each run.
 
-ghost use Rattle.std.specs.Prelude.{◌≡◌, ◌++◌, codes, IfOk, decimal, string_bytes, bytes_eq};
+ghost use Rattle.std.specs.Prelude.{◌≡◌, codes, IfOk, string_bytes, bytes_eq};
 ghost use Rattle.jmsg_envelope.specs.Stamp.{numbered, numbered-differ};
 ghost use Rattle.jkernel.specs.Stamp.{replay_session, replay_id, replay_date};
 

@@ -11,7 +11,8 @@ use kernel_serve::Port;
 pub(crate) enum Status {
     /// What was ordered is done.
     Done,
-    /// No memory was left, or standard input or output failed.
+    /// No memory was left, or standard input or output failed; or, of a kernel that was to serve, no thread could be
+    /// made, or the system gave no random octets.
     Failed,
     /// The command words are refused.
     WordsRefused,

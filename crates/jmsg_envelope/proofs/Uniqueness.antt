@@ -1,4 +1,6 @@
 -- Frames are cut in one way, so they are opened or refused in one way.
+use mathlib.Core.HLevel.{is_prop→PathP}
+use Rattle.std.proofs.Props.{props}
 use Rattle.std.proofs.Common.{◌≡◌, ℕ, List, [], ◌∷◌, ◌++◌, length, Some, None, refl, sym, ap, ◌∙◌, arith, inl, inr, ◌⊎◌}
 use Rattle.std.specs.Prelude.{Contains}
 use Rattle.std.proofs.lemmas.List.Elements.{Contains-append_right}
@@ -59,6 +61,8 @@ Envelope-equal e f identities header msg_id msg_type parent metadata content buf
   metadata = metadata i;
   content = content i;
   buffers = buffers i;
+  named = is_prop→PathP (λ j. header_names (header j) ≡ Some (msg_id j, msg_type j)) (λ j. hlevel props)
+      e.named f.named i;
 }
 
 -- frames are split into one message's parts

@@ -29,7 +29,7 @@ abbrev pub SealedIsOpened : Type 0
 SealedIsOpened =
     (key : List ℕ) (prefix : List (List ℕ)) (header parent metadata content : List ℕ) (buffers : List (List ℕ))
     (id kind : List ℕ)
-    → ¬ Contains prefix delimiter → header_names header ≡ Some (id, kind)
+    → ¬ Contains prefix delimiter → (named : header_names header ≡ Some (id, kind))
     → Opened key (sealed key prefix header parent metadata content buffers) record {
       identities = prefix;
       header = header;
@@ -39,4 +39,5 @@ SealedIsOpened =
       metadata = metadata;
       content = content;
       buffers = buffers;
+      named = named;
     }

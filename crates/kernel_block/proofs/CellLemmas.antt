@@ -1,5 +1,6 @@
 -- Cells that run step by step, as their courses tell it.
-use Rattle.std.proofs.Common.{arith, ◌≡◌, inl, inr, ℕ, zero, suc, ◌+◌, ◌<◌, List, [], ◌∷◌, ◌++◌, length, map, Bool, Option}
+use Rattle.std.proofs.Common.{arith, ◌≡◌, inl, inr, ℕ, zero, suc, ◌+◌, ◌<◌, List, [], ◌∷◌, ◌++◌, length, map, Bool}
+use Rattle.std.proofs.Common.{Option}
 use Rattle.std.proofs.Common.{Some, None, Ok, Err, MatchOption, refl, sym, ◌∙◌, ap, subst}
 use Rattle.std.proofs.Common.{append_assoc}
 use Rattle.std.proofs.lemmas.List.{append-nil, map-append, length-append}
@@ -111,14 +112,18 @@ module _ {State Cell : Type 0} (m : Meaning State Cell) where
         → IsOutcome next outcome
         → (course : Course State) × CellRuns m state cell course outputs outcome after × MayEnd may course.ending
     ran_to_end More outcome more stepped is = absurd is
-    ran_to_end (Done value) outcome more stepped is = (record { steps = 1; ending = own }, ran_last (Done value) outcome stepped is, tt)
+    ran_to_end (Done value) outcome more stepped is =
+        (record { steps = 1; ending = own }, ran_last (Done value) outcome stepped is, tt)
     ran_to_end (Failed (Syntax place)) outcome more stepped is =
         (record { steps = 1; ending = own }, ran_last (Failed (Syntax place)) outcome stepped is, tt)
-    ran_to_end (Failed Overflow) outcome more stepped is = (record { steps = 1; ending = own }, ran_last (Failed Overflow) outcome stepped is, tt)
+    ran_to_end (Failed Overflow) outcome more stepped is =
+        (record { steps = 1; ending = own }, ran_last (Failed Overflow) outcome stepped is, tt)
     ran_to_end (Failed ZeroDivision) outcome more stepped is =
         (record { steps = 1; ending = own }, ran_last (Failed ZeroDivision) outcome stepped is, tt)
-    ran_to_end (Failed Shift) outcome more stepped is = (record { steps = 1; ending = own }, ran_last (Failed Shift) outcome stepped is, tt)
-    ran_to_end (Failed TooDeep) outcome more stepped is = (record { steps = 1; ending = own }, ran_last (Failed TooDeep) outcome stepped is, tt)
+    ran_to_end (Failed Shift) outcome more stepped is =
+        (record { steps = 1; ending = own }, ran_last (Failed Shift) outcome stepped is, tt)
+    ran_to_end (Failed TooDeep) outcome more stepped is =
+        (record { steps = 1; ending = own }, ran_last (Failed TooDeep) outcome stepped is, tt)
     ran_to_end (Failed Interrupted) outcome more stepped is =
         (record { steps = 1; ending = own }, ran_last (Failed Interrupted) outcome stepped is, tt)
     ran_to_end (Failed OutOfMemory) outcome more stepped is = (
@@ -216,14 +221,16 @@ module _ {State Cell : Type 0} (m : Meaning State Cell) where
 
   module _ (state : State) (cell : Cell) (at : State) (left : Cell) (after : State) (rest : Cell)
       (A B C : List Publication → Type 0) (silent : Bool)
-      (join : (xs ys : List Publication) → A (unless_silent silent xs) → B (unless_silent silent ys) → C (unless_silent silent (xs ++ ys))) where
+      (join : (xs ys : List Publication) → A (unless_silent silent xs) → B (unless_silent silent ys)
+      → C (unless_silent silent (xs ++ ys))) where
     -- more steps ran
     pub underway_on : Underway m state cell at left A silent → Underway m at left after rest B silent
         → Underway m state cell after rest C silent
     underway_on first second = record {
       steps = first.steps ++ second.steps;
       goes = goes_on state cell first.steps at left second.steps after rest first.goes second.goes;
-      grew = subst (λ l. C (unless_silent silent l)) (sym (ap (map publication_of) (flat_map-append (λ step. step.outputs)
+      grew = subst (λ l. C (unless_silent silent l))
+          (sym (ap (map publication_of) (flat_map-append (λ step. step.outputs)
           first.steps second.steps) ∙ published_outputs _ _)) (join _ _ first.grew second.grew);
     }
 
@@ -240,7 +247,8 @@ module _ {State Cell : Type 0} (m : Meaning State Cell) where
       more = runs.more;
       last = runs.last;
       ends = runs.ends;
-      steps_are = let long = length-append first.steps runs.steps in let are = runs.steps_are in omega (arith, long, are);
+      steps_are = let long = length-append first.steps runs.steps in let are = runs.steps_are in
+          omega (arith, long, are);
       outputs_are = ap (λ l. outputs_of first.steps ++ l) runs.outputs_are
           ∙ sym (append_assoc (outputs_of first.steps) (outputs_of runs.steps) runs.last)
           ∙ ap (λ l. l ++ runs.last) (sym (flat_map-append (λ step. step.outputs) first.steps runs.steps));

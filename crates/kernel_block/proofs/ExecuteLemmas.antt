@@ -92,7 +92,8 @@ module _ {State Cell : Type 0} (m : Meaning State Cell) (code : List ℕ) (expre
   executed_values silent at after failure none tells front =
       cut_publications silent tells.course at after tells.outputs tells.outcome tells.runs
       (all_in_front silent _ tells.grew)
-      (may_be_cut may tells.course.ending _ _ tells.ending) (left_by tells.outcome at after (sym none ∙ tells.failure_is) front)
+      (may_be_cut may tells.course.ending _ _ tells.ending)
+      (left_by tells.outcome at after (sym none ∙ tells.failure_is) front)
 
   -- the cell failed, and its fault had no words
   pub executed_words : (silent : Bool) (at : State) (failure : Option InterpFault)

@@ -32,6 +32,7 @@ module _ {P S W : Type 0} (items_of : P → List (Option (Event W))) (is_same : 
     rest = let same : old.next ≡ old.next + 0 = omega arith in
         ap (λ n. record old { sink = old.sink; next = n }) same;
     same = itself old.sink;
+    few = λ few. few;
   }
 
   -- what is published after what was published
@@ -59,6 +60,7 @@ module _ {P S W : Type 0} (items_of : P → List (Option (Event W))) (is_same : 
         rest = second.rest ∙ ap (λ (p : Publishing P S). record p { sink = new.sink; next = mid.next + length ys })
             first.rest ∙ ap (λ n. record old { sink = new.sink; next = n }) next;
         same = on old.sink mid.sink new.sink first.same second.same;
+        few = λ few. second.few (first.few few);
       }
 
   -- the same where nothing of a silent cell is published

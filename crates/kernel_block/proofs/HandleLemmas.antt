@@ -1,6 +1,6 @@
 -- A request that is handled, step by step: the idle that is owed, busy, what is published of it, and its idle.
-use Rattle.std.proofs.Common.{arith, ◌≡◌, ◌⊎◌, inl, inr, ℕ, ◌+◌, ◌≤◌, ◌^◌, List, [], ◌∷◌, ◌++◌, length, map, Bool, true, false}
-use Rattle.std.proofs.Common.{Option, Some, None, refl, sym, ◌∙◌, ap, subst, append_assoc}
+use Rattle.std.proofs.Common.{arith, ◌≡◌, ◌⊎◌, inl, inr, ℕ, ◌+◌, ◌≤◌, ◌^◌, List, [], ◌∷◌, ◌++◌, length, map, Bool}
+use Rattle.std.proofs.Common.{true, false, Option, Some, None, refl, sym, ◌∙◌, ap, subst, append_assoc}
 use Rattle.std.proofs.lemmas.List.{append-nil, map-append}
 use Rattle.interp_core.specs.Interpreter.{Meaning}
 use Rattle.iopub_event.specs.declared.event.Event.{Event}
@@ -27,7 +27,8 @@ use Rattle.kernel_block.proofs.AnswerLemmas.{asked_once, leaves_asked}
 use Rattle.kernel_block.proofs.TellLemmas.{may_be_cut}
 
 -- lists that grew one after the other
-grown_lists : {A : Type 0} (l₀ l₁ l₂ owed front : List A) → l₁ ≡ l₀ ++ owed → l₂ ≡ l₁ ++ front → l₂ ≡ l₀ ++ (owed ++ front)
+grown_lists : {A : Type 0} (l₀ l₁ l₂ owed front : List A) → l₁ ≡ l₀ ++ owed → l₂ ≡ l₁ ++ front
+    → l₂ ≡ l₀ ++ (owed ++ front)
 grown_lists l₀ l₁ l₂ owed front one two =
     two ∙ ap (λ l. l ++ front) one ∙ append_assoc l₀ owed front
 
@@ -242,7 +243,8 @@ module _ {I P S W Cell : Type 0} (m : Meaning I Cell) (items_of : P → List (Op
                 (message_type request.msg_type) request.content) p.interp p.count answers.course answers.publications)
                 pays.rest answers.publishes;
             answers = subst (λ (a : Answer I). AnswersAsked m old.side (message_type request.msg_type)
-                (asked_of old.side (message_type request.msg_type) request.content) old.interp old.count answers.course a)
+                (asked_of old.side (message_type request.msg_type) request.content) old.interp old.count answers.course
+                a)
                 (ap (λ (i : I). record (answer_with handled answers.reply at) { state = i }) (sym added.interp)
                 ∙ ap (λ n. record (answer_with handled answers.reply at) { state = new.interp; count = n })
                 (sym added.count))
@@ -258,10 +260,13 @@ module _ {I P S W Cell : Type 0} (m : Meaning I Cell) (items_of : P → List (Op
             adds = added.adds;
             next = added.next ∙ ap (λ (p : Parts I P S W). p.publishing.next) answers.rest
                 ∙ ap (λ n. n + ids_of_reply answers.reply) behind;
+            last = let before : opens.next ≤ 2 ^ 63 + 1 = omega (arith, few, number) in
+                let reached = answers.few before in let next = added.next in omega (arith, reached, next);
           }
 
       -- memory was refused while a request was answered
-      pub handled_cut : (may : Type 0) → AnswersNot m items_of may_refuse is_same meaning id_text is_date may heading request.msg_type
+      pub handled_cut : (may : Type 0)
+          → AnswersNot m items_of may_refuse is_same meaning id_text is_date may heading request.msg_type
           request.content (record paid { publishing = opens }) at
           → HandlesCut m items_of may_refuse is_same meaning id_text is_date may request old new
       handled_cut may answers =
@@ -281,6 +286,8 @@ module _ {I P S W Cell : Type 0} (m : Meaning I Cell) (items_of : P → List (Op
             adds = added.adds;
             next = added.next ∙ ap (λ (p : Publishing P S). p.next) answers.grew.rest
                 ∙ ap (λ n. n + length answers.publications) number;
+            last = let before : opens.next ≤ 2 ^ 63 + 1 = omega (arith, few, number) in
+                let reached = answers.grew.few before in let next = added.next in omega (arith, reached, next);
           }
 
   -- a request was answered, and its reply was made
@@ -292,10 +299,11 @@ module _ {I P S W Cell : Type 0} (m : Meaning I Cell) (items_of : P → List (Op
       (Puts items_of is_same meaning id_text heading old.publishing mid)
       → (reply ≡ reply_message (sealing_of meaning id_text mid) heading identities mid.next msg_type answered.reply)
       × (made ≡ record mid { next = mid.next + ids_of_reply answered.reply })
+      → (mid.next ≤ 2 ^ 63 + 1 → made.next ≤ 2 ^ 63 + 1)
       → AnswersInBlock m items_of may_refuse is_same meaning id_text is_date may heading identities msg_type content old
       (record { reply = reply; end = answered.end; restart = answered.restart; interrupt = answered.interrupt })
       (record old { interp = interp; count = count; publishing = made })
-  answers_whole may heading identities msg_type content old interp count mid made answered reply whole (is, grown) =
+  answers_whole may heading identities msg_type content old interp count mid made answered reply whole (is, grown) few =
       record {
         course = whole.course;
         publications = whole.publications;
@@ -308,6 +316,7 @@ module _ {I P S W Cell : Type 0} (m : Meaning I Cell) (items_of : P → List (Op
         replied = is ∙ ap (λ (p : Publishing P S). reply_message (sealing_of meaning id_text p) heading identities
             mid.next msg_type answered.reply) whole.grew.rest;
         rest = ap (λ (p : Publishing P S). record old { interp = interp; count = count; publishing = p }) grown;
+        few = λ before. few (whole.grew.few before);
       }
 
   -- a request was answered, and its reply wasn't made

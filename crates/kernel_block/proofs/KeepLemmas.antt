@@ -1,28 +1,35 @@
 -- What an engine keeps: its history grows by blocks.
 use Rattle.std.proofs.Common.{arith, ◌≡◌, ◌⊎◌, inl, inr, ℕ, ◌≤◌, List, [], ◌∷◌, ◌++◌, map, Bool, true, false}
-use Rattle.std.proofs.Common.{Option, Some, None, IfSome, MatchBool, MatchResult, Result, Ok, Err, refl, sym, ◌∙◌, ap, subst, append_assoc}
+use Rattle.std.proofs.Common.{Option, Some, None, IfSome, MatchBool, MatchResult, Result, Ok, Err, ◌^◌, ◌+◌}
+use Rattle.std.proofs.Common.{refl, sym, ◌∙◌, ap, subst, append_assoc}
 use Rattle.std.proofs.lemmas.List.{append-nil, map-append}
 use Rattle.interp_core.specs.Interpreter.{Meaning}
 use Rattle.iopub_event.specs.declared.event.Event.{Event}
 use Rattle.iopub_event.specs.declared.event.Event.TheVariants as events
 use Rattle.jmsg_envelope.specs.Stamp.{StampMeaning}
 use Rattle.jmsg_envelope.specs.declared.envelope.Envelope.{Envelope}
-use Rattle.jmsg_types.specs.Request.{message_type}
+use Rattle.interp_core.specs.declared.fault.InterpFault.TheVariants.{OutOfMemory}
+use Rattle.jmsg_types.specs.Fault.{Refusal}
 use Rattle.jmsg_types.specs.declared.publication.Publication.{Publication}
+use Rattle.jmsg_types.specs.declared.publication.Publication.TheVariants.{ExecuteInput, CommClose}
+use Rattle.jmsg_types.specs.declared.request.Request.{Request}
+use Rattle.jmsg_types.specs.declared.request.Request.TheVariants as asks
 use Rattle.kernel_block.specs.declared.fault.EngineFault.{EngineFault}
 use Rattle.kernel_block.specs.declared.fault.EngineFault.TheVariants.{OwedIdle, Memory, Read, Write, Turns, Worn}
 use Rattle.kernel_block.specs.declared.handled.Handled.{Handled}
 use Rattle.kernel_block.specs.declared.parts.Parts.{Parts}
 use Rattle.kernel_block.specs.declared.side.Side.{Side}
+use Rattle.kernel_block.specs.Answer.{asked_by_message}
 use Rattle.kernel_block.specs.Block.{Message, Sealing, opened}
+use Rattle.kernel_block.specs.Course.{Course, memory}
 use Rattle.kernel_block.specs.Growth.{item_of, sealing_of}
 use Rattle.kernel_block.specs.Handles.{Adds, HandlesCut, HandlesErr, HandlesNot, HandlesOk, IsLeft, Pays}
 use Rattle.kernel_block.specs.Handles.{PaysNot, owed_items}
-use Rattle.kernel_block.specs.WellBlocked.{AreClosed, AreCuts, Block, IsCut, KeepsBlocks, Owes, Rise, first_number}
-use Rattle.kernel_block.specs.WellBlocked.{front_of, heading_of, idle_of, messages_of, past, said_behind}
-use Rattle.kernel_block.specs.WellBlocked.{where_published}
+use Rattle.kernel_block.specs.Publications.{PublishesAsked, grown, last_of}
+use Rattle.kernel_block.specs.WellBlocked.{AreClosed, AreCuts, Began, Block, IsCut, KeepsBlocks, Owes}
+use Rattle.kernel_block.specs.WellBlocked.{Rise, first_number, front_of, heading_of, idle_of, messages_of, past}
+use Rattle.kernel_block.specs.WellBlocked.{said_behind, where_published}
 use Rattle.kernel_block.proofs.HandleLemmas.{sealing_by, handled_count, cut_count}
-use Rattle.kernel_block.proofs.RespondLemmas.{no_course}
 
 -- blocks of which the latest is closed, where its idle was owed
 abbrev paid : {W : Type 0} → Option (Event W) → List Block → List Block
@@ -66,35 +73,88 @@ rise_paid (Some owed) [] first next rise = rise
 rise_paid (Some owed) (block ∷ earlier) first next rise = rise
 
 -- what stands in the blocks stays
-cuts_paid : {W State Cell : Type 0} (m : Meaning State Cell) (side : Side) (owed : Option (Event W))
-    (blocks : List Block) → AreCuts m side blocks → AreCuts m side (paid owed blocks)
-cuts_paid m side None blocks cuts = cuts
-cuts_paid m side (Some owed) [] cuts = cuts
-cuts_paid m side (Some owed) (block ∷ earlier) cuts = cuts
+cuts_paid : {W State Cell : Type 0} (m : Meaning State Cell) (dated : List ℕ → Bool) (side : Side)
+    (owed : Option (Event W)) (blocks : List Block) → AreCuts m dated side blocks
+    → AreCuts m dated side (paid owed blocks)
+cuts_paid m dated side None blocks cuts = cuts
+cuts_paid m dated side (Some owed) [] cuts = cuts
+cuts_paid m dated side (Some owed) (block ∷ earlier) (cut, cuts) = (
+  record {
+    request = cut.request;
+    parent = cut.parent;
+    dated = cut.dated;
+    state = cut.state;
+    count = cut.count;
+    course = cut.course;
+    whole = cut.whole;
+    rest = cut.rest;
+    publishes = cut.publishes;
+    front = cut.front;
+  },
+  cuts,
+)
+
+-- the course of a cell that no memory was found to read
+abbrev unread : {State : Type 0} → State → Course State
+unread state = record { steps = 0; ending = memory state }
+
+-- of any request something is published by that course, if only nothing
+some_published : {State Cell : Type 0} (m : Meaning State Cell) (asked : Result Request Refusal) (state : State)
+    (count : ℕ) → (whole : List Publication) × PublishesAsked m asked state count (unread state) whole
+some_published m (Err refusal) state count = ([], refl)
+some_published m (Ok asks.KernelInfo) state count = ([], refl)
+some_published m (Ok (asks.Execute code true store user_expressions allow_stdin stop_on_error)) state count = ([], refl)
+some_published m (Ok (asks.Execute code false store user_expressions allow_stdin stop_on_error)) state count = (
+  ExecuteInput code (grown store count) ∷ last_of (grown store count) (Err OutOfMemory),
+  record {
+    outputs = [];
+    outcome = Err OutOfMemory;
+    after = state;
+    runs = inr (inl (record { course_is = refl; quiet = refl; outcome_is = refl; same = refl }));
+    all = refl;
+  },
+)
+some_published m (Ok (asks.Complete code cursor_pos)) state count = ([], refl)
+some_published m (Ok (asks.Inspect code cursor_pos detail_level)) state count = ([], refl)
+some_published m (Ok (asks.IsComplete code)) state count = ([], refl)
+some_published m (Ok asks.History) state count = ([], refl)
+some_published m (Ok asks.CommInfo) state count = ([], refl)
+some_published m (Ok (asks.CommOpen comm_id)) state count = (CommClose comm_id ∷ [], refl)
+some_published m (Ok asks.CommMsg) state count = ([], refl)
+some_published m (Ok asks.CommClose) state count = ([], refl)
+some_published m (Ok (asks.Shutdown restart)) state count = ([], refl)
+some_published m (Ok asks.Interrupt) state count = ([], refl)
+some_published m (Ok asks.Unknown) state count = ([], refl)
 
 module _ {I P S W Cell : Type 0} (m : Meaning I Cell) (items_of : P → List (Option (Event W)))
     (may_refuse : P → Type 0) (is_same : P → P → Type 0) (meaning : S → StampMeaning)
     (id_text : StampMeaning → ℕ → List ℕ) (is_date : StampMeaning → List ℕ → Bool)
     (on : (a b c : P) → is_same a b → is_same b c → is_same a c)
     (stays : (a b : P) → is_same a b → may_refuse a → may_refuse b) where
-  -- nothing is published between busy and idle
-  no_cut : (side : Side) (state : I) → IsCut m side []
-  no_cut side state = record {
-    kind = None;
-    content = [];
-    state = state;
-    count = 0;
-    course = no_course;
-    whole = [];
-    rest = [];
-    publishes = refl;
-    front = refl;
-  }
+  -- nothing of a request is published between busy and idle
+  no_cut : (dated : List ℕ → Bool) (side : Side) (state : I) (request : Envelope) (block : Block)
+      → block.parent ≡ request.header → dated block.date ≡ true → block.publications ≡ [] → IsCut m dated side block
+  no_cut dated side state request block parent is none =
+      let (whole, publishes) = some_published m (asked_by_message side request) state 0 in
+      record {
+        request = request;
+        parent = parent;
+        dated = is;
+        state = state;
+        count = 0;
+        course = unread state;
+        whole = whole;
+        rest = whole;
+        publishes = publishes;
+        front = ap (λ l. l ++ whole) (sym none);
+      }
 
   -- the owed idle of what a block leaves
   owes_added : (block : Block) (old new : Parts I P S W) (blocks : List Block)
-      → ((block.closed ≡ true) × (new.owed ≡ None)) ⊎ ((block.closed ≡ false) × (new.owed
-      ≡ Some (events.Message (idle_of (sealing_of meaning id_text old.publishing) block))) × may_refuse old.publishing.sink)
+      → ((block.closed ≡ true) × (new.owed ≡ None))
+      ⊎ ((block.closed ≡ false)
+      × (new.owed ≡ Some (events.Message (idle_of (sealing_of meaning id_text old.publishing) block)))
+      × may_refuse old.publishing.sink)
       → AreClosed blocks
       → Owes (sealing_of meaning id_text old.publishing) new.owed (block ∷ blocks)
   owes_added block old new blocks (inl (closed, none)) others =
@@ -105,8 +165,10 @@ module _ {I P S W Cell : Type 0} (m : Meaning I Cell) (items_of : P → List (Op
 
   -- an idle is owed only where the sink may refuse
   refused_added : (block : Block) (old new : Parts I P S W)
-      → ((block.closed ≡ true) × (new.owed ≡ None)) ⊎ ((block.closed ≡ false) × (new.owed
-      ≡ Some (events.Message (idle_of (sealing_of meaning id_text old.publishing) block))) × may_refuse old.publishing.sink)
+      → ((block.closed ≡ true) × (new.owed ≡ None))
+      ⊎ ((block.closed ≡ false)
+      × (new.owed ≡ Some (events.Message (idle_of (sealing_of meaning id_text old.publishing) block)))
+      × may_refuse old.publishing.sink)
       → is_same old.publishing.sink new.publishing.sink
       → IfSome new.owed (λ owed. may_refuse new.publishing.sink)
   refused_added block old new (inl (closed, none)) same =
@@ -116,51 +178,65 @@ module _ {I P S W Cell : Type 0} (m : Meaning I Cell) (items_of : P → List (Op
       (stays old.publishing.sink new.publishing.sink same refused)
 
   -- a block was added
-  keeps_added : (block : Block) (old new : Parts I P S W) → KeepsBlocks m items_of may_refuse meaning id_text old
-      → Adds m items_of may_refuse is_same meaning id_text is_date block old new → IsCut m old.side block.publications
-      → past block ≤ new.publishing.next → new.count ≤ new.publishing.next
-      → KeepsBlocks m items_of may_refuse meaning id_text new
-  keeps_added block old new keeps adds cut rises counted =
+  keeps_added : (block : Block) (old new : Parts I P S W)
+      → KeepsBlocks m items_of may_refuse meaning id_text is_date old
+      → Adds m items_of may_refuse is_same meaning id_text is_date block old new
+      → IsCut m (is_date (meaning old.publishing.stamp)) old.side block
+      → past block ≤ new.publishing.next → new.count ≤ new.publishing.next → new.publishing.next ≤ 2 ^ 63 + 1
+      → KeepsBlocks m items_of may_refuse meaning id_text is_date new
+  keeps_added block old new keeps adds cut rises counted last =
       let sealing = sealing_of meaning id_text old.publishing in
       let seals : sealing_of meaning id_text new.publishing ≡ sealing =
       sealing_by m items_of may_refuse is_same meaning id_text is_date on new.publishing old.publishing adds.signer
       adds.meant in
-      let front = front_of sealing keeps.history.started in
-      let blocks = paid old.owed keeps.history.blocks in
+      let was = keeps.blocked in
+      let front = front_of sealing was.history.started in
+      let blocks = paid old.owed was.history.blocks in
+      let dated = is_date (meaning old.publishing.stamp) in
       record {
-        history = record { started = keeps.history.started; blocks = block ∷ blocks };
-        items = subst (λ s. items_of new.publishing.sink
-            ≡ map item_of (said_behind s (front_of s keeps.history.started) (block ∷ blocks))) (sym seals)
-            (adds.items ∙ ap (λ l. l ++ (owed_items old.owed ++ map item_of (messages_of sealing block))) keeps.items
-            ∙ sym (append_assoc (map item_of (said_behind sealing front keeps.history.blocks)) (owed_items old.owed)
-            (map item_of (messages_of sealing block)))
-            ∙ ap (λ l. l ++ map item_of (messages_of sealing block))
-            (sym (said_paid sealing front old.owed keeps.history.blocks keeps.owes))
-            ∙ sym (map-append item_of (said_behind sealing front blocks) (messages_of sealing block)));
-        cuts = subst (λ side. AreCuts m side (block ∷ blocks)) (sym adds.side)
-            (cut, cuts_paid m old.side old.owed keeps.history.blocks keeps.cuts);
-        rise = (
-          rises,
-          subst (λ n. Rise (first_number keeps.history.started) blocks n) (sym adds.number)
-              (rise_paid old.owed keeps.history.blocks _ _ keeps.rise),
-        );
-        owes = subst (λ s. Owes s new.owed (block ∷ blocks)) (sym seals)
-            (owes_added block old new blocks adds.owed (closed_paid sealing old.owed keeps.history.blocks keeps.owes));
+        blocked = record {
+          history = record { started = was.history.started; blocks = block ∷ blocks };
+          items_are = subst (λ s. items_of new.publishing.sink
+              ≡ map item_of (said_behind s (front_of s was.history.started) (block ∷ blocks))) (sym seals)
+              (adds.items ∙ ap (λ l. l ++ (owed_items old.owed ++ map item_of (messages_of sealing block)))
+              was.items_are
+              ∙ sym (append_assoc (map item_of (said_behind sealing front was.history.blocks)) (owed_items old.owed)
+              (map item_of (messages_of sealing block)))
+              ∙ ap (λ l. l ++ map item_of (messages_of sealing block))
+              (sym (said_paid sealing front old.owed was.history.blocks was.owes))
+              ∙ sym (map-append item_of (said_behind sealing front blocks) (messages_of sealing block)));
+          began = subst (λ side. Began (is_date (meaning new.publishing.stamp)) side was.history.started)
+              (sym adds.side)
+              (subst (λ by. Began (is_date by) old.side was.history.started) (sym adds.meant) was.began);
+          cuts = subst (λ side. AreCuts m (is_date (meaning new.publishing.stamp)) side (block ∷ blocks))
+              (sym adds.side)
+              (subst (λ by. AreCuts m (is_date by) old.side (block ∷ blocks)) (sym adds.meant)
+              (cut, cuts_paid m dated old.side old.owed was.history.blocks was.cuts));
+          rise = (
+            rises,
+            subst (λ n. Rise (first_number was.history.started) blocks n) (sym adds.number)
+                (rise_paid old.owed was.history.blocks _ _ was.rise),
+          );
+          owes = subst (λ s. Owes s new.owed (block ∷ blocks)) (sym seals)
+              (owes_added block old new blocks adds.owed (closed_paid sealing old.owed was.history.blocks was.owes));
+        };
         refused = refused_added block old new adds.owed adds.same;
         counted = counted;
+        last = last;
       }
 
   -- a request was handled
   pub keeps_ok : (may : Type 0) (request : Envelope) (old new : Parts I P S W) (handled : Handled)
-      → KeepsBlocks m items_of may_refuse meaning id_text old
+      → KeepsBlocks m items_of may_refuse meaning id_text is_date old
       → HandlesOk m items_of may_refuse is_same meaning id_text is_date may request old handled new
-      → KeepsBlocks m items_of may_refuse meaning id_text new
+      → KeepsBlocks m items_of may_refuse meaning id_text is_date new
   keeps_ok may request old new handled keeps ok =
       let next = ok.next in
       let rises : past ok.block ≤ new.publishing.next = omega (arith, next) in
       keeps_added ok.block old new keeps ok.adds (record {
-        kind = message_type request.msg_type;
-        content = request.content;
+        request = request;
+        parent = ok.parent;
+        dated = ok.adds.dated;
         state = old.interp;
         count = old.count;
         course = ok.course;
@@ -170,18 +246,21 @@ module _ {I P S W Cell : Type 0} (m : Meaning I Cell) (items_of : P → List (Op
         front = sym (append-nil ok.block.publications);
       }) rises
       (handled_count m items_of may_refuse is_same meaning id_text is_date on may request old new handled keeps.counted
-      ok)
+      ok) ok.last
 
   -- what stands in a block that was cut
-  left_cut : (may : Type 0) (msg_type content : List ℕ) (old new : Parts I P S W) (publications : List Publication)
-      → IsLeft m items_of may_refuse is_same meaning id_text is_date may msg_type content old new publications
-      → IsCut m old.side publications
-  left_cut may msg_type content old new publications (inl (state, count, none)) =
-      subst (λ l. IsCut m old.side l) (sym none) (no_cut old.side old.interp)
-  left_cut may msg_type content old new publications (inr (course, whole, behind, publishes, front, leaves, ending)) =
+  left_cut : (may : Type 0) (request : Envelope) (block : Block) (old new : Parts I P S W)
+      → block.parent ≡ request.header → is_date (meaning old.publishing.stamp) block.date ≡ true
+      → IsLeft m items_of may_refuse is_same meaning id_text is_date may request.msg_type request.content old new
+      block.publications
+      → IsCut m (is_date (meaning old.publishing.stamp)) old.side block
+  left_cut may request block old new parent dated (inl (state, count, none)) =
+      no_cut (is_date (meaning old.publishing.stamp)) old.side old.interp request block parent dated none
+  left_cut may request block old new parent dated (inr (course, whole, behind, publishes, front, leaves, ending)) =
       record {
-        kind = message_type msg_type;
-        content = content;
+        request = request;
+        parent = parent;
+        dated = dated;
         state = old.interp;
         count = old.count;
         course = course;
@@ -193,59 +272,69 @@ module _ {I P S W Cell : Type 0} (m : Meaning I Cell) (items_of : P → List (Op
 
   -- a cut block was added
   keeps_cut : (may : Type 0) (request : Envelope) (old new : Parts I P S W)
-      → KeepsBlocks m items_of may_refuse meaning id_text old
+      → KeepsBlocks m items_of may_refuse meaning id_text is_date old
       → HandlesCut m items_of may_refuse is_same meaning id_text is_date may request old new
-      → KeepsBlocks m items_of may_refuse meaning id_text new
+      → KeepsBlocks m items_of may_refuse meaning id_text is_date new
   keeps_cut may request old new keeps cut =
       let next = cut.next in
       let rises : past cut.block ≤ new.publishing.next = omega (arith, next) in
       keeps_added cut.block old new keeps cut.adds
-      (left_cut may request.msg_type request.content old new cut.block.publications cut.left) rises
+      (left_cut may request cut.block old new cut.parent cut.adds.dated cut.left) rises
       (cut_count m items_of may_refuse is_same meaning id_text is_date on may request old new keeps.counted cut)
+      cut.last
 
   -- only the idle that was owed was published
-  keeps_paid : (old new : Parts I P S W) → KeepsBlocks m items_of may_refuse meaning id_text old
+  keeps_paid : (old new : Parts I P S W) → KeepsBlocks m items_of may_refuse meaning id_text is_date old
       → items_of new.publishing.sink ≡ items_of old.publishing.sink ++ owed_items old.owed → new.owed ≡ None
       → new.side ≡ old.side → new.publishing.signer ≡ old.publishing.signer
       → meaning new.publishing.stamp ≡ meaning old.publishing.stamp
       → new.publishing.next ≡ old.publishing.next → new.count ≡ old.count
-      → KeepsBlocks m items_of may_refuse meaning id_text new
+      → KeepsBlocks m items_of may_refuse meaning id_text is_date new
   keeps_paid old new keeps items owed side signer meant next count =
       let sealing = sealing_of meaning id_text old.publishing in
       let seals : sealing_of meaning id_text new.publishing ≡ sealing =
       sealing_by m items_of may_refuse is_same meaning id_text is_date on new.publishing old.publishing signer
       meant in
-      let front = front_of sealing keeps.history.started in
-      let blocks = paid old.owed keeps.history.blocks in
+      let was = keeps.blocked in
+      let front = front_of sealing was.history.started in
+      let blocks = paid old.owed was.history.blocks in
+      let dated = is_date (meaning old.publishing.stamp) in
       let counted = keeps.counted in
+      let last = keeps.last in
       record {
-        history = record { started = keeps.history.started; blocks = blocks };
-        items = subst (λ s. items_of new.publishing.sink
-            ≡ map item_of (said_behind s (front_of s keeps.history.started) blocks)) (sym seals)
-            (items ∙ ap (λ l. l ++ owed_items old.owed) keeps.items
-            ∙ sym (said_paid sealing front old.owed keeps.history.blocks keeps.owes));
-        cuts = subst (λ s. AreCuts m s blocks) (sym side)
-            (cuts_paid m old.side old.owed keeps.history.blocks keeps.cuts);
-        rise = subst (λ n. Rise (first_number keeps.history.started) blocks n) (sym next)
-            (rise_paid old.owed keeps.history.blocks _ _ keeps.rise);
-        owes = subst (λ o. Owes (sealing_of meaning id_text new.publishing) o blocks) (sym owed)
-            (closed_paid sealing old.owed keeps.history.blocks keeps.owes);
+        blocked = record {
+          history = record { started = was.history.started; blocks = blocks };
+          items_are = subst (λ s. items_of new.publishing.sink
+              ≡ map item_of (said_behind s (front_of s was.history.started) blocks)) (sym seals)
+              (items ∙ ap (λ l. l ++ owed_items old.owed) was.items_are
+              ∙ sym (said_paid sealing front old.owed was.history.blocks was.owes));
+          began = subst (λ s. Began (is_date (meaning new.publishing.stamp)) s was.history.started) (sym side)
+              (subst (λ by. Began (is_date by) old.side was.history.started) (sym meant) was.began);
+          cuts = subst (λ s. AreCuts m (is_date (meaning new.publishing.stamp)) s blocks) (sym side)
+              (subst (λ by. AreCuts m (is_date by) old.side blocks) (sym meant)
+              (cuts_paid m dated old.side old.owed was.history.blocks was.cuts));
+          rise = subst (λ n. Rise (first_number was.history.started) blocks n) (sym next)
+              (rise_paid old.owed was.history.blocks _ _ was.rise);
+          owes = subst (λ o. Owes (sealing_of meaning id_text new.publishing) o blocks) (sym owed)
+              (closed_paid sealing old.owed was.history.blocks was.owes);
+        };
         refused = subst (λ o. IfSome o (λ owed. may_refuse new.publishing.sink)) (sym owed) tt;
         counted = omega (arith, counted, next, count);
+        last = omega (arith, last, next);
       }
 
   -- nothing of the request was published
-  keeps_not : (old new : Parts I P S W) → KeepsBlocks m items_of may_refuse meaning id_text old
+  keeps_not : (old new : Parts I P S W) → KeepsBlocks m items_of may_refuse meaning id_text is_date old
       → HandlesNot m items_of may_refuse is_same meaning id_text is_date old new
-      → KeepsBlocks m items_of may_refuse meaning id_text new
+      → KeepsBlocks m items_of may_refuse meaning id_text is_date new
   keeps_not old new keeps none = keeps_paid old new keeps none.items
       (ap (λ (p : Parts I P S W). p.owed) none.rest) (ap (λ (p : Parts I P S W). p.side) none.rest)
       (ap (λ (p : Parts I P S W). p.publishing.signer) none.rest) none.meant
       (ap (λ (p : Parts I P S W). p.publishing.next) none.rest) (ap (λ (p : Parts I P S W). p.count) none.rest)
 
   -- an owed idle was published
-  pub keeps_pays : (old new : Parts I P S W) → KeepsBlocks m items_of may_refuse meaning id_text old
-      → Pays items_of may_refuse is_same old new → KeepsBlocks m items_of may_refuse meaning id_text new
+  pub keeps_pays : (old new : Parts I P S W) → KeepsBlocks m items_of may_refuse meaning id_text is_date old
+      → Pays items_of may_refuse is_same old new → KeepsBlocks m items_of may_refuse meaning id_text is_date new
   keeps_pays old new keeps pays = keeps_paid old new keeps pays.items
       (ap (λ (p : Parts I P S W). p.owed) pays.rest) (ap (λ (p : Parts I P S W). p.side) pays.rest)
       (ap (λ (p : Parts I P S W). p.publishing.signer) pays.rest)
@@ -259,26 +348,31 @@ module _ {I P S W Cell : Type 0} (m : Meaning I Cell) (items_of : P → List (Op
   still_refused (Some owed) new may = may
 
   -- only the sink was asked, in vain
-  pub keeps_unpaid : (old new : Parts I P S W) → KeepsBlocks m items_of may_refuse meaning id_text old
-      → PaysNot items_of may_refuse is_same old new → KeepsBlocks m items_of may_refuse meaning id_text new
+  pub keeps_unpaid : (old new : Parts I P S W) → KeepsBlocks m items_of may_refuse meaning id_text is_date old
+      → PaysNot items_of may_refuse is_same old new → KeepsBlocks m items_of may_refuse meaning id_text is_date new
   keeps_unpaid old new keeps vain =
       let asked = vain.asked in
-      let counted = keeps.counted in
-      subst (λ (p : Parts I P S W). KeepsBlocks m items_of may_refuse meaning id_text p) (sym asked.rest) (record {
-        history = keeps.history;
-        items = asked.items ∙ keeps.items;
-        cuts = keeps.cuts;
-        rise = keeps.rise;
-        owes = keeps.owes;
+      let was = keeps.blocked in
+      subst (λ (p : Parts I P S W). KeepsBlocks m items_of may_refuse meaning id_text is_date p) (sym asked.rest)
+      (record {
+        blocked = record {
+          history = was.history;
+          items_are = asked.items ∙ was.items_are;
+          began = was.began;
+          cuts = was.cuts;
+          rise = was.rise;
+          owes = was.owes;
+        };
         refused = still_refused old.owed new (stays _ _ asked.same vain.refused);
-        counted = counted;
+        counted = keeps.counted;
+        last = keeps.last;
       })
 
   -- a request was refused
   pub keeps_err : (may : Type 0) (request : Envelope) (old new : Parts I P S W) (fault : EngineFault)
-      → KeepsBlocks m items_of may_refuse meaning id_text old
+      → KeepsBlocks m items_of may_refuse meaning id_text is_date old
       → HandlesErr m items_of may_refuse is_same meaning id_text is_date may request old fault new
-      → KeepsBlocks m items_of may_refuse meaning id_text new
+      → KeepsBlocks m items_of may_refuse meaning id_text is_date new
   keeps_err may request old new (OwedIdle back) keeps err = keeps_unpaid old new keeps err.owes
   keeps_err may request old new Memory keeps (inl none) = keeps_not old new keeps none
   keeps_err may request old new Memory keeps (inr cut) = keeps_cut may request old new keeps cut
@@ -286,21 +380,22 @@ module _ {I P S W Cell : Type 0} (m : Meaning I Cell) (items_of : P → List (Op
   keeps_err may request old new Write keeps err = absurd err
   keeps_err may request old new Turns keeps err = absurd err
   keeps_err may request old new Worn keeps (worn, same) =
-      subst (λ (p : Parts I P S W). KeepsBlocks m items_of may_refuse meaning id_text p) (sym same) keeps
+      subst (λ (p : Parts I P S W). KeepsBlocks m items_of may_refuse meaning id_text is_date p) (sym same) keeps
 
   -- a request was handled, or it was refused
   pub keeps_handled : (may : Type 0) (request : Envelope) (old new : Parts I P S W)
-      (result : Result Handled EngineFault) → KeepsBlocks m items_of may_refuse meaning id_text old
+      (result : Result Handled EngineFault) → KeepsBlocks m items_of may_refuse meaning id_text is_date old
       → MatchResult result
       (λ handled. HandlesOk m items_of may_refuse is_same meaning id_text is_date may request old handled new)
       (λ fault. HandlesErr m items_of may_refuse is_same meaning id_text is_date may request old fault new)
-      → KeepsBlocks m items_of may_refuse meaning id_text new
+      → KeepsBlocks m items_of may_refuse meaning id_text is_date new
   keeps_handled may request old new (Ok handled) keeps ok = keeps_ok may request old new handled keeps ok
   keeps_handled may request old new (Err fault) keeps err = keeps_err may request old new fault keeps err
 
   -- an owed idle was tried once more
-  pub keeps_closed : (old new : Parts I P S W) (done : Bool) → KeepsBlocks m items_of may_refuse meaning id_text old
+  pub keeps_closed : (old new : Parts I P S W) (done : Bool)
+      → KeepsBlocks m items_of may_refuse meaning id_text is_date old
       → MatchBool done (Pays items_of may_refuse is_same old new) (PaysNot items_of may_refuse is_same old new)
-      → KeepsBlocks m items_of may_refuse meaning id_text new
+      → KeepsBlocks m items_of may_refuse meaning id_text is_date new
   keeps_closed old new true keeps pays = keeps_pays old new keeps pays
   keeps_closed old new false keeps vain = keeps_unpaid old new keeps vain

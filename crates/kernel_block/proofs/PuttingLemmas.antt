@@ -25,7 +25,8 @@ putting_first Grew silent all waiting same none = record {
 }
 
 module _ (A B C : List Publication → Type 0) (silent : Bool)
-    (join : (xs ys : List Publication) → A (unless_silent silent xs) → B (unless_silent silent ys) → C (unless_silent silent (xs ++ ys))) where
+    (join : (xs ys : List Publication) → A (unless_silent silent xs) → B (unless_silent silent ys)
+    → C (unless_silent silent (xs ++ ys))) where
   -- one more was published
   pub putting_on : (all waiting rest : List Publication) (one : Publication) → waiting ≡ one ∷ rest
       → Putting A silent all waiting → B (unless_silent silent (one ∷ [])) → Putting C silent all rest
@@ -41,7 +42,8 @@ module _ (A B C : List Publication → Type 0) (silent : Bool)
   putting_done all waiting none so_far grew =
       let whole : all ≡ so_far.front = so_far.whole ∙ ap (λ l. so_far.front ++ l) none ∙ append-nil so_far.front in
       subst (λ l. C (unless_silent silent l)) (append-nil all)
-      (join all [] (subst (λ l. A (unless_silent silent l)) (sym whole) so_far.grew) (subst B (sym (told_none silent)) grew))
+      (join all [] (subst (λ l. A (unless_silent silent l)) (sym whole) so_far.grew)
+      (subst B (sym (told_none silent)) grew))
 
   -- the next one wasn't published
   pub putting_cut : (all waiting : List Publication) → Putting A silent all waiting → B [] → InFront C silent all

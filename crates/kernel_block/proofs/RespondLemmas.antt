@@ -1,5 +1,6 @@
 -- Requests that are answered at once.
-use Rattle.std.proofs.Common.{rules, ◌≡◌, ℕ, List, [], false, Option, Some, None, IfSome, IsErr, Result, Ok, Err, refl, ◌∙◌, ap}
+use Rattle.std.proofs.Common.{rules, ◌≡◌, ℕ, List, [], false, Option, Some, None, IfSome, IsErr, Result, Ok, Err, refl}
+use Rattle.std.proofs.Common.{◌∙◌, ap}
 use Rattle.std.specs.declared.alloc.AllocError.{AllocError}
 use Rattle.interp_core.specs.Interpreter.{Meaning}
 use Rattle.jmsg_types.specs.Fault.{Refusal}

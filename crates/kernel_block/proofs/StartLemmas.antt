@@ -1,5 +1,5 @@
 -- How an engine begins.
-use Rattle.std.proofs.Common.{arith, ◌≡◌, ◌≢◌, ◌⊎◌, inl, inr, ℕ, List, [], ◌∷◌, ◌++◌, length, map, Bool}
+use Rattle.std.proofs.Common.{arith, ◌≡◌, ◌≢◌, ◌⊎◌, inl, inr, ℕ, List, [], ◌∷◌, ◌++◌, length, map, Bool, true}
 use Rattle.std.proofs.Common.{Option, Some, None, IfSome, Result, Ok, Err, MatchResult, refl, sym, ◌∙◌, ap, subst}
 use Rattle.interp_core.specs.Interpreter.{Meaning}
 use Rattle.iopub_event.specs.declared.event.Event.{Event}
@@ -56,22 +56,24 @@ module _ {I P S W Cell : Type 0} (m : Meaning I Cell) (items_of : P → List (Op
     (id_text : StampMeaning → ℕ → List ℕ) (is_date : StampMeaning → List ℕ → Bool)
     (on : (a b c : P) → is_same a b → is_same b c → is_same a c) where
   -- an engine that gave no number has published nothing
-  first_items : (old : Parts I P S W) → KeepsBlocks m items_of may_refuse meaning id_text old
+  first_items : (old : Parts I P S W) → KeepsBlocks m items_of may_refuse meaning id_text is_date old
       → old.publishing.next ≡ 1 → items_of old.publishing.sink ≡ []
-  first_items old keeps first = keeps.items ∙ ap (map item_of)
-      (first_said (sealing_of meaning id_text old.publishing) keeps.history.started keeps.history.blocks _ keeps.rise first)
+  first_items old keeps first = keeps.blocked.items_are ∙ ap (map item_of)
+      (first_said (sealing_of meaning id_text old.publishing) keeps.blocked.history.started
+      keeps.blocked.history.blocks _ keeps.blocked.rise first)
 
   -- one that gave a number has
-  later_items : (old : Parts I P S W) → KeepsBlocks m items_of may_refuse meaning id_text old
+  later_items : (old : Parts I P S W) → KeepsBlocks m items_of may_refuse meaning id_text is_date old
       → old.publishing.next ≢ 1 → items_of old.publishing.sink ≢ []
   later_items old keeps later none =
-      later_said (sealing_of meaning id_text old.publishing) keeps.history.started keeps.history.blocks _ keeps.rise later
-      (made_of_none item_of _ (sym keeps.items ∙ none))
+      later_said (sealing_of meaning id_text old.publishing) keeps.blocked.history.started
+      keeps.blocked.history.blocks _ keeps.blocked.rise later
+      (made_of_none item_of _ (sym keeps.blocked.items_are ∙ none))
 
   -- it said that the kernel starts
-  keeps_first : (old new : Parts I P S W) → KeepsBlocks m items_of may_refuse meaning id_text old
+  keeps_first : (old new : Parts I P S W) → KeepsBlocks m items_of may_refuse meaning id_text is_date old
       → StartsFirst items_of is_same meaning id_text is_date old new
-      → KeepsBlocks m items_of may_refuse meaning id_text new
+      → KeepsBlocks m items_of may_refuse meaning id_text is_date new
   keeps_first old new keeps first =
       let sealing = sealing_of meaning id_text old.publishing in
       let starts = first.starts in
@@ -79,29 +81,38 @@ module _ {I P S W Cell : Type 0} (m : Meaning I Cell) (items_of : P → List (Op
       sealing_by m items_of may_refuse is_same meaning id_text is_date on new.publishing old.publishing
       (ap (λ (p : Publishing P S). p.signer) starts.rest) starts.meant in
       let owes : Owes sealing old.owed [] = subst (λ l. Owes sealing old.owed l)
-      (no_blocks keeps.history.started keeps.history.blocks _ keeps.rise first.first) keeps.owes in
+      (no_blocks keeps.blocked.history.started keeps.blocked.history.blocks _ keeps.blocked.rise first.first)
+      keeps.blocked.owes in
       let owed : new.owed ≡ None = ap (λ (p : Parts I P S W). p.owed) first.rest ∙ none_owed sealing old.owed owes in
       let next : new.publishing.next ≡ 2 = ap (λ (p : Publishing P S). p.next) starts.rest in
       let count : new.count ≡ old.count = ap (λ (p : Parts I P S W). p.count) first.rest in
       let counted = keeps.counted in
       let one = first.first in
       record {
-        history = record { started = Some starts.date; blocks = [] };
-        items = subst (λ s. items_of new.publishing.sink ≡ map item_of (starting s starts.date ∷ [])) (sym seals)
-            (starts.items ∙ ap (λ l. l ++ item_of (starting sealing starts.date) ∷ [])
-            (first_items old keeps first.first));
-        cuts = tt;
-        rise = next;
-        owes = subst (λ o. Owes (sealing_of meaning id_text new.publishing) o []) (sym owed) tt;
+        blocked = record {
+          history = record { started = Some starts.date; blocks = [] };
+          items_are = subst (λ s. items_of new.publishing.sink ≡ map item_of (starting s starts.date ∷ []))
+              (sym seals)
+              (starts.items ∙ ap (λ l. l ++ item_of (starting sealing starts.date) ∷ [])
+              (first_items old keeps first.first));
+          began = (
+            ap (λ (p : Parts I P S W). p.side) first.rest ∙ first.shell,
+            subst (λ by. is_date by starts.date ≡ true) (sym starts.meant) starts.dated,
+          );
+          cuts = tt;
+          rise = next;
+          owes = subst (λ o. Owes (sealing_of meaning id_text new.publishing) o []) (sym owed) tt;
+        };
         refused = subst (λ o. IfSome o (λ owed. may_refuse new.publishing.sink)) (sym owed) tt;
         counted = omega (arith, counted, next, count, one);
+        last = omega (arith, next);
       }
 
   -- it was refused
   keeps_refused : (old new : Parts I P S W) (fault : EngineFault)
-      → KeepsBlocks m items_of may_refuse meaning id_text old
+      → KeepsBlocks m items_of may_refuse meaning id_text is_date old
       → StartsRefused items_of is_same meaning id_text is_date old fault new
-      → KeepsBlocks m items_of may_refuse meaning id_text new
+      → KeepsBlocks m items_of may_refuse meaning id_text is_date new
   keeps_refused old new fault keeps refused =
       let sealing = sealing_of meaning id_text old.publishing in
       let none = refused.none in
@@ -109,37 +120,43 @@ module _ {I P S W Cell : Type 0} (m : Meaning I Cell) (items_of : P → List (Op
       sealing_by m items_of may_refuse is_same meaning id_text is_date on new.publishing old.publishing
       (ap (λ (p : Publishing P S). p.signer) none.rest) none.meant in
       let owes : Owes sealing old.owed [] = subst (λ l. Owes sealing old.owed l)
-      (no_blocks keeps.history.started keeps.history.blocks _ keeps.rise refused.first) keeps.owes in
+      (no_blocks keeps.blocked.history.started keeps.blocked.history.blocks _ keeps.blocked.rise refused.first)
+      keeps.blocked.owes in
       let owed : new.owed ≡ None = ap (λ (p : Parts I P S W). p.owed) refused.rest ∙ none_owed sealing old.owed owes in
       let next : new.publishing.next ≡ old.publishing.next = ap (λ (p : Publishing P S). p.next) none.rest in
       let count : new.count ≡ old.count = ap (λ (p : Parts I P S W). p.count) refused.rest in
       let counted = keeps.counted in
-      let one = refused.first in
+      let last = keeps.last in
       record {
-        history = record { started = None; blocks = [] };
-        items = none.items ∙ first_items old keeps refused.first;
-        cuts = tt;
-        rise = next ∙ refused.first;
-        owes = subst (λ o. Owes (sealing_of meaning id_text new.publishing) o []) (sym owed) tt;
+        blocked = record {
+          history = record { started = None; blocks = [] };
+          items_are = none.items ∙ first_items old keeps refused.first;
+          began = tt;
+          cuts = tt;
+          rise = next ∙ refused.first;
+          owes = subst (λ o. Owes (sealing_of meaning id_text new.publishing) o []) (sym owed) tt;
+        };
         refused = subst (λ o. IfSome o (λ owed. may_refuse new.publishing.sink)) (sym owed) tt;
         counted = omega (arith, counted, next, count);
+        last = omega (arith, last, next);
       }
 
   -- what it keeps then
   pub keeps_started : {U : Type 0} (old new : Parts I P S W) (result : Result U EngineFault)
-      → KeepsBlocks m items_of may_refuse meaning id_text old
+      → KeepsBlocks m items_of may_refuse meaning id_text is_date old
       → MatchResult result
       (λ _. StartsFirst items_of is_same meaning id_text is_date old new
       ⊎ StartsLater items_of is_same meaning id_text is_date old new)
       (λ fault. StartsRefused items_of is_same meaning id_text is_date old fault new)
-      → KeepsBlocks m items_of may_refuse meaning id_text new
+      → KeepsBlocks m items_of may_refuse meaning id_text is_date new
   keeps_started old new (Ok done) keeps (inl first) = keeps_first old new keeps first
   keeps_started old new (Ok done) keeps (inr later) =
-      subst (λ (p : Parts I P S W). KeepsBlocks m items_of may_refuse meaning id_text p) (sym later.same) keeps
+      subst (λ (p : Parts I P S W). KeepsBlocks m items_of may_refuse meaning id_text is_date p) (sym later.same)
+      keeps
   keeps_started old new (Err fault) keeps refused = keeps_refused old new fault keeps refused
 
   -- what an engine that gave a number says
-  says_nothing : (old new : Parts I P S W) → KeepsBlocks m items_of may_refuse meaning id_text old
+  says_nothing : (old new : Parts I P S W) → KeepsBlocks m items_of may_refuse meaning id_text is_date old
       → StartsLater items_of is_same meaning id_text is_date old new
       → SaysNothing items_of is_same meaning id_text is_date old new
   says_nothing old new keeps later = record {
@@ -149,7 +166,7 @@ module _ {I P S W Cell : Type 0} (m : Meaning I Cell) (items_of : P → List (Op
 
   -- what it says
   pub says_started : {U : Type 0} (old new : Parts I P S W) (result : Result U EngineFault)
-      → KeepsBlocks m items_of may_refuse meaning id_text old
+      → KeepsBlocks m items_of may_refuse meaning id_text is_date old
       → MatchResult result
       (λ _. StartsFirst items_of is_same meaning id_text is_date old new
       ⊎ StartsLater items_of is_same meaning id_text is_date old new)

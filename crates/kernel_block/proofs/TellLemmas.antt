@@ -1,5 +1,6 @@
 -- Cells that are published: the cell itself, what it wrote, and what came of it.
-use Rattle.std.proofs.Common.{arith, ◌≡◌, ◌≢◌, inl, inr, ℕ, List, [], ◌∷◌, ◌++◌, length, map, Bool, true, false, Option, Result, Ok, Err, MatchResult}
+use Rattle.std.proofs.Common.{arith, ◌≡◌, ◌≢◌, inl, inr, ℕ, List, [], ◌∷◌, ◌++◌, length, map, Bool, true, false, Option}
+use Rattle.std.proofs.Common.{Result, Ok, Err, MatchResult}
 use Rattle.std.proofs.Common.{refl, sym, ◌∙◌, ap, subst, append_assoc}
 use Rattle.std.proofs.lemmas.Bool.{false≢true}
 use Rattle.std.proofs.lemmas.List.{append-nil, length-append}
@@ -94,7 +95,8 @@ cut_before_last m state code may count course outputs outcome after publications
 
 module _ {State : Type 0} (Runs : Course State → List Output → Outcome → State → Type 0) (may : Type 0)
     (code : List ℕ) (count : ℕ) (after : State) (A B C : List Publication → Type 0) (silent : Bool)
-    (join : (xs ys : List Publication) → A (unless_silent silent xs) → B (unless_silent silent ys) → C (unless_silent silent (xs ++ ys))) where
+    (join : (xs ys : List Publication) → A (unless_silent silent xs) → B (unless_silent silent ys)
+    → C (unless_silent silent (xs ++ ys))) where
   -- the cell was published, and a beginning of what it wrote
   pub tells_cut : A (unless_silent silent (ExecuteInput code count ∷ [])) → (ran : RunsCut Runs after B silent)
       → ((publications rest : List Publication)
@@ -116,12 +118,14 @@ module _ {State : Type 0} (Runs : Course State → List Output → Outcome → S
   }
 
   module _ (L F : List Publication → Type 0)
-      (behind : (xs ys : List Publication) → C (unless_silent silent xs) → L (unless_silent silent ys) → F (unless_silent silent (xs ++ ys)))
+      (behind : (xs ys : List Publication) → C (unless_silent silent xs) → L (unless_silent silent ys)
+      → F (unless_silent silent (xs ++ ys)))
     where
       -- what came of the cell was published, or it wasn't
       pub tells_last : (outcome : Outcome) {E : Type 0} (result : Result (Option InterpFault) E)
           → A (unless_silent silent (ExecuteInput code count ∷ [])) → RunsWhole Runs may outcome after B silent
-          → MatchResult result (λ failure. (failure ≡ failure_of outcome) × L (unless_silent silent (last_of count outcome)))
+          → MatchResult result
+          (λ failure. (failure ≡ failure_of outcome) × L (unless_silent silent (last_of count outcome)))
           (λ _. L [])
           → MatchResult result (λ failure. TellsWhole Runs may code count failure after F silent)
           (λ _. TellsCut Runs may code count after F silent)
@@ -144,7 +148,8 @@ module _ {State : Type 0} (Runs : Course State → List Output → Outcome → S
           front = ExecuteInput code count ∷ map publication_of ran.outputs;
           rest = last_of count outcome;
           whole = refl;
-          grew = subst (λ l. F (unless_silent silent l)) (append-nil (ExecuteInput code count ∷ map publication_of ran.outputs))
+          grew = subst (λ l. F (unless_silent silent l))
+              (append-nil (ExecuteInput code count ∷ map publication_of ran.outputs))
               (behind (ExecuteInput code count ∷ map publication_of ran.outputs) []
               (join (ExecuteInput code count ∷ []) (map publication_of ran.outputs) input ran.grew)
               (subst L (sym (told_none silent)) last));

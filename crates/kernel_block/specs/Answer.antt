@@ -10,8 +10,9 @@ use Rattle.interp_core.specs.declared.answer.Completion.{Completion}
 use Rattle.interp_core.specs.declared.answer.Info.{Info}
 use Rattle.interp_core.specs.declared.answer.Output.{Output}
 use Rattle.interp_core.specs.declared.fault.InterpFault.{InterpFault}
+use Rattle.jmsg_envelope.specs.declared.envelope.Envelope.{Envelope}
 use Rattle.jmsg_types.specs.Fault.{Refusal}
-use Rattle.jmsg_types.specs.Request.{known_request}
+use Rattle.jmsg_types.specs.Request.{known_request, message_type}
 use Rattle.jmsg_types.specs.Words.{refusal_name, refusal_value}
 use Rattle.jmsg_types.specs.declared.message_type.MessageType.{MessageType}
 use Rattle.jmsg_types.specs.declared.message_type.MessageType.TheVariants as types
@@ -28,10 +29,21 @@ use Rattle.kernel_block.specs.declared.side.Side.TheVariants.{Shell, Control}
 use Rattle.kernel_block.specs.Course.{Course, Outcome, TextRuns}
 use Rattle.kernel_block.specs.Publications.{grown}
 
--- Whether a type of message has a meaning on a channel: on shell each has, on control those that ask what the kernel
--- is, to shut down and to interrupt.
+-- Whether a type of message has a meaning on a channel: on shell each has but those that speak of a comm, of which
+-- there is none; on control those that ask what the kernel is, to shut down and to interrupt.
 abbrev pub has_meaning : Side → MessageType → Bool
-has_meaning Shell kind = true
+has_meaning Shell types.KernelInfoRequest = true
+has_meaning Shell types.ExecuteRequest = true
+has_meaning Shell types.CompleteRequest = true
+has_meaning Shell types.InspectRequest = true
+has_meaning Shell types.IsCompleteRequest = true
+has_meaning Shell types.HistoryRequest = true
+has_meaning Shell types.CommInfoRequest = true
+has_meaning Shell types.CommOpen = true
+has_meaning Shell types.CommMsg = false
+has_meaning Shell types.CommClose = false
+has_meaning Shell types.ShutdownRequest = true
+has_meaning Shell types.InterruptRequest = true
 has_meaning Control types.KernelInfoRequest = true
 has_meaning Control types.ExecuteRequest = false
 has_meaning Control types.CompleteRequest = false
@@ -53,6 +65,10 @@ asked_by side kind content = if has_meaning side kind then known_request kind co
 abbrev pub asked_of : Side → Option MessageType → List ℕ → Result Request Refusal
 asked_of side None content = Ok asks.Unknown
 asked_of side (Some kind) content = asked_by side kind content
+
+-- what a message asks on a channel
+abbrev pub asked_by_message : Side → Envelope → Result Request Refusal
+asked_by_message side request = asked_of side (message_type request.msg_type) request.content
 
 -- What a request is answered: the content of its reply, where it has one, the state and the execution count then,
 -- and whether the kernel is to end, to begin anew then, and to interrupt the cell that runs.

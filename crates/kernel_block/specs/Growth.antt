@@ -1,5 +1,5 @@
 -- What is published grows: the messages that a publishing part adds to its sink, with rising numbers.
-use Rattle.std.specs.Prelude.{◌≡◌, ℕ, ◌+◌, List, [], ◌++◌, length, map, Bool, true, false, Option, Some}
+use Rattle.std.specs.Prelude.{◌≡◌, ℕ, ◌+◌, ◌≤◌, ◌^◌, List, [], ◌++◌, length, map, Bool, true, false, Option, Some}
 use Rattle.iopub_event.specs.declared.event.Event.{Event}
 use Rattle.iopub_event.specs.declared.event.Event.TheVariants as events
 use Rattle.jmsg_envelope.specs.Stamp.{StampMeaning}
@@ -20,8 +20,8 @@ sealing_of meaning id_text publishing = record {
   id = id_text (meaning publishing.stamp);
 }
 
--- These publications were published under a heading, with the next numbers; nothing else changed, and the sink is the
--- same one.
+-- These publications were published under a heading, with the next numbers, of which none is past 2^63 where none
+-- before was; nothing else changed, and the sink is the same one.
 pub record Puts {P S W : Type 0} (items_of : P → List (Option (Event W))) (is_same : P → P → Type 0)
     (meaning : S → StampMeaning) (id_text : StampMeaning → ℕ → List ℕ) (heading : Heading)
     (old new : Publishing P S) (publications : List Publication) : Type 0 where
@@ -29,6 +29,7 @@ pub record Puts {P S W : Type 0} (items_of : P → List (Option (Event W))) (is_
       ++ map item_of (published_all (sealing_of meaning id_text old) heading old.next publications)
   pub rest : new ≡ record old { sink = new.sink; next = old.next + length publications }
   pub same : is_same old.sink new.sink
+  pub few : old.next ≤ 2 ^ 63 + 1 → new.next ≤ 2 ^ 63 + 1
 
 -- the publications that are published, of a request that is silent or not: none where it is
 abbrev pub unless_silent : Bool → List Publication → List Publication

@@ -1,25 +1,22 @@
 -- What an engine does with one request: what is published of it, what is owed, what it is replied, and what the engine
 -- is then.
 use Rattle.std.specs.Prelude.{◌≡◌, ◌≢◌, ◌⊎◌, ℕ, ◌+◌, ◌<◌, ◌≤◌, ◌^◌, List, [], ◌∷◌, ◌++◌, map, Bool, true, false}
-use Rattle.std.specs.Prelude.{Option, Some, None, Result}
+use Rattle.std.specs.Prelude.{Option, Some, None}
 use Rattle.interp_core.specs.Interpreter.{Meaning}
 use Rattle.iopub_event.specs.declared.event.Event.{Event}
 use Rattle.iopub_event.specs.declared.event.Event.TheVariants as events
 use Rattle.jmsg_envelope.specs.Stamp.{StampMeaning}
 use Rattle.jmsg_envelope.specs.declared.envelope.Envelope.{Envelope}
-use Rattle.jmsg_types.specs.Fault.{Refusal}
 use Rattle.jmsg_types.specs.Request.{message_type}
 use Rattle.jmsg_types.specs.declared.publication.Publication.{Publication}
 use Rattle.jmsg_types.specs.declared.reply.Reply.{Reply}
-use Rattle.jmsg_types.specs.declared.request.Request.{Request}
 use Rattle.kernel_block.specs.declared.fault.EngineFault.{EngineFault}
 use Rattle.kernel_block.specs.declared.fault.EngineFault.TheVariants.{OwedIdle, Memory, Read, Write, Turns, Worn}
 use Rattle.kernel_block.specs.declared.handled.Handled.{Handled}
 use Rattle.kernel_block.specs.declared.heading.Heading.{Heading}
 use Rattle.kernel_block.specs.declared.parts.Parts.{Parts}
 use Rattle.kernel_block.specs.declared.publishing.Publishing.{Publishing}
-use Rattle.kernel_block.specs.declared.side.Side.{Side}
-use Rattle.kernel_block.specs.Answer.{Answer, AnswersAsked, LeavesAsked, asked_of}
+use Rattle.kernel_block.specs.Answer.{Answer, AnswersAsked, LeavesAsked, asked_by_message, asked_of}
 use Rattle.kernel_block.specs.Block.{Message, reply_message}
 use Rattle.kernel_block.specs.Course.{Course, MayEnd}
 use Rattle.kernel_block.specs.Growth.{Puts, item_of, sealing_of}
@@ -27,10 +24,6 @@ use Rattle.kernel_block.specs.Opens.{ids_of_reply}
 use Rattle.kernel_block.specs.Publications.{PublishesAsked}
 use Rattle.kernel_block.specs.Runs.{MayBeCut}
 use Rattle.kernel_block.specs.WellBlocked.{Block, heading_of, idle_of, messages_of, past}
-
--- what a message asks on a channel
-abbrev pub asked_by_message : Side → Envelope → Result Request Refusal
-asked_by_message side request = asked_of side (message_type request.msg_type) request.content
 
 -- an idle that is owed, as it is published
 abbrev pub owed_items : {W : Type 0} → Option (Event W) → List (Option (Event W))
@@ -119,6 +112,7 @@ module _ {I P S W Cell : Type 0} (m : Meaning I Cell) (items_of : P → List (Op
       count = new.count;
       publishing = record at { next = at.next + ids_of_reply reply };
     }
+    pub few : old.publishing.next ≤ 2 ^ 63 + 1 → new.publishing.next ≤ 2 ^ 63 + 1
 
   -- Memory was refused: a beginning of what is published of a request was, and this is what is left.
   pub record AnswersNot (may : Type 0) (heading : Heading) (msg_type content : List ℕ) (old new : Parts I P S W)
@@ -144,7 +138,8 @@ module _ {I P S W Cell : Type 0} (m : Meaning I Cell) (items_of : P → List (Op
     pub meant : meaning new.publishing.stamp ≡ meaning old.publishing.stamp
     pub same : is_same old.publishing.sink new.publishing.sink
 
-  -- A request was handled by a course: its block was added, it has its reply, and this is what the engine is to do.
+  -- A request was handled by a course: its block was added, it has its reply, and this is what the engine is to do. No
+  -- number past 2^63 was given.
   pub record HandlesOk (may : Type 0) (request : Envelope) (old : Parts I P S W) (handled : Handled)
       (new : Parts I P S W) : Type 0 where
     pub few : old.publishing.next ≤ 2 ^ 62
@@ -161,6 +156,7 @@ module _ {I P S W Cell : Type 0} (m : Meaning I Cell) (items_of : P → List (Op
         request.identities (past block) request.msg_type reply
     pub adds : Adds block old new
     pub next : new.publishing.next ≡ past block + ids_of_reply reply
+    pub last : new.publishing.next ≤ 2 ^ 63 + 1
 
   -- Memory was refused, or the sink refused, before anything of a request was published. An idle that was owed is
   -- published.
@@ -175,6 +171,7 @@ module _ {I P S W Cell : Type 0} (m : Meaning I Cell) (items_of : P → List (Op
     pub same : is_same old.publishing.sink new.publishing.sink
 
   -- Memory was refused, or the sink refused, while a request was done: a cut block was added, and this is what is left.
+  -- No number past 2^63 was given.
   pub record HandlesCut (may : Type 0) (request : Envelope) (old new : Parts I P S W) : Type 0 where
     pub few : old.publishing.next ≤ 2 ^ 62
     pub block : Block
@@ -182,6 +179,7 @@ module _ {I P S W Cell : Type 0} (m : Meaning I Cell) (items_of : P → List (Op
     pub left : IsLeft may request.msg_type request.content old new block.publications
     pub adds : Adds block old new
     pub next : new.publishing.next ≡ past block
+    pub last : new.publishing.next ≤ 2 ^ 63 + 1
 
   -- An idle is owed, and the sink refused it again: the request comes back, and nothing changed.
   pub record HandsBack (request back : Envelope) (old new : Parts I P S W) : Type 0 where

@@ -1,17 +1,18 @@
 -- What an engine published, all of it ('Messaging in Jupyter' 5.3, "Kernel status"): that the kernel starts, and then
 -- one block behind the other.
-use Rattle.std.specs.Prelude.{◌≡◌, ⊤, ℕ, ◌+◌, ◌≤◌, List, [], ◌∷◌, ◌++◌, length, map, Bool, true, false}
+use Rattle.std.specs.Prelude.{◌≡◌, ⊤, ℕ, ◌+◌, ◌≤◌, ◌^◌, List, [], ◌∷◌, ◌++◌, length, map, Bool, true, false}
 use Rattle.std.specs.Prelude.{Option, Some, None, IfSome}
 use Rattle.interp_core.specs.Interpreter.{Meaning}
 use Rattle.iopub_event.specs.declared.event.Event.{Event}
 use Rattle.iopub_event.specs.declared.event.Event.TheVariants as events
 use Rattle.jmsg_envelope.specs.Stamp.{StampMeaning}
-use Rattle.jmsg_types.specs.declared.message_type.MessageType.{MessageType}
+use Rattle.jmsg_envelope.specs.declared.envelope.Envelope.{Envelope}
 use Rattle.jmsg_types.specs.declared.publication.Publication.{Publication}
 use Rattle.kernel_block.specs.declared.heading.Heading.{Heading}
 use Rattle.kernel_block.specs.declared.parts.Parts.{Parts}
 use Rattle.kernel_block.specs.declared.side.Side.{Side}
-use Rattle.kernel_block.specs.Answer.{asked_of}
+use Rattle.kernel_block.specs.declared.side.Side.TheVariants.{Shell}
+use Rattle.kernel_block.specs.Answer.{asked_by_message}
 use Rattle.kernel_block.specs.Block.{Message, Sealing, idle, opened, starting}
 use Rattle.kernel_block.specs.Course.{Course}
 use Rattle.kernel_block.specs.Growth.{item_of, sealing_of}
@@ -90,34 +91,51 @@ Owes sealing (Some owed) [] = ⊥
 Owes sealing (Some owed) (block ∷ earlier) =
     (block.closed ≡ false) × (owed ≡ events.Message (idle_of sealing block)) × AreClosed earlier
 
--- what stands in a block is a beginning of what is published of a message on a channel, in a state and by a course
-pub record IsCut {State Cell : Type 0} (m : Meaning State Cell) (side : Side) (publications : List Publication)
+-- that the kernel starts is said on shell alone, and with a date
+abbrev pub Began : (List ℕ → Bool) → Side → Option (List ℕ) → Type 0
+Began is_date side None = ⊤
+Began is_date side (Some date) = (side ≡ Shell) × (is_date date ≡ true)
+
+-- What stands in a block is a beginning of what is published of a message with the header that is its parent, on a
+-- channel, in a state and by a course, all with one date.
+pub record IsCut {State Cell : Type 0} (m : Meaning State Cell) (is_date : List ℕ → Bool) (side : Side) (block : Block)
     : Type 0 where
-  pub kind : Option MessageType
-  pub content : List ℕ
+  pub request : Envelope
+  pub parent : block.parent ≡ request.header
+  pub dated : is_date block.date ≡ true
   pub state : State
   pub count : ℕ
   pub course : Course State
   pub whole : List Publication
   pub rest : List Publication
-  pub publishes : PublishesAsked m (asked_of side kind content) state count course whole
-  pub front : whole ≡ publications ++ rest
+  pub publishes : PublishesAsked m (asked_by_message side request) state count course whole
+  pub front : whole ≡ block.publications ++ rest
 
 -- so it is in each block
-abbrev pub AreCuts : {State Cell : Type 0} → Meaning State Cell → Side → List Block → Type 0
-AreCuts m side [] = ⊤
-AreCuts m side (block ∷ earlier) = IsCut m side block.publications × AreCuts m side earlier
+abbrev pub AreCuts : {State Cell : Type 0} → Meaning State Cell → (List ℕ → Bool) → Side → List Block → Type 0
+AreCuts m is_date side [] = ⊤
+AreCuts m is_date side (block ∷ earlier) = IsCut m is_date side block × AreCuts m is_date side earlier
 
--- What an engine keeps: what it published is well blocked, and the last block is open exactly where its idle is owed,
--- which happens only where the sink may refuse. It counted no more cells than the number of its next id.
+-- What was published on a channel, all of it, is well blocked ('Messaging in Jupyter' 5.3, "Kernel status"): that the
+-- kernel starts, where it said so, and then one block behind the other, each from busy to idle with a beginning of what
+-- is published of a message with its parent header between the two, and with rising numbers up to the next one. The
+-- last block is open exactly where its idle is owed.
+pub record IsWellBlocked {State Cell W : Type 0} (m : Meaning State Cell) (is_date : List ℕ → Bool) (side : Side)
+    (sealing : Sealing) (next : ℕ) (owed : Option (Event W)) (items : List (Option (Event W))) : Type 0 where
+  pub history : History
+  pub items_are : items ≡ map item_of (said sealing history)
+  pub began : Began is_date side history.started
+  pub cuts : AreCuts m is_date side history.blocks
+  pub rise : Rise (first_number history.started) history.blocks next
+  pub owes : Owes sealing owed history.blocks
+
+-- What an engine keeps: what it published is well blocked, and an idle is owed only where the sink may refuse. It
+-- counted no more cells than the number of its next id, and no number past 2^63 was given.
 pub record KeepsBlocks {I P S W Cell : Type 0} (m : Meaning I Cell) (items_of : P → List (Option (Event W)))
     (may_refuse : P → Type 0) (meaning : S → StampMeaning) (id_text : StampMeaning → ℕ → List ℕ)
-    (parts : Parts I P S W) : Type 0 where
-  pub history : History
-  pub items : items_of parts.publishing.sink
-      ≡ map item_of (said (sealing_of meaning id_text parts.publishing) history)
-  pub cuts : AreCuts m parts.side history.blocks
-  pub rise : Rise (first_number history.started) history.blocks parts.publishing.next
-  pub owes : Owes (sealing_of meaning id_text parts.publishing) parts.owed history.blocks
+    (is_date : StampMeaning → List ℕ → Bool) (parts : Parts I P S W) : Type 0 where
+  pub blocked : IsWellBlocked m (is_date (meaning parts.publishing.stamp)) parts.side
+      (sealing_of meaning id_text parts.publishing) parts.publishing.next parts.owed (items_of parts.publishing.sink)
   pub refused : IfSome parts.owed (λ owed. may_refuse parts.publishing.sink)
   pub counted : parts.count ≤ parts.publishing.next
+  pub last : parts.publishing.next ≤ 2 ^ 63 + 1

@@ -1,5 +1,5 @@
 -- What an engine and its end hold: their parts, and what these keep.
-use Rattle.std.specs.Prelude.{ℕ, List, Option}
+use Rattle.std.specs.Prelude.{ℕ, List, Bool, Option}
 use Rattle.interp_core.specs.Interpreter.{Meaning}
 use Rattle.iopub_event.specs.declared.event.Event.{Event}
 use Rattle.jmsg_envelope.specs.Stamp.{StampMeaning}
@@ -15,8 +15,9 @@ module _ {I P S W Cell : Type 0} where
 
   -- what they keep
   abbrev pub IsSound : Meaning I Cell → (P → List (Option (Event W))) → (P → Type 0) → (S → StampMeaning)
-      → (StampMeaning → ℕ → List ℕ) → engine.Inside I P S W Cell → Type 0
-  IsSound m items_of may_refuse meaning id_text engine = KeepsBlocks m items_of may_refuse meaning id_text engine.parts
+      → (StampMeaning → ℕ → List ℕ) → (StampMeaning → List ℕ → Bool) → engine.Inside I P S W Cell → Type 0
+  IsSound m items_of may_refuse meaning id_text is_date engine =
+      KeepsBlocks m items_of may_refuse meaning id_text is_date engine.parts
 
   -- the parts of an engine that was closed
   abbrev pub parts_at_end : end.Inside I P S W Cell → Parts I P S W
@@ -24,5 +25,6 @@ module _ {I P S W Cell : Type 0} where
 
   -- what they keep
   abbrev pub IsSoundAtEnd : Meaning I Cell → (P → List (Option (Event W))) → (P → Type 0) → (S → StampMeaning)
-      → (StampMeaning → ℕ → List ℕ) → end.Inside I P S W Cell → Type 0
-  IsSoundAtEnd m items_of may_refuse meaning id_text end = KeepsBlocks m items_of may_refuse meaning id_text end.parts
+      → (StampMeaning → ℕ → List ℕ) → (StampMeaning → List ℕ → Bool) → end.Inside I P S W Cell → Type 0
+  IsSoundAtEnd m items_of may_refuse meaning id_text is_date end =
+      KeepsBlocks m items_of may_refuse meaning id_text is_date end.parts

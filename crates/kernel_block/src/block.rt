@@ -1,6 +1,6 @@
 //! The ends of a block: busy and idle, and the reply.
 
-ghost use Rattle.std.specs.Prelude.{◌≡◌, ◌+◌, ◌<◌, ◌^◌, IfOk, OnErr, MatchResult};
+ghost use Rattle.std.specs.Prelude.{◌≡◌, ◌+◌, ◌<◌, ◌≤◌, ◌^◌, IfOk, OnErr, MatchResult};
 ghost use Rattle.listed.specs.Bodies.{bodies};
 ghost use Rattle.kernel_block.specs.Block.{reply_message};
 ghost use Rattle.kernel_block.specs.Growth.{sealing_of};
@@ -105,6 +105,7 @@ impl<P, S: Stamp> Publishing<P, S> {
             heading.now identities self.old.next msg_type.now reply)
             × (self.new ≡ record self.old { next = self.old.next + ids_of_reply reply })) }
         ensures refused { OnErr result (self.new ≡ self.old) }
+        ensures few { self.old.next ≤ 2 ^ 63 + 1 → self.new.next ≤ 2 ^ 63 + 1 }
     {
         let Some(reply) = reply else {
             return Ok(None);

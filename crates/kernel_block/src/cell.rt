@@ -1,6 +1,6 @@
 //! Cells that run step by step, and are published.
 
-ghost use Rattle.std.specs.Prelude.{◌≡◌, ◌+◌, ◌<◌, [], Some, None, Ok, Err, IfOk, MatchOption, MatchResult};
+ghost use Rattle.std.specs.Prelude.{◌≡◌, ◌+◌, ◌<◌, [], ◌∷◌, Some, None, Ok, Err, IfOk, MatchOption, MatchResult};
 ghost use Rattle.interp_core.specs.declared.answer.Next.TheVariants.{More};
 ghost use Rattle.jmsg_types.specs.declared.publication.Publication.TheVariants.{ExecuteInput};
 ghost use Rattle.kernel_block.specs.Course.{CellRuns, IsOutcome, TextRuns};
@@ -154,6 +154,28 @@ fn execute_input(alloc: Global, code: &str, count: u64) -> Result<Publication, A
     Ok(Publication::ExecuteInput { code, count })
 }
 
+/// Publishes the cell itself, unless it is silent.
+#[tactic(auto, using(crate::proofs::GrowthLemmas::puts_none))]
+fn put_input<P, S: Stamp, W: Drop>(
+    alloc: Global,
+    publishing: &mut Publishing<P, S>,
+    heading: &Heading,
+    silent: bool,
+    code: &str,
+    count: u64,
+) -> Result<(), AllocError>
+where
+    P: Publish<Item = Event<W>>,
+    ensures { let grew = Puts P.items_of P.is_same S.meaning S.id_text heading.now publishing.old publishing.new in
+        MatchResult result (λ _. grew (unless_silent silent (ExecuteInput code.now count ∷ []))) (λ _. grew []) }
+{
+    if silent {
+        return Ok(());
+    }
+    let input = execute_input(alloc, code, count)?;
+    publishing.put(alloc, heading, false, input)
+}
+
 /// Runs the cell of a text and publishes it: the cell, what it wrote, what came of it. Why it failed, where it did.
 pub(crate) fn run_cell<I: Interpreter, P, S: Stamp, T: Stop, W: Drop>(
     alloc: Global,
@@ -173,8 +195,7 @@ where
         (λ failure. TellsWhole runs (T.may_ask stop.now) code.now count failure interp.new grew silent)
         (λ _. TellsCut runs (T.may_ask stop.now) code.now count interp.new grew silent) }
 {
-    let input = execute_input(alloc, code, count)?;
-    publishing.put(alloc, heading, silent, input)?;
+    put_input(alloc, publishing, heading, silent, code, count)?;
     let outcome = run_text(alloc, interp, publishing, heading, silent, stop, code)?;
     put_last(alloc, publishing, heading, silent, count, outcome)
 }

@@ -44,7 +44,7 @@ where
 
     ghost view = { parts_of };
 
-    ghost invariant = { IsSound I.meaning P.items_of P.may_refuse S.meaning S.id_text };
+    ghost invariant = { IsSound I.meaning P.items_of P.may_refuse S.meaning S.id_text S.is_date };
 }
 
 impl<I: Interpreter, P, S: Stamp, W: Drop> Engine<I, P, S, W>

@@ -33,7 +33,7 @@ where
 
     ghost view = { parts_at_end };
 
-    ghost invariant = { IsSoundAtEnd I.meaning P.items_of P.may_refuse S.meaning S.id_text };
+    ghost invariant = { IsSoundAtEnd I.meaning P.items_of P.may_refuse S.meaning S.id_text S.is_date };
 }
 
 impl<I: Interpreter, P, S: Stamp, W> EngineEnd<I, P, S, W>
@@ -42,7 +42,7 @@ where
 {
     /// The end of an engine with these parts.
     pub(crate) fn new(parts: Parts<I, P, S, W>) -> EngineEnd<I, P, S, W>
-        requires { KeepsBlocks I.meaning P.items_of P.may_refuse S.meaning S.id_text parts }
+        requires { KeepsBlocks I.meaning P.items_of P.may_refuse S.meaning S.id_text S.is_date parts }
         ensures { result ≡ parts }
     {
         EngineEnd { parts }
@@ -58,7 +58,7 @@ where
     /// The parts of the engine.
     pub fn into_parts(self) -> Parts<I, P, S, W>
         ensures parts { result ≡ self }
-        ensures kept { KeepsBlocks I.meaning P.items_of P.may_refuse S.meaning S.id_text result }
+        ensures kept { KeepsBlocks I.meaning P.items_of P.may_refuse S.meaning S.id_text S.is_date result }
     {
         self.parts
     }

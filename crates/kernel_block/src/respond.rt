@@ -119,7 +119,19 @@ fn has_meaning(side: Side, kind: MessageType) -> bool
     ensures { result ≡ has_meaning side kind }
 {
     match side {
-        Side::Shell => true,
+        Side::Shell => match kind {
+            MessageType::KernelInfoRequest
+            | MessageType::ExecuteRequest
+            | MessageType::CompleteRequest
+            | MessageType::InspectRequest
+            | MessageType::IsCompleteRequest
+            | MessageType::HistoryRequest
+            | MessageType::CommInfoRequest
+            | MessageType::CommOpen
+            | MessageType::InterruptRequest
+            | MessageType::ShutdownRequest => true,
+            MessageType::CommMsg | MessageType::CommClose => false,
+        },
         Side::Control => match kind {
             MessageType::KernelInfoRequest
             | MessageType::ShutdownRequest

@@ -6,9 +6,8 @@ use Rattle.jmsg_envelope.specs.Laws.{OpenedOnce, RefusedIsNotOpened}
 use Rattle.jmsg_envelope.specs.declared.envelope.Envelope.{Envelope}
 use Rattle.jmsg_types.specs.Request.{message_type}
 use Rattle.jmsg_types.specs.declared.publication.Publication.{Publication}
-use Rattle.kernel_block.specs.Answer.{Answer, AnswersAsked}
+use Rattle.kernel_block.specs.Answer.{Answer, AnswersAsked, asked_by_message}
 use Rattle.kernel_block.specs.Block.{block, reply_message}
-use Rattle.kernel_block.specs.Handles.{asked_by_message}
 use Rattle.kernel_block.specs.Laws.{AnswersOnce, PublishesOnce}
 use Rattle.kernel_block.specs.Opens.{ids_of_reply}
 use Rattle.kernel_block.specs.Publications.{PublishesAsked}

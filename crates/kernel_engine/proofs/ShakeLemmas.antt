@@ -49,21 +49,22 @@ silent ours octets opening short is = inl (record { short = short; greets = is; 
 pub greeting_unsent : (ours : SocketType) (inflow : Inflow) (before after : Outflow) (turns : ℕ) (octets : List ℕ)
     (end : SessionEnd) → octets ≡ greeting_octets → PutsAll before after octets (Err end)
     → Exchange (TurnsAway ours) inflow inflow before after turns turns tt end
-greeting_unsent ours inflow before after turns octets end same (failed, (front, lost, is, some, puts)) = rw failed (record {
-  read = [];
-  written = front;
-  reading = decided inflow inflow turns turns [] (Failed Write) write_decided (leg_none inflow turns);
-  puts = puts;
-  outcome = (
-    lost,
-    record {
-      front = [];
-      behind = [];
-      split = refl;
-      so_far = silent ours [] (front ++ lost) (omega arith) (sym is ∙ same);
-    },
-  );
-})
+greeting_unsent ours inflow before after turns octets end same
+    (failed, (front, lost, is, some, puts)) = rw failed (record {
+      read = [];
+      written = front;
+      reading = decided inflow inflow turns turns [] (Failed Write) write_decided (leg_none inflow turns);
+      puts = puts;
+      outcome = (
+        lost,
+        record {
+          front = [];
+          behind = [];
+          split = refl;
+          so_far = silent ours [] (front ++ lost) (omega arith) (sym is ∙ same);
+        },
+      );
+    })
 
 -- no whole greeting was read
 pub greeting_stopped : (ours : SocketType) (inflow inflow' : Inflow) (before after : Outflow) (turns left : ℕ)

@@ -14,10 +14,9 @@ use Rattle.jmsg_types.specs.declared.publication.Publication.{Publication}
 use Rattle.kernel_block.specs.declared.fault.EngineFault.TheVariants.{OwedIdle, Memory, Read, Write, Turns, Worn}
 use Rattle.kernel_block.specs.declared.heading.Heading.{Heading}
 use Rattle.kernel_block.specs.declared.side.Side.{Side}
-use Rattle.kernel_block.specs.Answer.{Answer, AnswersAsked}
+use Rattle.kernel_block.specs.Answer.{Answer, AnswersAsked, asked_by_message}
 use Rattle.kernel_block.specs.Block.{Sealing, block, reply_message}
 use Rattle.kernel_block.specs.Course.{Course, MayEnd}
-use Rattle.kernel_block.specs.Handles.{asked_by_message}
 use Rattle.kernel_block.specs.Opens.{ids_of_reply}
 use Rattle.kernel_block.specs.Publications.{PublishesAsked}
 use Rattle.kernel_engine.specs.declared.end.SessionEnd.{SessionEnd}
@@ -111,9 +110,9 @@ module _ {State Cell : Type 0} (m : Meaning State Cell) (may : Type 0) (setting 
   abbrev pub IsSession : Standing State → List ℕ → List ℕ → Standing State → SessionEnd → Type 0
   IsSession old octets written new end = Serves false Performs Router old octets written new end
 
--- A session that ended so came to an end by what was read, or by a read or a write: no memory and no id was wanting, and
--- no request came back for an idle that is owed. Where a write failed, it is that of the messages up to the one at whose
--- reply it did, and a beginning of its text is written.
+-- A session that ended so came to an end by what was read, or by a read or a write: no memory and no id was wanting,
+-- and no request came back for an idle that is owed. Where a write failed, it is that of the messages up to the one at
+-- whose reply it did, and a beginning of its text is written.
 abbrev pub IsTold : SessionEnd → Type 0
 IsTold Eof = ⊤
 IsTold (Shutdown restart) = ⊤

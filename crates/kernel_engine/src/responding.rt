@@ -1,6 +1,6 @@
 //! Responding to a peer: a server hears what it says, and what the server answers is written.
 
-ghost use Rattle.std.specs.Prelude.{◌≡◌, ℕ, List};
+ghost use Rattle.std.specs.Prelude.{◌≡◌, ℕ};
 ghost use Rattle.kernel_engine.specs.Server.{marked};
 ghost use Rattle.kernel_engine.specs.Met.{OfUnheard};
 ghost use Rattle.kernel_engine.specs.Respond.{ConversesOn, Responds, went};

@@ -1,2 +1,3 @@
 mod RelayingLemmas
+mod EndingLemmas
 pub mod RunningLemmas

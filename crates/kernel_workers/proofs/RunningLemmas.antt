@@ -1,5 +1,5 @@
 -- How a kernel ends, of what its workers promised.
-use Rattle.std.proofs.Common.{◌≡◌, ◌↔◌, inl, inr, ℕ, zero, suc, ◌<◌, List, [], ◌∷◌, IsTrue, Option}
+use Rattle.std.proofs.Common.{◌≡◌, ◌↔◌, inl, inr, ℕ, zero, suc, ◌<◌, List, [], ◌∷◌, IsTrue, Bool, Option}
 use Rattle.std.proofs.Common.{sym, subst, ◌∙◌, arith, All, Result, Ok, Err}
 use Rattle.std.specs.Result.{IfOk}
 use Rattle.std.specs.List.{AllByRecursion}
@@ -18,7 +18,7 @@ use Rattle.kernel_block.specs.declared.side.Side.TheVariants.{Shell, Control}
 use Rattle.kernel_workers.specs.declared.fault.KernelFault.{KernelFault}
 use Rattle.kernel_workers.specs.declared.parts.Parts.{Parts}
 use Rattle.kernel_workers.specs.declared.running.KernelEnd.{KernelEnd}
-use Rattle.kernel_workers.specs.Ending.{IsNoMessage, IsWellBlocked, sealing_by}
+use Rattle.kernel_workers.specs.Ending.{IsBlockedAndClosed, IsNoMessage, sealing_by}
 use Rattle.kernel_workers.specs.Running.{EndsWell, TookAll}
 
 module _ {T : Type 0} where
@@ -73,8 +73,8 @@ module _ {W : Type 0} (outflow : W → Outflow) where
       → AreOfNumbers concluded.taker.count concluded.taker.taken
       → IsLeftOf outflow concluded.taker.taken ended.no_room ended.subscribers.items
       → TookAll outflow shell.published control.published door.published ended
-  took_all count concluded shell control door tokens ended are all three_of same meets says whole closed last others left
-      =
+  took_all count concluded shell control door tokens ended are all three_of same meets says whole closed last others
+      left =
       let says_so = closed (subst (λ (list : List (Publishing (Event W))). AreAllClosed count list) (sym are)
       (subst (λ (n : ℕ). AreAllClosed n (three shell control door)) (sym three_of)
       (all_closed shell control door all))) in
@@ -93,24 +93,29 @@ module _ {W : Type 0} (outflow : W → Outflow) where
       }
 
 module _ {I S W Cell : Type 0} (m : Meaning I Cell) (meaning : S → StampMeaning)
-    (id_text : StampMeaning → ℕ → List ℕ) where
+    (id_text : StampMeaning → ℕ → List ℕ) (is_date : StampMeaning → List ℕ → Bool) where
   -- what is well blocked by one channel, key and stamp is so by those that they are
   pub blocked_by : (side other : Side) (key another : List ℕ) (stamp given : S) (items : List (Option (Event W)))
       → side ≡ other → key ≡ another → stamp ≡ given
-      → IsWellBlocked m side (sealing_by meaning id_text key stamp) items
-      → IsWellBlocked m other (sealing_by meaning id_text another given) items
+      → IsBlockedAndClosed m (is_date (meaning stamp)) side (sealing_by meaning id_text key stamp) items
+      → IsBlockedAndClosed m (is_date (meaning given)) other (sealing_by meaning id_text another given) items
   blocked_by side other key another stamp given items sides keys stamps blocked =
-      subst (λ (s : S). IsWellBlocked m other (sealing_by meaning id_text another s) items) stamps
-      (subst (λ (k : List ℕ). IsWellBlocked m other (sealing_by meaning id_text k stamp) items) keys
-      (subst (λ (s : Side). IsWellBlocked m s (sealing_by meaning id_text key stamp) items) sides blocked))
+      subst (λ (s : S). IsBlockedAndClosed m (is_date (meaning s)) other (sealing_by meaning id_text another s) items)
+      stamps
+      (subst (λ (k : List ℕ). IsBlockedAndClosed m (is_date (meaning stamp)) other (sealing_by meaning id_text k stamp)
+      items) keys
+      (subst (λ (s : Side). IsBlockedAndClosed m (is_date (meaning stamp)) s (sealing_by meaning id_text key stamp)
+      items) sides blocked))
 
   -- a kernel that took all ends well
   pub ends_well : (outflow : W → Outflow) (parts : Parts I S W) (shell control door : List (Option (Event W)))
       (ended : Result (KernelEnd W) KernelFault) → IsCapacity parts.capacity
-      → IsWellBlocked m Shell (sealing_by meaning id_text parts.key.items parts.shell.1) shell
-      → IsWellBlocked m Control (sealing_by meaning id_text parts.key.items parts.control.1) control
+      → IsBlockedAndClosed m (is_date (meaning parts.shell.1)) Shell
+      (sealing_by meaning id_text parts.key.items parts.shell.1) shell
+      → IsBlockedAndClosed m (is_date (meaning parts.control.1)) Control
+      (sealing_by meaning id_text parts.key.items parts.control.1) control
       → All IsNoMessage door → IfOk ended (TookAll outflow shell control door)
-      → IfOk ended (EndsWell m meaning id_text outflow parts)
+      → IfOk ended (EndsWell m meaning id_text is_date outflow parts)
   ends_well outflow parts shell control door (Err fault) capacity by_shell by_control by_door took = tt
   ends_well outflow parts shell control door (Ok ended) capacity by_shell by_control by_door took = record {
     capacity = capacity;

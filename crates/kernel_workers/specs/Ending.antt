@@ -1,5 +1,5 @@
 -- What the workers leave: closing tokens of the publishers that they were given, with these lists.
-use Rattle.std.specs.Prelude.{◌≡◌, ⊤, ℕ, List, [], ◌∷◌, ◌++◌, All, map, Option, Some, None}
+use Rattle.std.specs.Prelude.{◌≡◌, ⊤, ℕ, List, [], ◌∷◌, ◌++◌, All, Bool, Option, Some, None}
 use Rattle.interp_core.specs.Interpreter.{Meaning}
 use Rattle.iopub_event.specs.declared.event.Event.{Event}
 use Rattle.iopub_event.specs.declared.event.Event.TheVariants as events
@@ -8,8 +8,7 @@ use Rattle.iopub_queue.specs.Values.{Publishing}
 use Rattle.jmsg_envelope.specs.Stamp.{StampMeaning}
 use Rattle.kernel_block.specs.declared.side.Side.{Side}
 use Rattle.kernel_block.specs.Block.{Sealing}
-use Rattle.kernel_block.specs.Growth.{item_of}
-use Rattle.kernel_block.specs.WellBlocked.{AreClosed, AreCuts, History, Rise, first_number, said}
+use Rattle.kernel_block.specs.WellBlocked.{IsWellBlocked}
 
 -- what all messages of an engine share that was given a key and a stamp
 abbrev pub sealing_by : {S : Type 0} → (S → StampMeaning) → (StampMeaning → ℕ → List ℕ) → List ℕ → S
@@ -17,24 +16,21 @@ abbrev pub sealing_by : {S : Type 0} → (S → StampMeaning) → (StampMeaning 
 sealing_by meaning id_text key stamp =
     record { key = key; session = (meaning stamp).session; id = id_text (meaning stamp) }
 
--- What a worker of shell or control published, all of it ('Messaging in Jupyter' 5.3, "Kernel status"): that the
--- kernel starts, where it said so, then one block behind the other, each from busy to idle, with rising numbers and a
--- beginning of what is published of a request between the two; and last its close.
-pub record IsWellBlocked {State Cell W : Type 0} (m : Meaning State Cell) (side : Side) (sealing : Sealing)
-    (items : List (Option (Event W))) : Type 0 where
-  pub history : History
+-- What a worker of shell or control published, all of it: it is well blocked, no idle is owed, and last stands its
+-- close.
+pub record IsBlockedAndClosed {State Cell W : Type 0} (m : Meaning State Cell) (is_date : List ℕ → Bool) (side : Side)
+    (sealing : Sealing) (items : List (Option (Event W))) : Type 0 where
+  pub said : List (Option (Event W))
   pub next : ℕ
-  pub items_are : items ≡ map item_of (said sealing history) ++ None ∷ []
-  pub cuts : AreCuts m side history.blocks
-  pub rise : Rise (first_number history.started) history.blocks next
-  pub closed : AreClosed history.blocks
+  pub blocked : IsWellBlocked m is_date side sealing next None said
+  pub closed : items ≡ said ++ None ∷ []
 
 -- a worker of shell or control left the closing token of its publisher, whose list is well blocked
-pub record EndsBlocked {State Cell W : Type 0} (m : Meaning State Cell) (side : Side) (sealing : Sealing)
-    (publisher closed : Publishing (Event W)) : Type 0 where
+pub record EndsBlocked {State Cell W : Type 0} (m : Meaning State Cell) (is_date : List ℕ → Bool) (side : Side)
+    (sealing : Sealing) (publisher closed : Publishing (Event W)) : Type 0 where
   pub queue : closed.queue ≡ publisher.queue
   pub number : closed.number ≡ publisher.number
-  pub blocked : IsWellBlocked m side sealing closed.published
+  pub blocked : IsBlockedAndClosed m is_date side sealing closed.published
 
 -- what is published is no message
 abbrev pub IsNoMessage : {W : Type 0} → Option (Event W) → Type 0

@@ -14,7 +14,7 @@ use Rattle.kernel_workers.specs.declared.fault.KernelFault.{KernelFault}
 use Rattle.kernel_workers.specs.declared.fault.KernelFault.TheVariants.{Queue, NoThread}
 use Rattle.kernel_workers.specs.declared.parts.Parts.{Parts}
 use Rattle.kernel_workers.specs.declared.running.KernelEnd.{KernelEnd}
-use Rattle.kernel_workers.specs.Ending.{IsNoMessage, IsWellBlocked, sealing_by}
+use Rattle.kernel_workers.specs.Ending.{IsBlockedAndClosed, IsNoMessage, sealing_by}
 
 -- the number of a kernel's fault
 abbrev pub kernel_fault_number : KernelFault → ℕ
@@ -50,17 +50,19 @@ pub record TookAll {W : Type 0} (outflow : W → Outflow) (shell control door : 
   pub left : IsLeftOf outflow taken ended.no_room ended.subscribers.items
 
 -- How a kernel ends. All that was published was taken. What shell published, and what control did, is well blocked:
--- each request's messages stand between its busy and its idle, signed with the kernel's key, under the ids of the
--- channel's stamp. The door published no message. Each subscriber that is left got the texts of the messages of its
+-- each request's messages stand between its busy and its idle, signed with the kernel's key, under the ids and dates of
+-- the channel's stamp. The door published no message. Each subscriber that is left got the texts of the messages of its
 -- life that match its topics, or a beginning of that where it failed.
 pub record EndsWell {I S W Cell : Type 0} (m : Meaning I Cell) (meaning : S → StampMeaning)
-    (id_text : StampMeaning → ℕ → List ℕ) (outflow : W → Outflow) (parts : Parts I S W) (ended : KernelEnd W)
-    : Type 0 where
+    (id_text : StampMeaning → ℕ → List ℕ) (is_date : StampMeaning → List ℕ → Bool) (outflow : W → Outflow)
+    (parts : Parts I S W) (ended : KernelEnd W) : Type 0 where
   pub capacity : IsCapacity parts.capacity
   pub shell : List (Option (Event W))
   pub control : List (Option (Event W))
   pub door : List (Option (Event W))
   pub took : TookAll outflow shell control door ended
-  pub shell_blocked : IsWellBlocked m Shell (sealing_by meaning id_text parts.key.items parts.shell.1) shell
-  pub control_blocked : IsWellBlocked m Control (sealing_by meaning id_text parts.key.items parts.control.1) control
+  pub shell_blocked : IsBlockedAndClosed m (is_date (meaning parts.shell.1)) Shell
+      (sealing_by meaning id_text parts.key.items parts.shell.1) shell
+  pub control_blocked : IsBlockedAndClosed m (is_date (meaning parts.control.1)) Control
+      (sealing_by meaning id_text parts.key.items parts.control.1) control
   pub door_silent : All IsNoMessage door

@@ -63,7 +63,8 @@ where
     W: Drop,
     R: Wait + Drop,
     requires { sink.published ≡ [] }
-    ensures { EndsBlocked I.meaning Control (sealing_by S.meaning S.id_text signer stamp) sink result.closed }
+    ensures { EndsBlocked I.meaning (S.is_date (S.meaning stamp)) Control
+        (sealing_by S.meaning S.id_text signer stamp) sink result.closed }
 {
     let mut engine = Engine::new(Side::Control, interp, sink, stamp, signer);
     let mut shell_ended = false;

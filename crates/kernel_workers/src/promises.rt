@@ -32,7 +32,8 @@ pub struct ClosesBlocked<I, S, W, R> {
 impl<I: Interpreter, S: Stamp, W, R> Promise<Ended<W>> for ClosesBlocked<I, S, W, R> {
     ghost use Rattle.kernel_workers.specs.Ending.{EndsBlocked, sealing_by};
 
-    ghost kept_by = { λ promise ended. EndsBlocked I.meaning promise.side
+    ghost kept_by = { λ promise ended. EndsBlocked I.meaning
+        (S.is_date (S.meaning promise.stamp.value)) promise.side
         (sealing_by S.meaning S.id_text promise.signer.value promise.stamp.value) promise.sink.value ended.closed };
 }
 

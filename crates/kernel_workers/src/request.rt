@@ -1,9 +1,7 @@
 //! One request of shell or control: looked at, handled, and replied to.
 
-ghost use Rattle.std.specs.Prelude.{◌≡◌, ◌↔◌, IfOk, IfSome, IsTrue, MatchResult};
-ghost use Rattle.iopub_queue.specs.Entries.{EndsWithClose};
+ghost use Rattle.std.specs.Prelude.{◌≡◌, ◌↔◌, IfOk, IfSome, IsTrue};
 ghost use Rattle.jmsg_envelope.specs.Envelope.{Opened};
-ghost use Rattle.kernel_block.specs.Handles.{HandlesErr, HandlesOk};
 ghost use Rattle.kernel_workers.specs.Causes.{cause_of, cause_of_fault};
 ghost use Rattle.kernel_workers.specs.Ending.{EndsBlocked, sealing_by};
 ghost use Rattle.kernel_workers.specs.Requests.{IsShutdown};
@@ -95,7 +93,8 @@ where
     S: Stamp + Drop,
     W: Drop,
     R: Wait + Drop,
-    ensures { EndsBlocked I.meaning engine.side
+    ensures { EndsBlocked I.meaning
+        (S.is_date (S.meaning engine.publishing.stamp)) engine.side
         (sealing_by S.meaning S.id_text engine.publishing.signer engine.publishing.stamp) engine.publishing.sink
         result }
 {

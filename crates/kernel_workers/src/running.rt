@@ -318,10 +318,11 @@ where
     })
 }
 
-/// Runs a kernel until a request asks for a shutdown, all ids of a channel were given, or an end note comes into
-/// control's inbox: four workers, each in a thread of its own. Shell and control handle the requests of their inboxes,
-/// the door publishes that subscribers come, ask for topics, give them up and leave, and the relay serves all that is
-/// published. The workers hold senders of the inboxes themselves, so dropping all others ends nothing.
+/// Runs a kernel until a request asks for a shutdown, all ids of a channel were given, or an end note comes into the
+/// inbox of control or of shell: four workers, each in a thread of its own. Shell and control handle the requests of
+/// their inboxes, the door publishes that subscribers come, ask for topics, give them up and leave, and the relay
+/// serves all that is published. The workers hold senders of the inboxes themselves, so dropping all others ends
+/// nothing.
 ///
 /// # Errors
 ///
@@ -338,7 +339,7 @@ where
     S: Stamp + Drop + Send + 'static,
     W: Outlet + Drop + Send + 'static,
     R: Threads + Wait + Copy + Send + Sync + Drop + 'static,
-    ensures ends { IfOk result (EndsWell I.meaning S.meaning S.id_text W.outflow parts) }
+    ensures ends { IfOk result (EndsWell I.meaning S.meaning S.id_text S.is_date W.outflow parts) }
     ensures refused { IfErr result (FailsBy parts.capacity) }
 {
     let opened = open_three(&rt, alloc, parts.capacity)?;

@@ -52,7 +52,8 @@ where
     W: Drop,
     R: Wait + Drop,
     requires { sink.published ≡ [] }
-    ensures { EndsBlocked I.meaning Shell (sealing_by S.meaning S.id_text signer stamp) sink result.closed }
+    ensures { EndsBlocked I.meaning (S.is_date (S.meaning stamp)) Shell
+        (sealing_by S.meaning S.id_text signer stamp) sink result.closed }
 {
     let mut engine = Engine::new(Side::Shell, interp, sink, stamp, signer);
     start(alloc, &mut engine);

@@ -1,11 +1,9 @@
 //! A language that isn't arithmetic: outputs on both streams and on display, several of one step, steps that fail or
 //! find no memory, and calls that have faults.
 
+use super::cells::EXECUTE;
 use super::*;
 use crate::Letters;
-
-/// The type of a request to run a cell.
-const EXECUTE: &str = "execute_request";
 
 /// A cell that writes everything.
 const EVERYTHING: [Step<'static>; 1] = [Step {
@@ -235,11 +233,119 @@ const FAULTY: [Step<'static>; 4] = [
     },
 ];
 
+/// Requests for which the language finds no memory, and a cell behind them. They have no reply, and use no number of
+/// one.
+const WANTS: [Step<'static>; 6] = [
+    Step {
+        asked: ("kernel_info_request", "{}"),
+        published: &[("status", "status", 1, BUSY), ("status", "status", 2, IDLE)],
+        reply: None,
+        marks: NO_MARKS,
+    },
+    Step {
+        asked: ("complete_request", r#"{"code":"o"}"#),
+        published: &[("status", "status", 3, BUSY), ("status", "status", 4, IDLE)],
+        reply: None,
+        marks: NO_MARKS,
+    },
+    Step {
+        asked: ("inspect_request", r#"{"code":"o"}"#),
+        published: &[("status", "status", 5, BUSY), ("status", "status", 6, IDLE)],
+        reply: None,
+        marks: NO_MARKS,
+    },
+    Step {
+        asked: ("is_complete_request", r#"{"code":"o"}"#),
+        published: &[("status", "status", 7, BUSY), ("status", "status", 8, IDLE)],
+        reply: None,
+        marks: NO_MARKS,
+    },
+    Step {
+        asked: (EXECUTE, r#"{"code":"ov","user_expressions":{"a":"1"}}"#),
+        published: &[
+            ("status", "status", 9, BUSY),
+            (
+                "execute_input",
+                "execute_input",
+                11,
+                r#"{"code":"ov","execution_count":1}"#,
+            ),
+            (
+                "stream.stdout",
+                "stream",
+                12,
+                r#"{"name":"stdout","text":"o"}"#,
+            ),
+            (
+                "execute_result",
+                "execute_result",
+                13,
+                r#"{"data":{"text/plain":"v"},"execution_count":1,"metadata":{}}"#,
+            ),
+            ("status", "status", 10, IDLE),
+        ],
+        reply: None,
+        marks: NO_MARKS,
+    },
+    Step {
+        asked: (EXECUTE, r#"{"code":""}"#),
+        published: &[
+            ("status", "status", 14, BUSY),
+            (
+                "execute_input",
+                "execute_input",
+                16,
+                r#"{"code":"","execution_count":2}"#,
+            ),
+            ("status", "status", 15, IDLE),
+        ],
+        reply: Some((
+            "",
+            "execute_reply",
+            17,
+            r#"{"execution_count":2,"payload":[],"status":"ok","user_expressions":{}}"#,
+        )),
+        marks: NO_MARKS,
+    },
+];
+
+/// Letters that find memory for all that they answer.
+const AMPLE: Letters = Letters { is_wanting: false };
+
 #[test]
 fn letters_are_published_and_replied(rt: HostRuntime) -> Result<(), Fail> {
     let alloc = rt.alloc();
     for steps in [&EVERYTHING[..], &FAILING[..], &FAULTY[..]] {
-        follow(&rt, alloc, (Side::Shell, Letters), ALWAYS, steps)?;
+        follow(&rt, alloc, (Side::Shell, AMPLE), ALWAYS, steps)?;
     }
     Ok(())
+}
+
+/// Has an engine handle a request: that it is refused for want of memory, or replied to where it is to be.
+fn want(
+    rt: &impl Abort,
+    alloc: Global,
+    engine: &mut Listing<Letters>,
+    step: &Step<'_>,
+) -> Result<(), Fail> {
+    if step.reply.is_some() {
+        return handle(rt, alloc, engine, ALWAYS, step);
+    }
+    let asked = request(alloc, ("q", step.asked.0), step.asked.1)?;
+    let number = number_of(engine.handle(alloc, asked, &stop_after(ALWAYS)));
+    assert_eq!(rt; number, 71, "{}", step.asked.0);
+    Ok(())
+}
+
+#[test]
+fn requests_for_which_a_language_finds_no_memory_are_refused(rt: HostRuntime) -> Result<(), Fail> {
+    let alloc = rt.alloc();
+    let letters = Letters { is_wanting: true };
+    let signer = Signer::new(Vec::new(alloc));
+    let mut engine = Engine::new(Side::Shell, letters, ListSink::new(alloc), OneDate, signer);
+    for step in &WANTS {
+        want(&rt, alloc, &mut engine, step)?;
+    }
+    let publishing = engine.close().into_parts().publishing;
+    expect_published(&rt, alloc, publishing.sink.items(), &WANTS)
 }

@@ -1,18 +1,27 @@
 //! Sinks that refuse: what is owed, what comes back, and what is cut.
 
+use super::cells::CELL;
 use super::contents::INFO;
 use super::*;
 use arith_shell::ShellArith;
-use kernel_block::EngineFault;
 
-/// An engine over a sink that refuses its pushes from one to another.
-pub(super) type OverRefusing = Engine<ShellArith, Refusing, OneDate, ()>;
+/// An engine over a sink and a stamp that refuse.
+pub(super) type OverRefusing = Engine<ShellArith, Refusing, Scarce, ()>;
 
-/// An engine of this channel over a sink that refuses its pushes from one to another, counted from 1.
-pub(super) fn over(alloc: Global, side: Side, first: u64, last: u64) -> OverRefusing {
+/// What is refused: the pushes of a sink from one to another, and a call of a stamp, each counted from 1, or 0.
+pub(super) type Refusals = (u64, u64, u64);
+
+/// An engine of this channel to which these are refused.
+pub(super) fn over(alloc: Global, side: Side, (first, last, call): Refusals) -> OverRefusing {
     let sink = Refusing::new(alloc, first, last);
     let signer = Signer::new(Vec::new(alloc));
-    Engine::new(side, ShellArith::new(alloc), sink, OneDate, signer)
+    Engine::new(
+        side,
+        ShellArith::new(alloc),
+        sink,
+        Scarce::new(call),
+        signer,
+    )
 }
 
 /// What an engine published when it ended, and whether an idle was owed still.
@@ -61,7 +70,11 @@ fn tells(
 }
 
 /// The request as it comes back, since an idle is owed.
-fn comes_back(alloc: Global, engine: &mut OverRefusing, asked: Envelope) -> Result<Envelope, Fail> {
+pub(super) fn comes_back(
+    alloc: Global,
+    engine: &mut OverRefusing,
+    asked: Envelope,
+) -> Result<Envelope, Fail> {
     match engine.handle(alloc, asked, &stop_after(ALWAYS)) {
         Err(EngineFault::OwedIdle(back)) => Ok(back),
         Ok(_) | Err(_) => Err(Fail::from("the request comes back")),
@@ -79,26 +92,23 @@ fn ask_both(rt: &impl Abort, alloc: Global, engine: &mut OverRefusing) -> Result
 #[test]
 fn owed_idle_hands_the_next_request_back(rt: HostRuntime) -> Result<(), Fail> {
     let alloc = rt.alloc();
-    let mut engine = over(alloc, Side::Control, 2, 3);
+    let mut engine = over(alloc, Side::Control, (2, 3, 0));
     ask_both(&rt, alloc, &mut engine)?;
     let (items, owed) = left(engine);
     assert!(rt; !owed);
     expect_blocks(&rt, alloc, items.as_slice(), &BLOCKS)
 }
 
-/// What a request comes to over a sink that refuses its pushes from one to another: a fault's number, or 0; whether an
-/// idle is owed still when the engine has ended; and how many messages were published then.
+/// What a request comes to where these are refused: a fault's number, or 0; whether an idle is owed still when the
+/// engine has ended; and how many messages were published then.
 fn comes_to(
     alloc: Global,
     (msg_type, content): (&str, &str),
-    (first, last): (u64, u64),
+    refused: Refusals,
 ) -> Result<(u8, bool, usize), Fail> {
     let asked = request(alloc, ("q", msg_type), content)?;
-    let mut engine = over(alloc, Side::Shell, first, last);
-    let number = match engine.handle(alloc, asked, &stop_after(ALWAYS)) {
-        Ok(_) => 0,
-        Err(fault) => fault.number(),
-    };
+    let mut engine = over(alloc, Side::Shell, refused);
+    let number = number_of(engine.handle(alloc, asked, &stop_after(ALWAYS)));
     let (items, owed) = left(engine);
     Ok((number, owed, items.len()))
 }
@@ -106,20 +116,25 @@ fn comes_to(
 /// A request that publishes busy and idle.
 const PLAIN: (&str, &str) = ("comm_msg", "{}");
 
-/// A request that publishes busy, the cell, two streams, the result and idle.
-const CELL: (&str, &str) = ("execute_request", r#"{"code":"x=1;x=2;x=3"}"#);
+/// A request that publishes busy, that its comm is closed, and idle.
+const COMM: (&str, &str) = ("comm_open", r#"{"comm_id":"c"}"#);
 
-/// Requests, the first and the last push that is refused, and what each comes to: an owed idle is tried once more as
-/// the engine ends.
-const COMES_TO: [((&str, &str), (u64, u64), (u8, bool, usize)); 8] = [
-    (PLAIN, (2, 2), (0, false, 2)),
-    (PLAIN, (2, 3), (0, true, 1)),
-    (CELL, (1, 1), (71, false, 0)),
-    (CELL, (2, 2), (71, false, 2)),
-    (CELL, (3, 3), (71, false, 3)),
-    (CELL, (4, 4), (71, false, 4)),
-    (CELL, (5, 5), (71, false, 5)),
-    (CELL, (6, 6), (0, false, 6)),
+/// Requests, what is refused, and what each comes to: an owed idle is tried once more as the engine ends. The cell
+/// publishes busy, itself, two streams, its result and idle; a stamp is called eight times for it.
+const COMES_TO: [((&str, &str), Refusals, (u8, bool, usize)); 13] = [
+    (PLAIN, (2, 2, 0), (0, false, 2)),
+    (PLAIN, (2, 3, 0), (0, true, 1)),
+    (COMM, (2, 2, 0), (71, false, 2)),
+    (COMM, (2, 3, 0), (71, false, 2)),
+    (CELL, (1, 1, 0), (71, false, 0)),
+    (CELL, (2, 2, 0), (71, false, 2)),
+    (CELL, (3, 3, 0), (71, false, 3)),
+    (CELL, (4, 4, 0), (71, false, 4)),
+    (CELL, (5, 5, 0), (71, false, 5)),
+    (CELL, (6, 6, 0), (0, false, 6)),
+    (CELL, (3, 4, 0), (71, false, 3)),
+    (CELL, (3, 5, 0), (71, true, 2)),
+    (CELL, (0, 0, 9), (0, false, 6)),
 ];
 
 #[test]
@@ -145,9 +160,14 @@ fn start(alloc: Global, engine: &mut OverRefusing) -> u8 {
 #[test]
 fn a_refused_start_may_be_tried_again(rt: HostRuntime) {
     let alloc = rt.alloc();
-    // An engine of control says nothing of starting.
-    for (side, refused, number, published) in [(Side::Shell, 1, 71, 1), (Side::Control, 0, 0, 0)] {
-        let mut engine = over(alloc, side, refused, refused);
+    // An engine of control says nothing of starting. One of shell takes a date, and then an id.
+    for (side, refused, number, published) in [
+        (Side::Shell, (1, 1, 0), 71, 1),
+        (Side::Shell, (0, 0, 1), 71, 1),
+        (Side::Shell, (0, 0, 2), 71, 1),
+        (Side::Control, (0, 0, 1), 0, 0),
+    ] {
+        let mut engine = over(alloc, side, refused);
         assert_eq!(rt; start(alloc, &mut engine), number);
         assert_eq!(rt; start(alloc, &mut engine), 0);
         assert_eq!(rt; start(alloc, &mut engine), 0);

@@ -4,7 +4,6 @@ use super::cells::{CELL, EXECUTE, INTERRUPTED, STOPPED};
 use super::contents::INFO;
 use super::owed::{left, over};
 use super::*;
-use kernel_block::EngineFault;
 use kernel_engine::{SessionEnd, session};
 use zmtp_wire::Counted;
 
@@ -107,7 +106,7 @@ fn served(
     let mut reader = Counted::new(octets);
     let mut writer = Counted::new(Vec::new(alloc));
     let (first, last) = visit.refused;
-    let mut engine = over(alloc, visit.side, first, last);
+    let mut engine = over(alloc, visit.side, (first, last, 0));
     let stop = stop_after(visit.noes);
     let end = session(alloc, &mut reader, &mut writer, &mut engine, &stop, 1000);
     assert_eq!(rt; word_of(&end), visit.end);

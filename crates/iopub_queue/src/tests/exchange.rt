@@ -1,5 +1,5 @@
-//! Words that publishers hand to one another while both publish: what a word tells of is taken before what was published
-//! after it.
+//! Words that publishers hand to one another while both publish: what a word tells of is taken before what was
+//! published after it.
 
 ghost use Rattle.std.specs.Prelude.{◌≡◌, IfSome, IsSomeAnd};
 ghost use Rattle.crossbeam_queue.specs.Passes.{view, IsPassOf};

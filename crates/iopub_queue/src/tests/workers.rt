@@ -11,13 +11,13 @@ use std::thread;
 use std::thread::{Promise, PromisedHandle, Threads};
 
 /// An item of the tests: its publisher's number, and which of that publisher's items it is.
-pub type Item = (usize, u32);
+pub(crate) type Item = (usize, u32);
 
 /// The promise that what comes back is the closing token of a publisher.
 #[derive(Drop)]
-pub struct Closes<R> {
+pub(crate) struct Closes<R> {
     /// The publisher, as it went to the thread.
-    pub publisher: Snapshot<Publisher<Item, R>>,
+    pub(crate) publisher: Snapshot<Publisher<Item, R>>,
 }
 
 impl<R> Promise<Closed<Item>> for Closes<R> {
@@ -28,7 +28,10 @@ impl<R> Promise<Closed<Item>> for Closes<R> {
 }
 
 /// Publishes so many items, and closes.
-pub fn publish_all<R: Wait + Drop>(mut publisher: Publisher<Item, R>, count: u32) -> Closed<Item>
+pub(crate) fn publish_all<R: Wait + Drop>(
+    mut publisher: Publisher<Item, R>,
+    count: u32,
+) -> Closed<Item>
     ensures { (result.queue ≡ publisher.queue) × (result.number ≡ publisher.number) }
 {
     let number = publisher.number();
@@ -44,7 +47,7 @@ pub fn publish_all<R: Wait + Drop>(mut publisher: Publisher<Item, R>, count: u32
 }
 
 /// Publishes so many items and closes, in a thread of its own.
-pub fn in_thread<R>(
+pub(crate) fn in_thread<R>(
     rt: R,
     publisher: Publisher<Item, R>,
     count: u32,
@@ -63,7 +66,7 @@ where
 }
 
 /// Takes until nothing comes any more.
-pub fn take_all<T: Drop, R: Wait>(
+pub(crate) fn take_all<T: Drop, R: Wait>(
     rt: &R,
     alloc: Global,
     taker: &mut Taker<T, R>,
@@ -83,7 +86,7 @@ pub fn take_all<T: Drop, R: Wait>(
 }
 
 /// Whether a number's part of a list is its first so many items in their order, and then its close.
-pub fn is_whole(taken: &[(usize, Option<Item>)], number: usize, count: u32) -> bool {
+pub(crate) fn is_whole(taken: &[(usize, Option<Item>)], number: usize, count: u32) -> bool {
     let mut next = 0;
     let mut closed = false;
     for entry in taken {

@@ -8,7 +8,7 @@ use zmtp_wire::{Outlet, WriteFailed};
 
 /// How a writer ends.
 #[derive(Clone, Copy, Debug, PartialEq, Eq)]
-pub enum Last {
+pub(crate) enum Last {
     /// Its writes fail.
     Fails,
     /// It takes nothing.
@@ -17,9 +17,9 @@ pub enum Last {
 
 /// Takes so many octets a write, and so many writes, and then none.
 #[derive(Drop)]
-pub struct Narrow {
+pub(crate) struct Narrow {
     /// What was taken.
-    pub octets: Vec<u8>,
+    pub(crate) octets: Vec<u8>,
     /// How many octets a write takes.
     width: usize,
     /// How many writes are still taken.
@@ -50,12 +50,12 @@ impl Outlet for Narrow {
 }
 
 /// A writer that takes all.
-pub fn ample(alloc: Global) -> Narrow {
+pub(crate) fn ample(alloc: Global) -> Narrow {
     made_to_take(alloc, usize::MAX, usize::MAX, Last::Fails)
 }
 
 /// A writer that takes so many octets a write, and so many writes.
-pub fn made_to_take(alloc: Global, width: usize, writes: usize, last: Last) -> Narrow {
+pub(crate) fn made_to_take(alloc: Global, width: usize, writes: usize, last: Last) -> Narrow {
     Narrow {
         octets: Vec::new(alloc),
         width,
@@ -99,14 +99,14 @@ fn got_beginning(left: &Vec<(u64, Narrow)>, id: u64, whole: &[u8], count: usize)
 }
 
 /// The octets of the first subscriber of the standard list, behind all four messages: 65.
-pub const EVERYTHING: &[u8] = b"\x01\x0dstream.stdout\x00\x01x\x01\x06status\x00\x01y\
+pub(crate) const EVERYTHING: &[u8] = b"\x01\x0dstream.stdout\x00\x01x\x01\x06status\x00\x01y\
     \x01\x0dstream.stdout\x00\x01z\x01\x0dstream.stdout\x00\x01w";
 
 /// The octets of the second, which holds `stream` twice and gives it up twice: 36.
-pub const STREAMS: &[u8] = b"\x01\x0dstream.stdout\x00\x01x\x01\x0dstream.stdout\x00\x01z";
+pub(crate) const STREAMS: &[u8] = b"\x01\x0dstream.stdout\x00\x01x\x01\x0dstream.stdout\x00\x01z";
 
 /// The standard list: one subscriber of everything and one of streams, and a topic that is given up.
-pub fn standard(
+pub(crate) fn standard(
     alloc: Global,
     first: Narrow,
     second: Narrow,

@@ -1,6 +1,6 @@
 //! Relays over the queue: the standard list, published and pumped.
 
-ghost use Rattle.std.specs.Prelude.{◌≡◌, ℕ, IfOk, IfSome};
+ghost use Rattle.std.specs.Prelude.{◌≡◌};
 
 use crate::tests::feed::{EVERYTHING, Last, Narrow, STREAMS, ample, made_to_take, standard};
 use crate::{Drain, Event, Pumped, Relay};

@@ -10,7 +10,7 @@ use std::thread;
 const STEPS: usize = 20_000;
 
 /// The reply to a cell that was interrupted.
-pub(super) const INTERRUPTED: &str = concat!(
+pub(crate) const INTERRUPTED: &str = concat!(
     r#"{"ename":"Interrupted","evalue":"interrupted","execution_count":1,"#,
     r#""status":"error","traceback":["Interrupted: interrupted"]}"#,
 );

@@ -15,11 +15,11 @@ const STEPS: u64 = 1_000_000_000;
 /// A language in which each text is a cell of a thousand million steps. It writes a line where the steps that it has
 /// left are whole thousands. All else has a fault.
 #[derive(Clone, Copy, Debug)]
-pub(super) struct Long;
+pub(crate) struct Long;
 
 /// A cell that runs.
 #[derive(Clone, Copy, Debug)]
-pub(super) struct Running {
+pub(crate) struct Running {
     /// How many steps it has left.
     steps: u64,
 }

@@ -6,7 +6,7 @@ use jmsg_envelope::Signer;
 use kernel_workers::{Flags, ShellLines, spawn_shell};
 
 /// What the kernel says of itself.
-pub(super) const INFO: &str = concat!(
+pub(crate) const INFO: &str = concat!(
     r#"{"banner":"Shell arithmetic in 64 bits","help_links":[],"implementation":"jkernel","#,
     r#""implementation_version":"1.0","language_info":{"file_extension":".sha","#,
     r#""mimetype":"text/plain","name":"sharith","version":"1.0"},"#,
@@ -14,10 +14,10 @@ pub(super) const INFO: &str = concat!(
 );
 
 /// The type of a request that asks what the kernel is.
-pub(super) const ASKED: &str = "kernel_info_request";
+pub(crate) const ASKED: &str = "kernel_info_request";
 
 /// The type of a request to shut the kernel down.
-pub(super) const SHUTDOWN: &str = "shutdown_request";
+pub(crate) const SHUTDOWN: &str = "shutdown_request";
 
 /// A status that was published by shell.
 fn status(alloc: Global, number: u64, state: &str, parent_type: &str) -> Result<String, Fail> {

@@ -29,7 +29,9 @@ returns-in_ok-reply-in-KernelInfo g c =
 
 pub returns-in_ok-reply-in-Complete : goal.returns-in_ok-reply-in-Complete
 returns-in_ok-reply-in-Complete g c =
-    rw (c.in-Complete.is) (responds_at_once g.I.Interpreter.meaning c.args.side c.args.kind (Ok (asks.Complete c.in-Complete.code c.in-Complete.cursor_pos))
+    rw (c.in-Complete.is)
+    (responds_at_once g.I.Interpreter.meaning c.args.side c.args.kind
+    (Ok (asks.Complete c.in-Complete.code c.in-Complete.cursor_pos))
     (g.T.Stop.may_ask c.args.stop.now) c.args.interp.now c.args.count.now
     (answer_of c.plain-in-Complete.result c.args.interp.now c.args.count.now)
     (Puts g.P.Publish.items_of g.P.Publish.is_same g.S.Stamp.meaning g.S.Stamp.id_text c.args.heading.now
@@ -46,7 +48,9 @@ returns-in_ok-reply-in-Complete g c =
 
 pub returns-in_ok-reply-in-Inspect : goal.returns-in_ok-reply-in-Inspect
 returns-in_ok-reply-in-Inspect g c =
-    rw (c.in-Inspect.is) (responds_at_once g.I.Interpreter.meaning c.args.side c.args.kind (Ok (asks.Inspect c.in-Inspect.code c.in-Inspect.cursor_pos c.in-Inspect.detail_level))
+    rw (c.in-Inspect.is)
+    (responds_at_once g.I.Interpreter.meaning c.args.side c.args.kind
+    (Ok (asks.Inspect c.in-Inspect.code c.in-Inspect.cursor_pos c.in-Inspect.detail_level))
     (g.T.Stop.may_ask c.args.stop.now) c.args.interp.now c.args.count.now
     (answer_of c.plain-in-Inspect.result c.args.interp.now c.args.count.now)
     (Puts g.P.Publish.items_of g.P.Publish.is_same g.S.Stamp.meaning g.S.Stamp.id_text c.args.heading.now
@@ -63,7 +67,8 @@ returns-in_ok-reply-in-Inspect g c =
 
 pub returns-in_ok-reply-in-IsComplete : goal.returns-in_ok-reply-in-IsComplete
 returns-in_ok-reply-in-IsComplete g c =
-    rw (c.in-IsComplete.is) (responds_at_once g.I.Interpreter.meaning c.args.side c.args.kind (Ok (asks.IsComplete c.in-IsComplete.code))
+    rw (c.in-IsComplete.is)
+    (responds_at_once g.I.Interpreter.meaning c.args.side c.args.kind (Ok (asks.IsComplete c.in-IsComplete.code))
     (g.T.Stop.may_ask c.args.stop.now) c.args.interp.now c.args.count.now
     (answer_of c.plain-in-IsComplete.result c.args.interp.now c.args.count.now)
     (Puts g.P.Publish.items_of g.P.Publish.is_same g.S.Stamp.meaning g.S.Stamp.id_text c.args.heading.now
@@ -104,7 +109,8 @@ returns-in-CommInfo g c =
 
 pub returns-in_ok-put-in-CommOpen : goal.returns-in_ok-put-in-CommOpen
 returns-in_ok-put-in-CommOpen g c =
-    rw (c.in-CommOpen.is) (responds_at_once g.I.Interpreter.meaning c.args.side c.args.kind (Ok (asks.CommOpen c.in-CommOpen.comm_id))
+    rw (c.in-CommOpen.is)
+    (responds_at_once g.I.Interpreter.meaning c.args.side c.args.kind (Ok (asks.CommOpen c.in-CommOpen.comm_id))
     (g.T.Stop.may_ask c.args.stop.now) c.args.interp.now c.args.count.now
     (answer_of c.plain-in-CommOpen.result c.args.interp.now c.args.count.now)
     (Puts g.P.Publish.items_of g.P.Publish.is_same g.S.Stamp.meaning g.S.Stamp.id_text c.args.heading.now
@@ -115,9 +121,16 @@ returns-in_ok-put-in-CommOpen g c =
 
 pub returns-in-Shutdown : goal.returns-in-Shutdown
 returns-in-Shutdown g c =
-    rw (c.in-Shutdown.is) (responds_at_once g.I.Interpreter.meaning c.args.side c.args.kind (Ok (asks.Shutdown c.in-Shutdown.restart))
+    rw (c.in-Shutdown.is)
+    (responds_at_once g.I.Interpreter.meaning c.args.side c.args.kind (Ok (asks.Shutdown c.in-Shutdown.restart))
     (g.T.Stop.may_ask c.args.stop.now) c.args.interp.now c.args.count.now
-    (answer_of (record { reply = Some (tells.Shutdown c.in-Shutdown.restart); end = true; restart = c.in-Shutdown.restart; interrupt = false }) c.args.interp.now c.args.count.now)
+    (answer_of
+    (record {
+      reply = Some (tells.Shutdown c.in-Shutdown.restart);
+      end = true;
+      restart = c.in-Shutdown.restart;
+      interrupt = false;
+    }) c.args.interp.now c.args.count.now)
     (Puts g.P.Publish.items_of g.P.Publish.is_same g.S.Stamp.meaning g.S.Stamp.id_text c.args.heading.now
     c.args.publishing.now c.args.publishing.now)
     ([]) refl
@@ -129,11 +142,15 @@ pub returns-in-Interrupt : goal.returns-in-Interrupt
 returns-in-Interrupt g c =
     rw (c.in-Interrupt.is) (responds_at_once g.I.Interpreter.meaning c.args.side c.args.kind (Ok (asks.Interrupt))
     (g.T.Stop.may_ask c.args.stop.now) c.args.interp.now c.args.count.now
-    (answer_of (record { reply = Some (tells.Interrupt); end = false; restart = false; interrupt = c.interrupts.result }) c.args.interp.now c.args.count.now)
+    (answer_of
+    (record { reply = Some (tells.Interrupt); end = false; restart = false; interrupt = c.interrupts.result })
+    c.args.interp.now c.args.count.now)
     (Puts g.P.Publish.items_of g.P.Publish.is_same g.S.Stamp.meaning g.S.Stamp.id_text c.args.heading.now
     c.args.publishing.now c.args.publishing.now)
     ([]) refl
-    (ap (λ b. answer_of (record { reply = Some tells.Interrupt; end = false; restart = false; interrupt = b }) c.args.interp.now c.args.count.now) c.interrupts.ensures)
+    (ap
+    (λ b. answer_of (record { reply = Some tells.Interrupt; end = false; restart = false; interrupt = b })
+    c.args.interp.now c.args.count.now) c.interrupts.ensures)
     (puts_none g.P.Publish.items_of g.P.Publish.is_same g.S.Stamp.meaning g.S.Stamp.id_text c.args.heading.now
     g.met.P.Publish.same_itself c.args.publishing.now))
 

@@ -9,12 +9,15 @@ returns-clause-ends g c =
     let set = c.in_ok-stage.ensures in
     let by_shell = c.in_ok-shell.ensures.shell in
     let by_control = c.in_ok-shell.ensures.control in
-    ends_well g.I.Interpreter.meaning g.S.Stamp.meaning g.S.Stamp.id_text g.W.Outlet.outflow c.args.parts
+    ends_well g.I.Interpreter.meaning g.S.Stamp.meaning g.S.Stamp.id_text g.S.Stamp.is_date g.W.Outlet.outflow
+    c.args.parts
     c.join-shell.result.closed.published c.join-control.result.closed.published c.join-door.result.published
     c.settle_up.result c.in_ok-opened.ensures.capacity
-    (blocked_by g.I.Interpreter.meaning g.S.Stamp.meaning g.S.Stamp.id_text _ Shell _ _ _ _ _ by_shell.side_is
+    (blocked_by g.I.Interpreter.meaning g.S.Stamp.meaning g.S.Stamp.id_text g.S.Stamp.is_date _ Shell _ _ _ _ _
+    by_shell.side_is
     (by_shell.signer ∙ set.shell_signer) (by_shell.stamp ∙ set.shell_stamp) c.join-shell.ensures.blocked)
-    (blocked_by g.I.Interpreter.meaning g.S.Stamp.meaning g.S.Stamp.id_text _ Control _ _ _ _ _ by_control.side_is
+    (blocked_by g.I.Interpreter.meaning g.S.Stamp.meaning g.S.Stamp.id_text g.S.Stamp.is_date _ Control _ _ _ _ _
+    by_control.side_is
     (by_control.signer ∙ set.control_signer) (by_control.stamp ∙ set.control_stamp) c.join-control.ensures.blocked)
     c.join-door.ensures.silent c.settle_up.ensures.took
 

@@ -10,6 +10,7 @@ invariant_of-self g c =
 
 pub returns : goal.returns
 returns g c =
-    rw (sym c.self.view_is) (says_started g.I.Interpreter.meaning g.P.Publish.items_of g.P.Publish.may_refuse g.P.Publish.is_same
-    g.S.Stamp.meaning g.S.Stamp.id_text g.S.Stamp.is_date g.met.P.Publish.same_on c.self.inside.parts c.start.new.self
+    rw (sym c.self.view_is) (says_started g.I.Interpreter.meaning g.P.Publish.items_of g.P.Publish.may_refuse
+    g.P.Publish.is_same g.S.Stamp.meaning g.S.Stamp.id_text g.S.Stamp.is_date g.met.P.Publish.same_on
+    c.self.inside.parts c.start.new.self
     c.start.result c.self.invariant c.start.ensures)

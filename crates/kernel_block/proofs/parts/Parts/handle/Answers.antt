@@ -4,7 +4,8 @@ use Rattle.kernel_block.proofs.parts.Parts.handle.Goals as goal
 
 pub returns-in-Ok-clause-handled : goal.returns-in-Ok-clause-handled
 returns-in-Ok-clause-handled g c =
-    let few : c.args.self.now.publishing.next ≤ 2 ^ 62 = let test = c.if-self-gt-LAST_BEGIN.false in omega (arith, test) in
+    let few : c.args.self.now.publishing.next ≤ 2 ^ 62 =
+    let test = c.if-self-gt-LAST_BEGIN.false in omega (arith, test) in
     let pays = rw (c.if-not-pay.false) at (c.pay.ensures) in
     let answers = rw (c.as_str-msg_type.ensures, c.as_slice-content.ensures) at (c.in-Ok.ensures) in
     handled_ok g.I.Interpreter.meaning g.P.Publish.items_of g.P.Publish.may_refuse g.P.Publish.is_same
@@ -23,7 +24,8 @@ returns-in-Ok-clause-counted g c =
 
 pub returns-clause-handled : goal.returns-clause-handled
 returns-clause-handled g c =
-    let few : c.args.self.now.publishing.next ≤ 2 ^ 62 = let test = c.if-self-gt-LAST_BEGIN.false in omega (arith, test) in
+    let few : c.args.self.now.publishing.next ≤ 2 ^ 62 =
+    let test = c.if-self-gt-LAST_BEGIN.false in omega (arith, test) in
     let pays = rw (c.if-not-pay.false) at (c.pay.ensures) in
     let answers = rw (c.as_str-msg_type.ensures, c.as_slice-content.ensures) at (c.in-Err.ensures) in
     inr (handled_cut g.I.Interpreter.meaning g.P.Publish.items_of g.P.Publish.may_refuse g.P.Publish.is_same
@@ -35,7 +37,8 @@ returns-clause-handled g c =
 
 pub returns-clause-counted : goal.returns-clause-counted
 returns-clause-counted g c =
-    let few : c.args.self.now.publishing.next ≤ 2 ^ 62 = let test = c.if-self-gt-LAST_BEGIN.false in omega (arith, test) in
+    let few : c.args.self.now.publishing.next ≤ 2 ^ 62 =
+    let test = c.if-self-gt-LAST_BEGIN.false in omega (arith, test) in
     let pays = rw (c.if-not-pay.false) at (c.pay.ensures) in
     let answers = rw (c.as_str-msg_type.ensures, c.as_slice-content.ensures) at (c.in-Err.ensures) in
     cut_count g.I.Interpreter.meaning g.P.Publish.items_of g.P.Publish.may_refuse g.P.Publish.is_same

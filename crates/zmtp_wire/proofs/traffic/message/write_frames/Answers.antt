@@ -1,4 +1,4 @@
-use Rattle.std.proofs.Common.{rules, ◌+◌, ◌++◌, drop, length, nat_lt, refl, false}
+use Rattle.std.proofs.Common.{rules, ◌+◌, drop, length, nat_lt, refl, false}
 use Rattle.listed.specs.Bodies.{bodies}
 use Rattle.zmtp_wire.specs.Frame.{text, frame_octets, shortest}
 use Rattle.zmtp_wire.proofs.DeviceLemmas.{put_cut, put_on}

@@ -1,6 +1,6 @@
 use Rattle.std.proofs.Common.{inl, inr}
 use Rattle.std.proofs.lemmas.Result.{err_from_is_err_and}
-use Rattle.jmsg_envelope.proofs.envelope.open_envelope.Goals as goal
+use Rattle.jmsg_envelope.proofs.opening.open_envelope.Goals as goal
 
 pub returns-in_err-split-clause-refused : goal.returns-in_err-split-clause-refused
 returns-in_err-split-clause-refused c =

@@ -5,7 +5,7 @@ use Rattle.jmsg_envelope.specs.Envelope.{signed_octets}
 use Rattle.jmsg_envelope.specs.Hmac.{hmac}
 use Rattle.jmsg_envelope.specs.Split.{parts_of}
 use Rattle.jmsg_envelope.proofs.HexCase.{lower-encode_lower}
-use Rattle.jmsg_envelope.proofs.envelope.is_signed.Goals as goal
+use Rattle.jmsg_envelope.proofs.opening.is_signed.Goals as goal
 
 pub returns-clause-right : goal.returns-clause-right
 returns-clause-right c right =
