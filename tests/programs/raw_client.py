@@ -10,10 +10,13 @@ waits. It reads nothing.
 """
 
 import collections
+import contextlib
+import functools
 import hmac
 import itertools
 import json
 import os
+import random
 import re
 import select
 import socket
@@ -21,6 +24,7 @@ import struct
 import subprocess
 import sys
 import tempfile
+import threading
 import time
 
 # So many seconds anything may take: much more than it does on an idle machine.
@@ -135,12 +139,12 @@ class Decoder:
 class Peer:
     """A connection to a port, which shakes hands where it is told to."""
 
-    def __init__(self, port, socket_type=None, identity=b"", wanted=None, room=None):
+    def __init__(self, port, socket_type=None, identity=b"", wanted=None, room=None, ip="127.0.0.1"):
         self.socket = socket.socket()
         self.socket.settimeout(PATIENCE)
         if room:
             self.socket.setsockopt(socket.SOL_SOCKET, socket.SO_RCVBUF, room)
-        self.socket.connect(("127.0.0.1", port))
+        self.socket.connect((ip, port))
         self.socket.setsockopt(socket.IPPROTO_TCP, socket.TCP_NODELAY, 1)
         self.decoder, self.messages = Decoder(), collections.deque()
         if socket_type:
@@ -264,25 +268,44 @@ def opened(key, frames):
 # The program.
 
 
+@functools.cache
+def own_ports():
+    """Numbers of ports, in an order of this process's own, that the system gives to nobody who leaves it the choice,
+    where it keeps some back."""
+    given, last = 65_536, 65_535
+    with contextlib.suppress(OSError), open("/proc/sys/net/ipv4/ip_local_port_range", encoding="ascii") as file:
+        given, last = (int(it) for it in file.read().split())
+    kept = [it for it in range(10_000, 65_536) if not given <= it <= last]
+    ports = kept if len(kept) >= 1_000 else range(10_000, 65_536)
+    return itertools.cycle(random.sample(ports, len(ports)))
+
+
+PORTS_LOCK = threading.Lock()
+
+
 def free_ports(count):
-    """Numbers of ports that nobody listens on."""
-    sockets = [socket.create_server(("127.0.0.1", 0)) for _ in range(count)]
-    ports = [it.getsockname()[1] for it in sockets]
-    for it in sockets:
-        it.close()
-    return ports
+    """Numbers of ports that nobody listens on, and that neither a connection nor another call in this process gets
+    before somebody does."""
+    ports = []
+    with PORTS_LOCK:
+        for port in itertools.islice(own_ports(), 1_000):
+            with contextlib.suppress(OSError), socket.create_server(("127.0.0.1", port)):
+                ports.append(port)
+            if len(ports) == count:
+                return ports
+    raise Failure(f"of a thousand ports {len(ports)} are free")
 
 
-def connection_of(ports, key):
+def connection_of(ports, key, ip="127.0.0.1"):
     """The content of a connection file."""
-    made = {"transport": "tcp", "ip": "127.0.0.1", "signature_scheme": "hmac-sha256", "key": key, "stdin_port": 9}
+    made = {"transport": "tcp", "ip": ip, "signature_scheme": "hmac-sha256", "key": key, "stdin_port": 9}
     return made | {f"{channel}_port": port for channel, port in zip(CHANNELS, ports)}
 
 
-def is_open(port):
+def is_open(port, ip="127.0.0.1"):
     """Whether somebody listens on a port."""
     try:
-        socket.create_connection(("127.0.0.1", port), PATIENCE).close()
+        socket.create_connection((ip, port), PATIENCE).close()
     except ConnectionError:
         return False
     return True
@@ -291,14 +314,14 @@ def is_open(port):
 class Kernel:
     """A kernel that runs. Where nothing failed, it is shut down behind a test, and has to end as it should."""
 
-    def __init__(self, program, key="Jefe", limit=None):
-        self.program, self.key, self.limit = program, key, limit
+    def __init__(self, program, key="Jefe", limit=None, ip="127.0.0.1"):
+        self.program, self.key, self.limit, self.ip = program, key, limit, ip
         self.room = self.process = None
 
     def __enter__(self):
         for _ in range(10):
             self.start()
-            eventually(lambda: self.process.poll() is not None or is_open(self.port("hb")), "ready")
+            eventually(lambda: self.process.poll() is not None or is_open(self.port("hb"), self.ip), "ready")
             if self.process.poll() is None:
                 return self
             status, told = self.process.returncode, self.told()
@@ -310,7 +333,7 @@ class Kernel:
     def start(self):
         """Starts the program."""
         self.room = tempfile.TemporaryDirectory(prefix="jkernel-serving-")
-        self.connection = connection_of(free_ports(4), self.key)
+        self.connection = connection_of(free_ports(4), self.key, self.ip)
         self.file = os.path.join(self.room.name, "connection.json")
         with open(self.file, "w", encoding="ascii") as file:
             json.dump(self.connection, file)
@@ -337,7 +360,7 @@ class Kernel:
     def peer(self, channel, socket_type=None, identity=b"", room=None):
         """A connection to a port that has shaken hands."""
         its_type = socket_type or SOCKET_TYPES[channel]
-        return Peer(self.port(channel), its_type, identity, KERNEL_TYPES[channel], room)
+        return Peer(self.port(channel), its_type, identity, KERNEL_TYPES[channel], room, self.ip)
 
     def listed(self, name):
         """How many entries a folder of the process has: `fd` or `task`."""

@@ -2,15 +2,13 @@
 
 use crate::gate::Gate;
 use crate::service::Service;
+use crate::socket::Socket;
 use std::alloc::Global;
 use std::net::{TcpListener, TcpStream};
 use std::sync::{Arc, Wait};
 use std::thread::{JoinHandle, Threads};
 use std::time::{Clock, Duration};
 use std::{io, thread};
-
-/// For how many seconds a peer may take nothing of what is written to it: then the write has failed.
-const LIMIT: u64 = 5;
 
 /// For how many milliseconds it is waited after a connection that couldn't be accepted.
 const PAUSE: u64 = 10;
@@ -30,7 +28,7 @@ pub(crate) fn accept_all<R>(
     rt: R,
     alloc: Global,
     listener: TcpListener,
-    service: Service,
+    service: Service<R>,
     gate: Arc<Gate, Global>,
 )
 where
@@ -69,7 +67,7 @@ where
 fn admit<R>(
     rt: R,
     alloc: Global,
-    service: &Service,
+    service: &Service<R>,
     gate: &Arc<Gate, Global>,
     id: u64,
     stream: TcpStream,
@@ -78,10 +76,9 @@ fn admit<R>(
 where
     R: Threads + Wait + Copy + Send + Sync + Drop + 'static,
 {
-    stream.set_nodelay(true)?;
-    stream.set_write_timeout(Some(Duration::from_secs(LIMIT)))?;
-    let reader = stream.try_clone()?;
-    let kept = stream.try_clone()?;
+    let writer = Socket::new(alloc, stream)?;
+    let reader = writer.try_clone()?;
+    let kept = writer.try_clone()?;
     let service = service.try_clone()?;
     let shared = Arc::try_clone(gate)?;
     threads.reserve(1)?;
@@ -89,7 +86,7 @@ where
         return Ok(());
     }
     let spawned = thread::spawn(&rt, move || {
-        service.serve(rt, alloc, id, reader, stream);
+        service.serve(rt, alloc, id, reader, writer);
         shared.leave(&rt, id);
     });
     match spawned {

@@ -1,12 +1,11 @@
 //! Connections of shell and control: one thread reads a peer's requests, another writes the replies.
 
-use crate::outgoing::Outgoing;
+use crate::socket::Socket;
 use crossbeam_channel::{Receiver, SendError, Sender, unbounded};
 use kernel_engine::{Intake, hear, shake};
 use kernel_workers::{Job, Note};
 use listed::Frames;
 use std::alloc::{AllocError, Global};
-use std::net::TcpStream;
 use std::sync::Wait;
 use std::thread;
 use std::thread::Threads;
@@ -57,15 +56,15 @@ impl<R: Wait> Intake for Requests<R> {
 pub(crate) fn serve_requests<R>(
     rt: R,
     alloc: Global,
-    reader: TcpStream,
-    writer: TcpStream,
+    reader: Socket,
+    writer: Socket,
     inbox: Sender<Note<Job>>,
 )
 where
     R: Threads + Wait + Copy + Send + Sync + Drop + 'static,
 {
     let mut reader = Counted::new(reader);
-    let mut writer = Counted::new(Outgoing::new(writer));
+    let mut writer = Counted::new(writer);
     let Ok(mut shaken) = shake(alloc, &mut reader, &mut writer, SocketType::Router, TURNS) else {
         return;
     };
@@ -87,7 +86,7 @@ fn write_replies<R: Wait + Drop>(
     rt: R,
     alloc: Global,
     replies: Receiver<Frames>,
-    writer: Counted<Outgoing>,
+    writer: Counted<Socket>,
 ) {
     let mut writer = writer;
     for _ in rt.forever() {
@@ -103,7 +102,7 @@ fn write_replies<R: Wait + Drop>(
 }
 
 /// Writes a reply in as few writes as it takes, and answers whether that went well.
-fn write_reply(alloc: Global, writer: &mut Counted<Outgoing>, frames: &Frames) -> bool {
+fn write_reply(alloc: Global, writer: &mut Counted<Socket>, frames: &Frames) -> bool {
     if frames.is_empty() {
         return true;
     }

@@ -38,7 +38,7 @@ pub(crate) fn start<R>(
     alloc: Global,
     port: Port,
     listener: TcpListener,
-    service: Service,
+    service: Service<R>,
 ) -> Result<Acceptor, ServeFault>
 where
     R: Threads + Wait + Clock + Copy + Send + Sync + Drop + 'static,

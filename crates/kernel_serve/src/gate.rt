@@ -1,20 +1,21 @@
 //! What the threads round a port share: whether it ends, and the connections that are open.
 
+use crate::socket::Socket;
 use std::alloc::{AllocError, Global};
-use std::net::{Shutdown, TcpStream};
 use std::sync::atomic::{AtomicBool, Ordering};
 use std::sync::{Mutex, Wait};
 
-/// How many connections of one port may be open at a time.
-const MOST: usize = 1_024;
+/// How many connections of one port may be open at a time. Each takes one file descriptor, so that even four full ports
+/// take fewer than the 1,024 which systems commonly let a program have.
+const MOST: usize = 240;
 
 /// A connection that is open.
 #[derive(Drop)]
 struct Open {
     /// Its number.
     id: u64,
-    /// A handle of its socket, to end it by.
-    stream: TcpStream,
+    /// Its socket, to end it by.
+    socket: Socket,
 }
 
 /// What the threads round a port share.
@@ -67,14 +68,14 @@ impl Gate {
         &self,
         rt: &R,
         id: u64,
-        stream: TcpStream,
+        socket: Socket,
     ) -> Result<bool, AllocError> {
         let mut open = self.open.lock(rt);
         if open.len() >= MOST {
             return Ok(false);
         }
         open.reserve(1)?;
-        open.push_reserved(Open { id, stream });
+        open.push_reserved(Open { id, socket });
         Ok(true)
     }
 
@@ -94,7 +95,7 @@ impl Gate {
     /// Ends what the connections that are open read: each read that waits finds no octet any more.
     pub(crate) fn end_reads<R: Wait>(&self, rt: &R) {
         for connection in self.open.lock(rt).iter() {
-            let _ = connection.stream.shutdown(Shutdown::Read);
+            connection.socket.end_reads();
         }
     }
 }

@@ -2,16 +2,18 @@
 #![tactic(auto)]
 
 mod accepting;
+mod backlog;
 mod connection;
 mod ending;
 mod fault;
+mod feed;
 mod gate;
 mod heartbeat;
-mod outgoing;
 mod parent;
 mod ports;
 mod service;
 mod serving;
+mod socket;
 mod stamp;
 mod subscriber;
 

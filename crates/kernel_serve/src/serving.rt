@@ -37,7 +37,7 @@ pub struct Served {
 }
 
 /// What a kernel of shell arithmetic runs on.
-type KernelParts<R> = Parts<ShellArith, KernelStamp<R>, Writer>;
+type KernelParts<R> = Parts<ShellArith, KernelStamp<R>, Writer<R>>;
 
 /// Runs a kernel on the ports of a connection file until its end: binds them, accepts whoever connects, and ends every
 /// connection and every thread before it returns. A parent that changed ends it as a shutdown on control does, without
@@ -130,7 +130,7 @@ where
 /// `NoRandomness` where the system gives no random octets, `OutOfMemory`.
 fn parts_of<R>(rt: R, alloc: Global, key: Vec<u8>) -> Result<KernelParts<R>, ServeFault>
 where
-    R: RandomSource + Copy + Drop,
+    R: RandomSource + Wait + Copy + Drop,
 {
     let Ok(session) = Uuid::try_new_v4(&rt) else {
         return Err(ServeFault::NoRandomness);

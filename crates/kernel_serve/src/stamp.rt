@@ -4,7 +4,7 @@ ghost use Rattle.std.specs.Prelude.{◌≡◌, IfOk, string_bytes};
 ghost use Rattle.jmsg_envelope.specs.Stamp.{numbered, numbered-differ};
 ghost use Rattle.kernel_serve.specs.Dates.{is_utc_date, zeroed};
 
-use jiff::Timestamp;
+use jiff::{Error, Timestamp};
 use jmsg_envelope::Stamp;
 use std::alloc::{AllocError, Global};
 use std::time::Clock;
@@ -58,8 +58,9 @@ impl<C: Clock> Stamp for KernelStamp<C> {
 
     fn date(&mut self, alloc: Global) -> Result<String, AllocError> {
         let text = match date_now(&self.clock, alloc) {
-            Some(text) => text,
-            None => String::from_str(alloc, "1970-01-01T00:00:00.000000Z")?,
+            Ok(text) => text,
+            Err(Error::OutOfMemory) => return Err(AllocError),
+            Err(_) => String::from_str(alloc, "1970-01-01T00:00:00.000000Z")?,
         };
         if is_utc_date(alloc, text.as_bytes())? {
             Ok(text)
@@ -69,11 +70,13 @@ impl<C: Clock> Stamp for KernelStamp<C> {
     }
 }
 
-/// The date that a clock reads, where it reads one and there is memory for the text.
-fn date_now<C: Clock>(clock: &C, alloc: Global) -> Option<String> {
-    let now = Timestamp::now(clock).ok()?;
-    now.strftime(alloc, b"%Y-%m-%dT%H:%M:%S%.6fZ".as_slice())
-        .ok()
+/// The date that a clock reads.
+///
+/// # Errors
+///
+/// `OutOfMemory` where there is no memory for the text, and another where the clock can't be read.
+fn date_now<C: Clock>(clock: &C, alloc: Global) -> Result<String, Error> {
+    Timestamp::now(clock)?.strftime(alloc, b"%Y-%m-%dT%H:%M:%S%.6fZ".as_slice())
 }
 
 /// Whether a text is a date in UTC with microseconds, by its shape (RFC 3339, "Internet Date/Time Format").

@@ -1,27 +1,29 @@
 //! Connections of IOPub: subscribers, who are written to by the relay alone.
 
+use crate::backlog::Backlog;
 use crate::connection::TURNS;
-use crate::outgoing::Outgoing;
+use crate::feed::Feed;
+use crate::socket::Socket;
 use crossbeam_channel::{SendError, Sender};
 use iopub_event::Event;
 use iopub_relay::door_event;
 use kernel_engine::{Intake, hear, shake};
 use kernel_workers::Note;
 use std::alloc::{AllocError, Global};
-use std::net::TcpStream;
-use std::sync::Wait;
+use std::sync::{Arc, Wait};
 use std::thread;
+use std::thread::{JoinHandle, Threads};
 use zmtp_wire::{Counted, SocketType, Traffic};
 
 /// What a subscriber's messages are written to.
-pub(crate) type Writer = Counted<Outgoing>;
+pub(crate) type Writer<R> = Counted<Feed<R>>;
 
 /// The inbox of the door.
-pub(crate) type Door = Sender<Note<Event<Writer>>>;
+pub(crate) type Door<R> = Sender<Note<Event<Writer<R>>>>;
 
 /// Where a subscriber's subscriptions go as events. All else that it sends is dropped.
 #[derive(Drop)]
-struct Subscriptions<R> {
+struct Subscriptions<R: Wait + Drop> {
     /// The handle to wait by.
     rt: R,
     /// Where topics take their memory.
@@ -29,10 +31,10 @@ struct Subscriptions<R> {
     /// The subscriber's number.
     id: u64,
     /// The door's inbox.
-    door: Door,
+    door: Door<R>,
 }
 
-impl<R: Wait> Intake for Subscriptions<R> {
+impl<R: Wait + Drop> Intake for Subscriptions<R> {
     ghost use Rattle.std.specs.Prelude.{⊤, None, []};
 
     ghost takes = { λ _ _ _ _. ⊤ };
@@ -53,45 +55,70 @@ impl<R: Wait> Intake for Subscriptions<R> {
     }
 }
 
+impl<R: Wait + Drop> Subscriptions<R> {
+    /// Tells the door that the subscriber came, and answers whether the door is still there.
+    fn attach(&self, feed: Feed<R>) -> bool {
+        let event = Event::Attach(self.id, Counted::new(feed));
+        self.door.send(&self.rt, Note::Job(event)).is_ok()
+    }
+
+    /// Tells the door that the subscriber left. Where memory is refused it is tried again; where the door is gone
+    /// nothing is to be done.
+    fn detach(&self) {
+        for _ in self.rt.forever() {
+            match self.door.send(&self.rt, Note::Job(Event::Detach(self.id))) {
+                Err(SendError::OutOfMemory(_)) => thread::yield_now(),
+                Ok(()) | Err(SendError::Disconnected(_)) => return,
+            }
+        }
+        unreachable!()
+    }
+}
+
 /// Serves a subscriber as a PUB: shakes hands with it, and tells the door that it came, what it asks for and that it
-/// left. Returns when its octets ended or are refused.
-pub(crate) fn serve_subscriber<R: Wait + Copy + Drop>(
+/// left, while a second thread writes what the relay has for it. Returns when its octets ended or are refused, and all
+/// that the relay had for it was written or a write failed.
+pub(crate) fn serve_subscriber<R>(
     rt: R,
     alloc: Global,
     id: u64,
-    reader: TcpStream,
-    writer: TcpStream,
-    door: Door,
-) {
+    reader: Socket,
+    writer: Socket,
+    door: Door<R>,
+)
+where
+    R: Threads + Wait + Copy + Send + Sync + Drop + 'static,
+{
     let mut reader = Counted::new(reader);
-    let mut writer = Counted::new(Outgoing::new(writer));
+    let mut writer = Counted::new(writer);
     let Ok(mut shaken) = shake(alloc, &mut reader, &mut writer, SocketType::Pub, TURNS) else {
         return;
     };
-    if door
-        .send(&rt, Note::Job(Event::Attach(id, writer)))
-        .is_err()
-    {
+    let Some((feed, writing)) = start_feed(rt, alloc, writer.into_inner()) else {
         return;
-    }
+    };
     let mut subscriptions = Subscriptions {
         rt,
         alloc,
         id,
         door,
     };
-    let _ = hear(alloc, &mut reader, &mut shaken, &mut subscriptions, TURNS);
-    detach(&rt, id, &subscriptions.door);
+    if subscriptions.attach(feed) {
+        let _ = hear(alloc, &mut reader, &mut shaken, &mut subscriptions, TURNS);
+        subscriptions.detach();
+    }
+    // The writing thread ends once the feed is dropped, which may be only with the last owner of the door's inbox.
+    drop(subscriptions);
+    writing.join(&rt);
 }
 
-/// Tells the door that a subscriber left. Where memory is refused it is tried again; where the door is gone nothing is
-/// to be done.
-fn detach<R: Wait>(rt: &R, id: u64, door: &Door) {
-    for _ in rt.forever() {
-        match door.send(rt, Note::Job(Event::Detach(id))) {
-            Err(SendError::OutOfMemory(_)) => thread::yield_now(),
-            Ok(()) | Err(SendError::Disconnected(_)) => return,
-        }
-    }
-    unreachable!()
+/// The feed of a subscriber, and the thread that writes it. None where no memory or no thread is left.
+fn start_feed<R>(rt: R, alloc: Global, socket: Socket) -> Option<(Feed<R>, JoinHandle<()>)>
+where
+    R: Threads + Wait + Copy + Send + Sync + Drop + 'static,
+{
+    let backlog = Arc::new(alloc, Backlog::new(alloc)).ok()?;
+    let shared = Arc::try_clone(&backlog).ok()?;
+    let writing = thread::spawn(&rt, move || shared.write_all(&rt, &socket)).ok()?;
+    Some((Feed::new(rt, backlog), writing))
 }
