@@ -7,6 +7,5 @@ pub mod Lawfulness
 pub mod Marking
 pub mod Seats
 pub mod Holding
-pub mod Handing
 pub mod Tokens
 pub mod Moves

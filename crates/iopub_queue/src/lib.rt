@@ -31,6 +31,3 @@ pub use refused::Refused;
 pub use taken::{Settled, Taken};
 pub use taker::Taker;
 pub use word::Word;
-
-#[cfg(test)]
-mod tests;

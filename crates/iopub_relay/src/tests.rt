@@ -1,8 +1,3 @@
-//! Tests of what no clause says: examples with ample memory, messages whose text wasn't built, a plain program
-//! beside the relay's core, and relays over a queue.
+//! Tests of what no clause says: messages whose text wasn't built. The others are those of `iopub_relay_tests`.
 
-mod door;
-mod feed;
 mod hear;
-mod model;
-mod relay;

@@ -1,0 +1,5 @@
+//! Tests of `iopub_queue`, apart from it, so that it is proved once.
+#![tactic(auto)]
+
+#[cfg(test)]
+mod tests;

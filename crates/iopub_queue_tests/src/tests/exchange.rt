@@ -1,0 +1,192 @@
+//! Words that publishers hand to one another while both publish: what a word tells of is taken before what was
+//! published after it.
+
+ghost use Rattle.std.specs.Prelude.{◌≡◌, IfSome, IsSomeAnd};
+ghost use Rattle.crossbeam_queue.specs.Passes.{view, IsPassOf};
+
+use crate::tests::workers::take_all;
+use crossbeam_queue::protocol::{Outcome, Protocol, Split};
+use crossbeam_queue::{Pass, RuledArrayQueue};
+use iopub_queue::{Publisher, Taker, Word, open_queue};
+use std::alloc::{AllocError, Global};
+use std::process::Abort;
+use std::sync::Wait;
+use std::test::Fail;
+use std::thread;
+use std::thread::Threads;
+
+/// How many items each publisher publishes.
+const ROUNDS: u32 = 2_000;
+
+/// Which item it is: its publisher's number, and which of that publisher's items.
+type Name = (usize, u32);
+
+/// An item: which it is, and the last item that it was told of by a word, if it was published behind one.
+type Said = (Name, Option<Name>);
+
+/// A word, and the last item of its publisher.
+type Handed = (Word<Said>, Option<Name>);
+
+/// What a pass of the words knows: a word of the queue that all words are of.
+type Known = Option<Word<Said>>;
+
+/// The words that wait to be heard.
+type Words = RuledArrayQueue<Handed, Known, OneQueue>;
+
+/// The rule of the words: all are of one queue, of which each pass knows a word.
+struct OneQueue;
+
+impl Protocol<Handed, Known> for OneQueue {
+    ghost use Rattle.std.specs.Prelude.{◌≡◌, ℕ, ◌⊎◌, Option, None, [], ◌∷◌, All, IsSomeAnd};
+    ghost use mathlib.Core.Option.{some};
+    ghost use lib.ListN.{get_elem?};
+    ghost use Rattle.atomic_table.specs.Seated.{TableId};
+
+    ghost holds = { λ handed known. ((handed ≡ []) × (known ≡ None ∷ []))
+        ⊎ ((queue : TableId) × (All (λ one. one.0.queue ≡ queue) handed
+        × ((pass : ℕ) (word : Option _) → get_elem? known pass ≡ some word → IsSomeAnd word (λ w. w.queue ≡ queue)))) };
+
+    ghost first = { None };
+}
+
+/// The first word is handed over, which names the queue.
+struct Naming;
+
+impl Outcome<Handed, Known> for Naming {
+    ghost use Rattle.std.specs.Prelude.{◌≡◌, Some};
+
+    ghost then = { λ known handed new. new ≡ Some handed.0 };
+}
+
+/// A further word is handed over.
+struct Handing;
+
+impl Outcome<Handed, Known> for Handing {
+    ghost use Rattle.std.specs.Prelude.{◌≡◌};
+
+    ghost then = { λ known handed new. new ≡ known };
+}
+
+/// A word is heard.
+struct Hearing;
+
+impl Outcome<Handed, Known> for Hearing {
+    ghost use Rattle.std.specs.Prelude.{◌≡◌, IsSomeAnd};
+
+    ghost then = { λ known handed new. (new ≡ known) × IsSomeAnd known (λ word. handed.0.queue ≡ word.queue) };
+}
+
+/// One pass becomes two.
+struct Sharing;
+
+impl Split<Known> for Sharing {
+    ghost left = { λ known. known };
+
+    ghost right = { λ known. known };
+}
+
+/// Publishes an item, behind a word where one was heard.
+fn say<R: Wait>(publisher: &mut Publisher<Said, R>, name: Name, handed: Option<Handed>)
+    requires { IfSome handed (λ heard. heard.0.queue ≡ publisher.old.queue) }
+    ensures { publisher.new.queue ≡ publisher.old.queue }
+{
+    match handed {
+        Some((word, heard)) => {
+            let Ok(()) = publisher.publish_after(word, (name, heard)) else {
+                unreachable!();
+            };
+        }
+        None => {
+            let Ok(()) = publisher.publish((name, None)) else {
+                unreachable!();
+            };
+        }
+    }
+}
+
+/// Publishes all items, each behind a word where one waits, hands a word over after each, and closes.
+fn converse<R: Wait + Drop>(
+    words: &Words,
+    mut pass: Pass<Handed, Known>,
+    mut publisher: Publisher<Said, R>,
+)
+where
+    requires pass { IsPassOf words.now pass }
+    requires known { IsSomeAnd (view pass) (λ word. word.queue ≡ publisher.queue) }
+{
+    let number = publisher.number();
+    for round in 0..ROUNDS {
+        let name = (number, round);
+        let handed = words.try_pop_as::<Hearing>(&mut pass);
+        say(&mut publisher, name, handed);
+        let word = publisher.tell();
+        let _ = words.try_push_as::<Handing>(&mut pass, (word, Some(name)));
+        thread::yield_now();
+    }
+    let Ok(_) = publisher.close() else {
+        unreachable!();
+    };
+}
+
+/// Two publishers converse at the same time. False where no word could be handed over at first.
+fn both_converse<R>(
+    rt: R,
+    alloc: Global,
+    mut zero: Publisher<Said, R>,
+    one: Publisher<Said, R>,
+) -> Result<bool, AllocError>
+where
+    R: Abort + Threads + Wait + Copy + Send + Sync + Drop + 'static,
+    requires { zero.queue ≡ one.queue }
+{
+    let (words, mut first) = Words::ruled(alloc, 4)?;
+    let words = &words;
+    let word = zero.tell();
+    let Ok(()) = words.try_push_as::<Naming>(&mut first, (word, None)) else {
+        return Ok(false);
+    };
+    let second = words.another::<Sharing>(&mut first);
+    thread::join(
+        &rt,
+        move ||
+            requires { IsPassOf words.now first × IsSomeAnd (view first) (λ word. word.queue ≡ zero.queue) }
+        { converse(words, first, zero) },
+        move ||
+            requires { IsPassOf words.now second × IsSomeAnd (view second) (λ word. word.queue ≡ one.queue) }
+        { converse(words, second, one) },
+    );
+    Ok(true)
+}
+
+/// Takes until nothing comes any more, and gives what was taken.
+fn taken_by<R: Wait + Drop>(
+    rt: R,
+    alloc: Global,
+    mut taker: Taker<Said, R>,
+) -> Result<Vec<(usize, Option<Said>)>, AllocError> {
+    take_all(&rt, alloc, &mut taker)
+}
+
+#[test]
+fn what_is_heard_of_is_taken_first(rt: HostRuntime) -> Result<(), Fail> {
+    let (publishers, taker) = open_queue(&rt, rt.alloc(), 2, 3)?;
+    let mut publishers = publishers.into_iter();
+    let (Some(zero), Some(one)) = (publishers.next(), publishers.next()) else {
+        unreachable!();
+    };
+    let takes = thread::spawn(&rt, move || taken_by(rt, rt.alloc(), taker))?;
+    assert!(rt; both_converse(rt, rt.alloc(), zero, one)?);
+    let taken = takes.join(&rt)?;
+    assert_eq!(rt; taken.len(), 2 * ROUNDS as usize + 2);
+    let mut last = [None, None];
+    for (name, heard) in taken.iter().filter_map(|entry| entry.1) {
+        if let Some((other, round)) = heard {
+            assert!(rt; last.get(other).is_some_and(|last| *last >= Some(round)));
+        }
+        if let Some(last) = last.get_mut(name.0) {
+            *last = Some(name.1);
+        }
+    }
+    assert_eq!(rt; last, [Some(ROUNDS - 1), Some(ROUNDS - 1)]);
+    Ok(())
+}

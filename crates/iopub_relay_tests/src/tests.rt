@@ -1,0 +1,8 @@
+//! Tests of what no clause says: examples with ample memory, a plain program beside the relay's core, and relays over a
+//! queue.
+
+mod door;
+mod feed;
+mod model;
+mod relay;
+mod steps;
