@@ -1,7 +1,3 @@
-//! Tests of what no clause says: examples of the standard, words, and calls with ample memory.
+//! What the cases of `zmtp_wire_cases` don't show: that others can have devices of their own.
 
-mod decoder;
 mod device;
-mod fault;
-mod handshake;
-mod writing;
