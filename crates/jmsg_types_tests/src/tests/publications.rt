@@ -4,8 +4,62 @@ use super::text;
 use jmsg_types::{
     Publication, State, content_of_publication, content_text_of_publication, topic_of, type_of,
 };
-use std::alloc::Global;
+use std::alloc::{AllocError, Global};
 use std::test::Fail;
+
+/// What is published, as a plain value.
+#[derive(Clone, Copy)]
+enum News<'a> {
+    /// The kernel's state.
+    Status(State),
+    /// A code that runs, and its number.
+    Input(&'a str, u64),
+    /// A cell's value, and its number.
+    Result(&'a str, u64),
+    /// A value that is displayed.
+    Display(&'a str),
+    /// A fault's name and words.
+    Error(&'a str, &'a str),
+    /// What was written to standard output.
+    Output(&'a str),
+    /// What was written to standard error.
+    ErrorOutput(&'a str),
+    /// A comm is closed.
+    CommClose(&'a str),
+}
+
+/// The publication of news.
+fn publication_of(alloc: Global, news: News<'_>) -> Result<Publication, AllocError> {
+    Ok(match news {
+        News::Status(state) => Publication::Status(state),
+        News::Input(code, count) => Publication::ExecuteInput {
+            code: text(alloc, code)?,
+            count,
+        },
+        News::Result(value, count) => Publication::ExecuteResult {
+            text: text(alloc, value)?,
+            count,
+        },
+        News::Display(value) => Publication::Display {
+            text: text(alloc, value)?,
+        },
+        News::Error(ename, evalue) => Publication::Error {
+            ename: text(alloc, ename)?,
+            evalue: text(alloc, evalue)?,
+        },
+        News::Output(written) => Publication::Stream {
+            err: false,
+            text: text(alloc, written)?,
+        },
+        News::ErrorOutput(written) => Publication::Stream {
+            err: true,
+            text: text(alloc, written)?,
+        },
+        News::CommClose(comm_id) => Publication::CommClose {
+            comm_id: text(alloc, comm_id)?,
+        },
+    })
+}
 
 /// Whether a publication has this type, topic and content.
 fn is_published(
@@ -25,120 +79,79 @@ fn is_published(
     )
 }
 
+/// News, each with the type, topic and content that it is published by. A stream's name is a part of its topic.
+const PUBLISHED: [(News, &str, &str, &str); 10] = [
+    (
+        News::Status(State::Starting),
+        "status",
+        "status",
+        r#"{"execution_state":"starting"}"#,
+    ),
+    (
+        News::Status(State::Busy),
+        "status",
+        "status",
+        r#"{"execution_state":"busy"}"#,
+    ),
+    (
+        News::Status(State::Idle),
+        "status",
+        "status",
+        r#"{"execution_state":"idle"}"#,
+    ),
+    (
+        News::Input("x=2; x+1; x<<62", 1),
+        "execute_input",
+        "execute_input",
+        r#"{"code":"x=2; x+1; x<<62","execution_count":1}"#,
+    ),
+    (
+        News::Result("2", 2),
+        "execute_result",
+        "execute_result",
+        r#"{"data":{"text/plain":"2"},"execution_count":2,"metadata":{}}"#,
+    ),
+    (
+        News::Display("2"),
+        "display_data",
+        "display_data",
+        r#"{"data":{"text/plain":"2"},"metadata":{}}"#,
+    ),
+    (
+        News::Error("OverflowError", "result outside 64 bits"),
+        "error",
+        "error",
+        "{\"ename\":\"OverflowError\",\"evalue\":\"result outside 64 bits\",\
+         \"traceback\":[\"OverflowError: result outside 64 bits\"]}",
+    ),
+    (
+        News::Output("2\n"),
+        "stream",
+        "stream.stdout",
+        r#"{"name":"stdout","text":"2\n"}"#,
+    ),
+    (
+        News::ErrorOutput(""),
+        "stream",
+        "stream.stderr",
+        r#"{"name":"stderr","text":""}"#,
+    ),
+    (
+        News::CommClose("c"),
+        "comm_close",
+        "comm_close",
+        r#"{"comm_id":"c","data":{}}"#,
+    ),
+];
+
 #[test]
-fn publishes_each_state(rt: HostRuntime) -> Result<(), Fail> {
-    let rows: [(State, &str); 3] = [
-        (State::Starting, "{\"execution_state\":\"starting\"}"),
-        (State::Busy, "{\"execution_state\":\"busy\"}"),
-        (State::Idle, "{\"execution_state\":\"idle\"}"),
-    ];
-    for (state, content) in rows {
-        let publication = Publication::Status(state);
+fn publishes_news(rt: HostRuntime) -> Result<(), Fail> {
+    for (news, msg_type, topic, content) in PUBLISHED {
+        let publication = publication_of(rt.alloc(), news)?;
         assert!(rt;
-            is_published(rt.alloc(), &publication, "status", "status", content)?,
+            is_published(rt.alloc(), &publication, msg_type, topic, content)?,
             "{content}"
         );
     }
-    Ok(())
-}
-
-#[test]
-fn publishes_inputs(rt: HostRuntime) -> Result<(), Fail> {
-    let code = text(rt.alloc(), "x=2; x+1; x<<62")?;
-    let input = Publication::ExecuteInput { code, count: 1 };
-    let content = "{\"code\":\"x=2; x+1; x<<62\",\"execution_count\":1}";
-    assert!(rt;
-        is_published(
-            rt.alloc(),
-            &input,
-            "execute_input",
-            "execute_input",
-            content
-        )?
-    );
-    Ok(())
-}
-
-#[test]
-fn publishes_results(rt: HostRuntime) -> Result<(), Fail> {
-    let text = text(rt.alloc(), "2")?;
-    let result = Publication::ExecuteResult { text, count: 2 };
-    let content = "{\"data\":{\"text/plain\":\"2\"},\"execution_count\":2,\"metadata\":{}}";
-    assert!(rt;
-        is_published(
-            rt.alloc(),
-            &result,
-            "execute_result",
-            "execute_result",
-            content
-        )?
-    );
-    Ok(())
-}
-
-#[test]
-fn publishes_what_is_displayed(rt: HostRuntime) -> Result<(), Fail> {
-    let text = text(rt.alloc(), "2")?;
-    let display = Publication::Display { text };
-    let content = "{\"data\":{\"text/plain\":\"2\"},\"metadata\":{}}";
-    assert!(rt;
-        is_published(
-            rt.alloc(),
-            &display,
-            "display_data",
-            "display_data",
-            content
-        )?
-    );
-    Ok(())
-}
-
-#[test]
-fn publishes_errors(rt: HostRuntime) -> Result<(), Fail> {
-    let ename = text(rt.alloc(), "OverflowError")?;
-    let evalue = text(rt.alloc(), "result outside 64 bits")?;
-    let error = Publication::Error { ename, evalue };
-    let content = "{\"ename\":\"OverflowError\",\"evalue\":\"result outside 64 bits\",\
-         \"traceback\":[\"OverflowError: result outside 64 bits\"]}";
-    assert!(rt; is_published(rt.alloc(), &error, "error", "error", content)?);
-    Ok(())
-}
-
-// A stream's name is a part of its topic.
-#[test]
-fn publishes_streams(rt: HostRuntime) -> Result<(), Fail> {
-    let rows: [(bool, &str, &str, &str); 2] = [
-        (
-            false,
-            "2\n",
-            "stream.stdout",
-            "{\"name\":\"stdout\",\"text\":\"2\\n\"}",
-        ),
-        (
-            true,
-            "",
-            "stream.stderr",
-            "{\"name\":\"stderr\",\"text\":\"\"}",
-        ),
-    ];
-    for (err, written, topic, content) in rows {
-        let text = text(rt.alloc(), written)?;
-        let stream = Publication::Stream { err, text };
-        assert!(rt;
-            is_published(rt.alloc(), &stream, "stream", topic, content)?,
-            "{topic}"
-        );
-    }
-    Ok(())
-}
-
-#[test]
-fn publishes_that_a_comm_is_closed(rt: HostRuntime) -> Result<(), Fail> {
-    let alloc = rt.alloc();
-    let publication = Publication::CommClose {
-        comm_id: text(alloc, "c")?,
-    };
-    let content = "{\"comm_id\":\"c\",\"data\":{}}";
-    assert!(rt; is_published(alloc, &publication, "comm_close", "comm_close", content)?);
     Ok(())
 }

@@ -1,40 +1,43 @@
 //! The numbers and words of faults.
 
 use jmsg_types::{ContentFault, content_words};
+use std::alloc::{AllocError, Global};
 use std::test::Fail;
 
-#[test]
-fn faults_have_numbers_and_words(rt: HostRuntime) -> Result<(), Fail> {
-    let rows: [(ContentFault, u8, &str); 4] = [
-        (ContentFault::NotJson, 30, "content is not JSON"),
-        (ContentFault::NotAnObject, 31, "content is not an object"),
-        (ContentFault::Field("code"), 32, "field code"),
-        (
-            ContentFault::Field("user_expressions"),
-            32,
-            "field user_expressions",
-        ),
-    ];
-    for (fault, number, value) in rows {
-        assert_eq!(rt; fault.number(), number);
-        assert_eq!(rt; fault.to_string(rt.alloc())?.as_str(), value);
-        let Ok((name, words)) = content_words(rt.alloc(), &fault) else {
-            panic!(&rt; "there are no words");
-        };
-        assert_eq!(rt; name, "ContentError");
-        assert_eq!(rt; words.as_str(), value);
+/// Faults, each with its number and words, and what it is reported by. Want of memory is handed back.
+const FAULTS: [(ContentFault, &str); 5] = [
+    (
+        ContentFault::NotJson,
+        "30 content is not JSON, ContentError: content is not JSON",
+    ),
+    (
+        ContentFault::NotAnObject,
+        "31 content is not an object, ContentError: content is not an object",
+    ),
+    (
+        ContentFault::Field("code"),
+        "32 field code, ContentError: field code",
+    ),
+    (
+        ContentFault::Field("user_expressions"),
+        "32 field user_expressions, ContentError: field user_expressions",
+    ),
+    (ContentFault::OutOfMemory, "33 out of memory, OutOfMemory"),
+];
+
+/// One line that tells a fault's number and words, and what it is reported by.
+fn told(alloc: Global, fault: ContentFault) -> Result<String, AllocError> {
+    let number = fault.number();
+    match content_words(alloc, &fault) {
+        Ok((name, words)) => format!(in alloc; "{number} {fault}, {name}: {}", words.as_str()),
+        Err(refused) => format!(in alloc; "{number} {fault}, {refused:?}"),
     }
-    Ok(())
 }
 
 #[test]
-fn want_of_memory_is_handed_back(rt: HostRuntime) -> Result<(), Fail> {
-    let fault = ContentFault::OutOfMemory;
-    assert_eq!(rt; fault.number(), 33);
-    assert_eq!(rt; fault.to_string(rt.alloc())?.as_str(), "out of memory");
-    match content_words(rt.alloc(), &fault) {
-        Ok(_) => panic!(&rt; "want of memory has words"),
-        Err(refused) => assert!(rt; refused == ContentFault::OutOfMemory),
+fn faults_have_numbers_and_words(rt: HostRuntime) -> Result<(), Fail> {
+    for (fault, expected) in FAULTS {
+        assert_eq!(rt; told(rt.alloc(), fault)?.as_str(), expected);
     }
     Ok(())
 }
