@@ -3,9 +3,15 @@
 //! engine.
 #![tactic(auto)]
 
+mod after;
 mod letters;
+mod refusing;
+mod scarce;
 
+pub use after::After;
 pub use letters::{Letters, Waiting};
+pub use refusing::Refusing;
+pub use scarce::{DATE, Scarce};
 
 #[cfg(test)]
 mod tests;

@@ -1,6 +1,8 @@
 //! The numbers and the words of the faults.
 
-use super::*;
+use super::request;
+use kernel_block::EngineFault;
+use std::test::Fail;
 
 #[test]
 fn faults_have_numbers_and_words(rt: HostRuntime) -> Result<(), Fail> {

@@ -1,10 +1,22 @@
 //! The last request for which an engine has ids, and the first for which it has none; the last number of a message.
 
-use super::*;
+use super::request;
+use crate::{After, DATE, Refusing, Scarce};
 use arith_shell::ShellArith;
+use jmsg_envelope::Signer;
 use jmsg_types::{Publication, Reply, State};
-use kernel_block::{Heading, Parts, Publishing};
-use listed::{Octets, Text};
+use kernel_block::{EngineFault, Handled, Heading, Parts, Publishing, Side};
+use listed::{Frames, Octets, Text};
+use std::alloc::{AllocError, Global};
+use std::test::Fail;
+
+/// The number of the fault by which a request was refused, or 0.
+fn number_of(handled: Result<Handled, EngineFault>) -> u8 {
+    match handled {
+        Ok(_) => 0,
+        Err(fault) => fault.number(),
+    }
+}
 
 /// What an engine that gives this number next answers a request that has a reply: a fault's number, or 0; the next
 /// number then; and how many messages it published.
@@ -17,12 +29,12 @@ fn handled_at(alloc: Global, next: u64) -> Result<(u8, u64, usize), Fail> {
         publishing: Publishing {
             sink: Refusing::new(alloc, 0, 0),
             signer: Signer::new(Vec::new(alloc)),
-            stamp: OneDate,
+            stamp: Scarce::new(0),
             next,
         },
         owed: None,
     };
-    let number = number_of(parts.handle(alloc, asked, &stop_after(ALWAYS)));
+    let number = number_of(parts.handle(alloc, asked, &After::new(u64::MAX)));
     let publishing = parts.publishing;
     let next = publishing.next;
     let sink = publishing.sink;
@@ -39,11 +51,11 @@ fn ids_end_behind_the_two_to_the_62nd(rt: HostRuntime) -> Result<(), Fail> {
 }
 
 /// What messages are made with, from this number on.
-fn from_number(alloc: Global, next: u64) -> Publishing<Refusing, OneDate> {
+fn from_number(alloc: Global, next: u64) -> Publishing<Refusing, Scarce> {
     Publishing {
         sink: Refusing::new(alloc, 0, 0),
         signer: Signer::new(Vec::new(alloc)),
-        stamp: OneDate,
+        stamp: Scarce::new(0),
         next,
     }
 }

@@ -1,0 +1,71 @@
+//! `engine_cases`: what engines publish and reply, of requests that are told beforehand, over `Scarce` stamps and
+//! `Refusing` sinks. What they have to is told by 'Messaging in Jupyter' 5.3.
+//!
+//! Each line of standard input is printed. One that begins with `#` says nothing. The others stand in blocks with empty
+//! lines between, and what a block comes to is printed behind it. Its first line says what engine there is: `shell` or
+//! `control`, its language, as `arith`, `letters`, or `wanting`, which are letters that find no memory, and then maybe
+//!
+//! - `noes=N`: how often a stop says no at first; without, it always does;
+//! - `first=N`, `last=N`: the first and the last push that the sink refuses, from 1 on;
+//! - `call=N`: the call of the stamp that is refused;
+//! - `each`: there is a fresh engine for each request, and what it comes to is printed behind it;
+//! - `counted`: of what is published is printed how many messages they are.
+//!
+//! Each other line is a request: the id of its message, its type and its content; or `start`, which has the engine say
+//! that it starts. Of each is told what it comes to, in a line; then come the messages that were published, each in a
+//! line, until the engine was closed. A request that comes back is asked once more.
+//!
+//! A message is told by its topic, where it has one, its type and its id, the id and the type of what it answers, and
+//! its content. All else of it is the same in each, and a message in which it isn't is printed whole.
+#![tactic(auto)]
+
+mod engine;
+mod message;
+mod setup;
+
+use engine::answers;
+use setup::Setup;
+use std::io;
+
+/// Prints each block with what it comes to.
+fn main(rt: HostRuntime) -> io::Result<()> {
+    let alloc = rt.alloc();
+    let mut setup = None;
+    let mut requests = Vec::new(alloc);
+    for line in rt.lines(alloc) {
+        let line = line?;
+        if line.is_empty() {
+            print_block(&rt, setup, &mut requests)?;
+            setup = None;
+        }
+        println!(rt; "{line}")?;
+        if line.is_empty() || line.starts_with('#') {
+            continue;
+        }
+        let Some(known) = setup else {
+            setup = Some(Setup::read(line.as_str())?);
+            continue;
+        };
+        requests.push(line)?;
+        if known.is_each {
+            print_block(&rt, setup, &mut requests)?;
+        }
+    }
+    print_block(&rt, setup, &mut requests)
+}
+
+/// Prints what the requests of a block come to, if there are any, and forgets them.
+fn print_block<R: Print + AllocGlobal>(
+    rt: &R,
+    setup: Option<Setup>,
+    requests: &mut Vec<String>,
+) -> io::Result<()> {
+    if let Some(setup) = setup
+        && !requests.is_empty()
+    {
+        let answers = answers(rt.alloc(), setup, requests.as_slice())?;
+        print!(rt; "{answers}")?;
+        requests.clear();
+    }
+    Ok(())
+}

@@ -1,0 +1,96 @@
+//! Messages as texts.
+
+use jmsg_envelope::{Envelope, Signer, open_envelope};
+use listed::Frames;
+use std::alloc::{AllocError, Global};
+use std::io;
+
+/// A request of this id, type and content, under no key.
+pub(crate) fn request(alloc: Global, id: &str, kind: &str, content: &str) -> io::Result<Envelope> {
+    let header = format!(in alloc; "{{\"msg_id\":\"{id}\",\"msg_type\":\"{kind}\"}}")?;
+    let mut frames = Vec::new(alloc);
+    for frame in ["<IDS|MSG>", "", header.as_str(), "{}", "{}", content] {
+        frames.push(Vec::from_slice(alloc, frame.as_bytes())?)?;
+    }
+    match open_envelope(alloc, &Signer::new(Vec::new(alloc)), frames) {
+        Ok(envelope) => Ok(envelope),
+        Err(_) => Err(io::Error::other("no request")),
+    }
+}
+
+/// The frames of a message, each behind a line feed.
+fn whole(alloc: Global, frames: &Frames) -> io::Result<String> {
+    let mut octets = Vec::new(alloc);
+    for frame in frames.as_slice() {
+        octets.push(b'\n')?;
+        octets.extend_from_slice(frame.as_slice())?;
+    }
+    match String::from_utf8(octets) {
+        Ok(text) => Ok(text),
+        Err(_) => Err(io::Error::other("no text")),
+    }
+}
+
+/// What a message says beside what is the same in each.
+#[derive(Clone, Copy)]
+struct Parts<'t> {
+    /// Its topic behind a line feed, or nothing.
+    topic: &'t str,
+    /// Its id.
+    id: &'t str,
+    /// Its type.
+    kind: &'t str,
+    /// The id of what it answers.
+    parent_id: &'t str,
+    /// The type of what it answers.
+    parent_kind: &'t str,
+    /// Its content.
+    content: &'t str,
+}
+
+/// What a message says whose frames these are, if all else is as in each.
+fn parts_of(whole: &str) -> Option<Parts<'_>> {
+    let (topic, rest) = whole.split_once(
+        "\n<IDS|MSG>\n\n{\"date\":\"2026-11-23T00:00:00.000000Z\",\"msg_id\":\"",
+    )?;
+    let (id, rest) = rest.split_once("\",\"msg_type\":\"")?;
+    let (kind, rest) = rest.split_once(
+        "\",\"session\":\"s\",\"username\":\"kernel\",\"version\":\"5.3\"}\n{\"msg_id\":\"",
+    )?;
+    let (parent_id, rest) = rest.split_once("\",\"msg_type\":\"")?;
+    let (parent_kind, content) = rest.split_once("\"}\n{}\n")?;
+    Some(Parts {
+        topic,
+        id,
+        kind,
+        parent_id,
+        parent_kind,
+        content,
+    })
+}
+
+/// Adds a message to a text, on one line.
+pub(crate) fn add_message(alloc: Global, text: &mut String, frames: &Frames) -> io::Result<()> {
+    let whole = whole(alloc, frames)?;
+    Ok(add_text(text, whole.as_str())?)
+}
+
+/// Adds a message whose frames these are to a text, on one line.
+fn add_text(text: &mut String, whole: &str) -> Result<(), AllocError> {
+    let Some(parts) = parts_of(whole) else {
+        return write!(text, " {whole:?}");
+    };
+    let Parts {
+        topic,
+        id,
+        kind,
+        parent_id,
+        parent_kind,
+        content,
+    } = parts;
+    let behind = topic.strip_prefix('\n').unwrap_or("reply");
+    write!(
+        text,
+        " {behind} {kind} {id} of {parent_id} {parent_kind}: {content}"
+    )
+}
