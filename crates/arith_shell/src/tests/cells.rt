@@ -3,6 +3,7 @@
 use super::{fresh, repeated, run};
 use crate::ShellArith;
 use interp_core::{InterpFault, Interpreter, Next, Output, Stepped};
+use std::alloc::Global;
 use std::test::Fail;
 
 /// One row for each rule of the language: a cell, and what it writes.
@@ -191,18 +192,11 @@ const EDGES: &[(&str, &str)] = &[
 
 #[test]
 fn cells_write_what_the_language_says(rt: HostRuntime) -> Result<(), Fail> {
-    for (code, wanted) in RULES {
-        let written = fresh(rt.alloc(), code)?;
-        assert_eq!(rt; written.as_str(), *wanted, "of {code}");
-    }
-    Ok(())
-}
-
-#[test]
-fn nested_conditionals_take_one_branch(rt: HostRuntime) -> Result<(), Fail> {
-    for (code, wanted) in CONDITIONALS {
-        let written = fresh(rt.alloc(), code)?;
-        assert_eq!(rt; written.as_str(), *wanted, "of {code}");
+    for table in [RULES, CONDITIONALS] {
+        for (code, wanted) in table {
+            let written = fresh(rt.alloc(), code)?;
+            assert!(rt; written.as_str() == *wanted, "{written} of {code}");
+        }
     }
     Ok(())
 }
@@ -229,10 +223,10 @@ fn operators_are_exact_at_the_edges_of_64_bits(rt: HostRuntime) -> Result<(), Fa
 #[test]
 fn variables_stay_from_cell_to_cell(rt: HostRuntime) -> Result<(), Fail> {
     let mut arithmetic = ShellArith::new(rt.alloc());
-    let failed = run(rt.alloc(), &mut arithmetic, "x=1; y=1/0")?;
-    assert_eq!(rt; failed.as_str(), "1\nfault 52");
-    assert_eq!(rt; run(rt.alloc(), &mut arithmetic, "x")?.as_str(), "= 1");
-    assert_eq!(rt; run(rt.alloc(), &mut arithmetic, "y")?.as_str(), "= 0");
+    for (code, wanted) in [("x=1; y=1/0", "1\nfault 52"), ("x", "= 1"), ("y", "= 0")] {
+        let written = run(rt.alloc(), &mut arithmetic, code)?;
+        assert!(rt; written.as_str() == wanted, "{written} of {code}");
+    }
     Ok(())
 }
 
@@ -261,75 +255,82 @@ fn steps_left_counts_down(rt: HostRuntime) -> Result<(), Fail> {
     Ok(())
 }
 
-#[test]
-fn a_statement_has_two_hundred_operators_at_most(rt: HostRuntime) -> Result<(), Fail> {
-    let alloc = rt.alloc();
-    let signs = repeated(alloc, "~", 200, "1")?;
-    assert_eq!(rt; fresh(alloc, signs.as_str())?.as_str(), "= 1");
-    let signs = repeated(alloc, "~", 201, "1")?;
-    assert_eq!(rt; fresh(alloc, signs.as_str())?.as_str(), "fault 54");
-    let opens = repeated(alloc, "(", 200, "1")?;
-    assert_eq!(rt; fresh(alloc, opens.as_str())?.as_str(), "fault 50 at 201");
-    let opens = repeated(alloc, "(", 201, "1")?;
-    assert_eq!(rt; fresh(alloc, opens.as_str())?.as_str(), "fault 54");
-    let groups = format!(in alloc;
-        "{}1{}",
-        repeated(alloc, "(", 100, "")?,
-        repeated(alloc, ")", 100, "")?
-    )?;
-    assert_eq!(rt; fresh(alloc, groups.as_str())?.as_str(), "= 1");
-    Ok(())
+/// The first half of a hundred pairs of parentheses round a 1.
+const OPEN: &str = concat!(
+    "((((((((((((((((((((((((((((((((((((((((((((((((((",
+    "((((((((((((((((((((((((((((((((((((((((((((((((((1"
+);
+
+/// A long text: what stands in front, what is repeated, how often, what stands behind; and what the cell writes.
+type Long = (
+    &'static str,
+    &'static str,
+    usize,
+    &'static str,
+    &'static str,
+);
+
+/// Statements of as many operators as one may have, and of more.
+const DEEP: &[Long] = &[
+    ("", "~", 200, "1", "= 1"),
+    ("", "~", 201, "1", "fault 54"),
+    ("", "(", 200, "1", "fault 50 at 201"),
+    ("", "(", 201, "1", "fault 54"),
+    (OPEN, ")", 100, "", "= 1"),
+    ("", "1+", 200, "1", "= 201"),
+    ("", "a=", 200, "7", "= 7"),
+    ("", "0?1:", 100, "2", "= 2"),
+    // The first fault of a cell is told.
+    ("1+; ", "~", 201, "1", "fault 50 at 2"),
+    ("", "~", 201, "1; 1+", "fault 54"),
+    ("", "~", 201, "1; 09", "fault 50 at 204"),
+];
+
+/// A megabyte that is read.
+const HUGE: &[Long] = &[
+    ("", "1", 1_000_000, "", "fault 50 at 0"),
+    ("", " ", 1_000_000, "1", "= 1"),
+    ("", ";", 1_000_000, "1", "= 1"),
+];
+
+/// A megabyte that gets its fault.
+const HOSTILE: &[Long] = &[
+    ("", "(", 1_000_000, "1", "fault 54"),
+    ("", "1+", 500_000, "1", "fault 54"),
+    ("", "a ", 500_000, "", "fault 50 at 2"),
+];
+
+/// What the first of these texts writes that doesn't write what it has to, if there is one.
+fn otherwise_written(alloc: Global, rows: &[Long]) -> Result<Option<String>, Fail> {
+    for (front, text, times, behind, wanted) in rows {
+        let mut code = String::from_str(alloc, front)?;
+        code.push_str(&repeated(alloc, text, *times, behind)?)?;
+        let written = fresh(alloc, &code)?;
+        if written.as_str() != *wanted {
+            return Ok(Some(format!(in alloc; "{written} of {times} times {text}")?));
+        }
+    }
+    Ok(None)
 }
 
 #[test]
-fn the_first_fault_of_a_cell_is_told(rt: HostRuntime) -> Result<(), Fail> {
-    let alloc = rt.alloc();
-    let signs = repeated(alloc, "~", 201, "1")?;
-    let behind = format!(in alloc; "1+; {signs}")?;
-    assert_eq!(rt; fresh(alloc, behind.as_str())?.as_str(), "fault 50 at 2");
-    let before = format!(in alloc; "{signs}; 1+")?;
-    assert_eq!(rt; fresh(alloc, before.as_str())?.as_str(), "fault 54");
-    let wrong = format!(in alloc; "{signs}; 09")?;
-    assert_eq!(rt; fresh(alloc, wrong.as_str())?.as_str(), "fault 50 at 204");
+fn statements_have_two_hundred_operators_at_most(rt: HostRuntime) -> Result<(), Fail> {
+    let written = otherwise_written(rt.alloc(), DEEP)?;
+    assert!(rt; written.is_none(), "{written:?}");
     Ok(())
 }
 
 #[test]
 fn a_megabyte_is_read(rt: HostRuntime) -> Result<(), Fail> {
-    let alloc = rt.alloc();
-    let digits = repeated(alloc, "1", 1_000_000, "")?;
-    assert_eq!(rt; fresh(alloc, digits.as_str())?.as_str(), "fault 50 at 0");
-    let spaces = repeated(alloc, " ", 1_000_000, "1")?;
-    assert_eq!(rt; fresh(alloc, spaces.as_str())?.as_str(), "= 1");
-    let semicolons = repeated(alloc, ";", 1_000_000, "1")?;
-    assert_eq!(rt; fresh(alloc, semicolons.as_str())?.as_str(), "= 1");
+    let written = otherwise_written(rt.alloc(), HUGE)?;
+    assert!(rt; written.is_none(), "{written:?}");
     Ok(())
 }
 
 #[test]
 fn hostile_texts_get_their_fault(rt: HostRuntime) -> Result<(), Fail> {
-    let alloc = rt.alloc();
-    let open = repeated(alloc, "(", 1_000_000, "1")?;
-    assert_eq!(rt; fresh(alloc, open.as_str())?.as_str(), "fault 54");
-    let sums = repeated(alloc, "1+", 500_000, "1")?;
-    assert_eq!(rt; fresh(alloc, sums.as_str())?.as_str(), "fault 54");
-    let names = repeated(alloc, "a ", 500_000, "")?;
-    assert_eq!(rt; fresh(alloc, names.as_str())?.as_str(), "fault 50 at 2");
-    Ok(())
-}
-
-#[test]
-fn two_hundred_operators_deep_is_evaluated(rt: HostRuntime) -> Result<(), Fail> {
-    let alloc = rt.alloc();
-    let sums = repeated(alloc, "1+", 200, "1")?;
-    assert_eq!(rt; fresh(alloc, sums.as_str())?.as_str(), "= 201");
-    let assignments = repeated(alloc, "a=", 200, "7")?;
-    assert_eq!(rt; fresh(alloc, assignments.as_str())?.as_str(), "= 7");
-    let conditionals = repeated(alloc, "0?1:", 100, "2")?;
-    assert_eq!(rt; fresh(alloc, conditionals.as_str())?.as_str(), "= 2");
-    let mut groups = repeated(alloc, "(", 100, "3")?;
-    groups.push_str(repeated(alloc, ")", 100, "")?.as_str())?;
-    assert_eq!(rt; fresh(alloc, groups.as_str())?.as_str(), "= 3");
+    let written = otherwise_written(rt.alloc(), HOSTILE)?;
+    assert!(rt; written.is_none(), "{written:?}");
     Ok(())
 }
 

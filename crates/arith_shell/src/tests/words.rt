@@ -84,6 +84,7 @@ const EVALUATIONS: &[(&str, Result<&str, InterpFault>)] = &[
     ("1<<64", Err(InterpFault::Shift)),
     ("(y=7)+1/0", Err(InterpFault::ZeroDivision)),
     ("y", Ok("7")),
+    ("1 2;3", Err(InterpFault::Syntax(2))),
 ];
 
 /// An interpreter with the variables `a1`, `ab`, `b` and `n`, or without `n`.
@@ -111,9 +112,9 @@ fn words_are_completed(rt: HostRuntime) -> Result<(), Fail> {
     for (code, cursor, start, end, wanted) in COMPLETIONS {
         let completion = arithmetic.complete(rt.alloc(), code, *cursor)?;
         let matches = joined(rt.alloc(), &completion.matches)?;
-        assert_eq!(rt; matches.as_str(), *wanted, "of {code} at {cursor}");
-        assert_eq!(rt; completion.start, *start, "of {code} at {cursor}");
-        assert_eq!(rt; completion.end, *end, "of {code} at {cursor}");
+        let place = (completion.start, completion.end);
+        let is_wanted = matches.as_str() == *wanted && place == (*start, *end);
+        assert!(rt; is_wanted, "{matches} from {place:?} of {code} at {cursor}");
     }
     Ok(())
 }
@@ -153,43 +154,43 @@ fn expressions_are_evaluated(rt: HostRuntime) -> Result<(), Fail> {
             (Ok(_), Err(_)) | (Err(_), Ok(_)) => assert!(rt; false, "{text}: {answer:?}"),
         }
     }
-    let signs = repeated(rt.alloc(), "~", 201, "1")?;
-    let answer = arithmetic.evaluate(rt.alloc(), signs.as_str());
-    assert_eq!(rt; answer.err(), Some(InterpFault::TooDeep));
-    let semicolons = repeated(rt.alloc(), ";", 201, "")?;
-    let answer = arithmetic.evaluate(rt.alloc(), semicolons.as_str());
-    assert_eq!(rt; answer.err(), Some(InterpFault::TooDeep));
-    let answer = arithmetic.evaluate(rt.alloc(), "1 2;3");
-    assert_eq!(rt; answer.err(), Some(InterpFault::Syntax(2)));
+    for (sign, behind) in [("~", "1"), (";", "")] {
+        let text = repeated(rt.alloc(), sign, 201, behind)?;
+        let answer = arithmetic.evaluate(rt.alloc(), &text);
+        assert!(rt;
+            answer.err() == Some(InterpFault::TooDeep),
+            "201 times {sign}"
+        );
+    }
     Ok(())
 }
 
 #[test]
 fn only_what_was_assigned_is_known(rt: HostRuntime) -> Result<(), Fail> {
     let mut arithmetic = with_variables(rt.alloc(), "early=1; late=1/0")?;
-    let answer = arithmetic.evaluate(rt.alloc(), "both=(left=2)/0");
-    assert_eq!(rt; answer.err(), Some(InterpFault::ZeroDivision));
-    let answer = arithmetic.evaluate(rt.alloc(), "unread + 0");
-    assert_eq!(rt; answer?.as_str(), "0");
-    let answer = arithmetic.evaluate(rt.alloc(), "divided /= 0");
-    assert_eq!(rt; answer.err(), Some(InterpFault::ZeroDivision));
-    let completion = arithmetic.complete(rt.alloc(), "", 0)?;
-    let mut known = String::new(rt.alloc());
-    for name in completion.matches.as_slice() {
-        known.push_str(name.as_str())?;
-        known.push_str(" ")?;
+    for text in ["both=(left=2)/0", "divided /= 0"] {
+        let answer = arithmetic.evaluate(rt.alloc(), text);
+        assert!(rt; answer.err() == Some(InterpFault::ZeroDivision), "{text}");
     }
-    assert_eq!(rt; known.as_str(), "early left ");
+    assert!(rt; arithmetic.evaluate(rt.alloc(), "unread + 0")?.as_str() == "0");
+    let completion = arithmetic.complete(rt.alloc(), "", 0)?;
+    let known = joined(rt.alloc(), &completion.matches)?;
+    assert!(rt; known.as_str() == "early left", "{known}");
     Ok(())
 }
 
 #[test]
 fn the_language_tells_of_itself(rt: HostRuntime) -> Result<(), Fail> {
     let info = ShellArith::new(rt.alloc()).info(rt.alloc())?;
-    assert_eq!(rt; info.name.as_str(), "sharith");
-    assert_eq!(rt; info.version.as_str(), "1.0");
-    assert_eq!(rt; info.mimetype.as_str(), "text/plain");
-    assert_eq!(rt; info.file_extension.as_str(), ".sha");
-    assert_eq!(rt; info.banner.as_str(), "Shell arithmetic in 64 bits");
+    let texts = [
+        (&info.name, "sharith"),
+        (&info.version, "1.0"),
+        (&info.mimetype, "text/plain"),
+        (&info.file_extension, ".sha"),
+        (&info.banner, "Shell arithmetic in 64 bits"),
+    ];
+    for (text, wanted) in texts {
+        assert!(rt; text.as_str() == wanted, "{wanted}");
+    }
     Ok(())
 }
