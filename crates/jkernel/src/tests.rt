@@ -1,12 +1,8 @@
-//! Tests of what no clause says: printed words, runs whose octets come from outside, devices that fail.
+//! Tests of what no clause says and no run of the built program shows: devices that fail, or give little at a time.
+//! Whole sessions, command words and statuses are those of `tests/programs`.
 
-mod cells;
-mod cut;
 mod devices;
-mod input;
 mod lines;
+mod pieces;
 mod program;
-mod replay;
-mod sent;
 mod status;
-mod words;
