@@ -5,8 +5,8 @@ Run as a program, it is a client that is to be killed:
 
 usage: raw_client.py CONNECTION_FILE
 
-It subscribes to everything, asks some times that a cell be executed, begins one more request, says that it is ready, and
-waits. It reads nothing.
+It subscribes to everything, asks some times that a cell be executed, begins one more request, says that it is ready,
+and waits. It reads nothing.
 """
 
 import collections

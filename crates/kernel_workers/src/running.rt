@@ -21,6 +21,7 @@ use crate::shell::ShellLines;
 use crate::spawning::{spawn_control, spawn_door, spawn_relay, spawn_shell};
 use crate::waking::Waking;
 use crossbeam_channel::{Receiver, Sender, unbounded};
+use crossbeam_utils::sync::Unparker;
 use interp_core::Interpreter;
 use iopub_event::Event;
 use iopub_queue::{Closed, OpenFault};
@@ -180,6 +181,15 @@ struct Stage<I, S, W: Outlet, R> {
     lines: Lines<W>,
 }
 
+/// What wakes the relay's worker, once for each publisher.
+///
+/// # Errors
+///
+/// Where it has too many owners.
+fn unparkers_of(lines: &RelayLines) -> Result<(Unparker, Unparker, Unparker), AllocError> {
+    Ok((lines.unparker()?, lines.unparker()?, lines.unparker()?))
+}
+
 /// Sets a kernel up, whose queue was just opened: gives each worker what it owns.
 ///
 /// # Errors
@@ -199,26 +209,29 @@ where
     ensures { IfOk result (IsSetUp parts) }
 {
     let (relay_lines, relay_end) = RelayLines::new(alloc)?;
+    let (wakes_for_shell, wakes_for_control, wakes_for_door) = unparkers_of(&relay_lines)?;
+    let key = parts.key.as_slice().to_vec(alloc)?;
+    let lines = lines_of(alloc, parts.shell_in, parts.control_in, parts.door_in)?;
     let (shell, shell_stamp) = parts.shell;
     let (control, control_stamp) = parts.control;
     Ok(Stage {
         shell: Channel {
             interp: shell,
             stamp: shell_stamp,
-            signer: Signer::new(parts.key.as_slice().to_vec(alloc)?),
-            sink: Waking::new(opened.shell, relay_lines.unparker()?),
+            signer: Signer::new(key),
+            sink: Waking::new(opened.shell, wakes_for_shell),
         },
         control: Channel {
             interp: control,
             stamp: control_stamp,
             signer: Signer::new(parts.key),
-            sink: Waking::new(opened.control, relay_lines.unparker()?),
+            sink: Waking::new(opened.control, wakes_for_control),
         },
-        door: Waking::new(opened.door, relay_lines.unparker()?),
+        door: Waking::new(opened.door, wakes_for_door),
         relay: Relay::new(alloc, opened.taker),
         relay_lines,
         relay_end,
-        lines: lines_of(alloc, parts.shell_in, parts.control_in, parts.door_in)?,
+        lines,
     })
 }
 

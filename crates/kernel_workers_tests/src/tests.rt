@@ -10,7 +10,7 @@ mod shell;
 ghost use Rattle.std.specs.Prelude.{◌≡◌, [], IfOk};
 
 use crossbeam_channel::{Receiver, Sender, unbounded};
-use crossbeam_utils::sync::Parker;
+use crossbeam_utils::sync::{Parker, Unparker};
 use iopub_event::Event;
 use iopub_queue::{Taken, Taker, open_queue};
 use jmsg_envelope::Stamp;
@@ -68,6 +68,12 @@ struct Queue<R> {
     parker: Parker,
 }
 
+/// What wakes one that sleeps, three times.
+fn unparkers_of(parker: &Parker) -> Result<(Unparker, Unparker, Unparker), AllocError> {
+    let unparker = parker.unparker();
+    Ok((unparker.clone()?, unparker.clone()?, unparker.clone()?))
+}
+
 impl<R: Wait + Copy + Drop> Queue<R> {
     /// A queue of three publishers and so many places.
     fn open(rt: &R, alloc: Global, capacity: usize) -> Result<Queue<R>, Fail>
@@ -75,6 +81,7 @@ impl<R: Wait + Copy + Drop> Queue<R> {
             × (queue.door.published ≡ [])) }
     {
         let parker = Parker::new(alloc)?;
+        let (wakes_for_shell, wakes_for_control, wakes_for_door) = unparkers_of(&parker)?;
         let (publishers, taker) = open_queue(rt, alloc, 3, capacity)?;
         let mut publishers = publishers.into_iter();
         let (Some(shell), Some(control), Some(door)) = (
@@ -85,9 +92,9 @@ impl<R: Wait + Copy + Drop> Queue<R> {
             return Err(Fail::from("three publishers"));
         };
         Ok(Queue {
-            shell: Waking::new(shell, parker.unparker().clone()?),
-            control: Waking::new(control, parker.unparker().clone()?),
-            door: Waking::new(door, parker.unparker().clone()?),
+            shell: Waking::new(shell, wakes_for_shell),
+            control: Waking::new(control, wakes_for_control),
+            door: Waking::new(door, wakes_for_door),
             taker,
             parker,
         })

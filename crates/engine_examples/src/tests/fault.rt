@@ -2,22 +2,46 @@
 
 use super::request;
 use kernel_block::EngineFault;
+use std::alloc::Global;
+use std::process::Abort;
 use std::test::Fail;
+
+/// Expects a fault to have this number and these words.
+fn expect(
+    rt: &impl Abort,
+    alloc: Global,
+    fault: EngineFault,
+    number: u8,
+    words: &str,
+) -> Result<(), Fail> {
+    let found = fault.number();
+    let text: Result<String, _> = fault.to_string(alloc);
+    drop(fault);
+    assert_eq!(rt; found, number);
+    assert_eq!(rt; text?.as_str(), words);
+    Ok(())
+}
 
 #[test]
 fn faults_have_numbers_and_words(rt: HostRuntime) -> Result<(), Fail> {
     let alloc = rt.alloc();
-    let asked = request(alloc, ("a", "execute_request"), "")?;
-    for (fault, number, words) in [
-        (EngineFault::OwedIdle(asked), 70, "an idle is owed"),
-        (EngineFault::Memory, 71, "out of memory"),
-        (EngineFault::Read, 72, "a read failed"),
-        (EngineFault::Write, 73, "a write failed"),
-        (EngineFault::Turns, 74, "no turn is left"),
-        (EngineFault::Worn, 75, "all message ids were given"),
-    ] {
-        assert_eq!(rt; fault.number(), number);
-        assert_eq!(rt; fault.to_string(alloc)?.as_str(), words);
-    }
-    Ok(())
+    let owed = request(alloc, ("a", "execute_request"), "")?;
+    expect(
+        &rt,
+        alloc,
+        EngineFault::OwedIdle(owed),
+        70,
+        "an idle is owed",
+    )?;
+    expect(&rt, alloc, EngineFault::Memory, 71, "out of memory")?;
+    expect(&rt, alloc, EngineFault::Read, 72, "a read failed")?;
+    expect(&rt, alloc, EngineFault::Write, 73, "a write failed")?;
+    expect(&rt, alloc, EngineFault::Turns, 74, "no turn is left")?;
+    expect(
+        &rt,
+        alloc,
+        EngineFault::Worn,
+        75,
+        "all message ids were given",
+    )
 }

@@ -251,18 +251,30 @@ fn due_texts(alloc: Global, blocks: &[Block<'_>]) -> Result<String, Fail> {
     Ok(text)
 }
 
+/// Whether a visit that sends these octets ends as it tells, what is written to it, and what is published.
+fn visited(
+    alloc: Global,
+    octets: &[u8],
+    visit: &Visit<'_>,
+) -> Result<(bool, Vec<u8>, String), Fail> {
+    let mut engine = fresh(alloc, visit);
+    let (text, end) = served(alloc, octets, &mut engine, visit.noes);
+    let is_right = word_of(&end) == visit.end;
+    drop(end);
+    Ok((is_right, text, published(alloc, engine)?))
+}
+
 /// What of a visit isn't as it tells, if anything.
 fn otherwise(alloc: Global, visit: &Visit<'_>) -> Result<&'static str, Fail> {
     let octets = sent(alloc, visit.requests)?;
-    let mut engine = fresh(alloc, visit);
-    let (text, end) = served(alloc, octets.as_slice(), &mut engine, visit.noes);
-    if word_of(&end) != visit.end {
+    let (is_right, text, seen) = visited(alloc, octets.as_slice(), visit)?;
+    if !is_right {
         return Ok("how it ends");
     }
     if text != written(alloc, visit.replies)? {
         return Ok("what is written");
     }
-    if published(alloc, engine)? != due_texts(alloc, visit.published)? {
+    if seen != due_texts(alloc, visit.published)? {
         return Ok("what is published");
     }
     Ok("")

@@ -131,6 +131,7 @@ fn converse<R: Wait + Abort>(
 #[test]
 fn control_interrupts_a_cell_and_ends_all_in_order(rt: HostRuntime) -> Result<(), Fail> {
     let alloc = rt.alloc();
+    let wires = lay_wires(alloc)?;
     let Queue {
         shell,
         control,
@@ -138,7 +139,6 @@ fn control_interrupts_a_cell_and_ends_all_in_order(rt: HostRuntime) -> Result<()
         mut taker,
         parker,
     } = Queue::open(&rt, alloc, 2)?;
-    let wires = lay_wires(alloc)?;
     let key = Signer::new(Vec::new(alloc));
     let arith = ShellArith::new(alloc);
     let shell = spawn_shell(rt, alloc, arith, OneDate, key, shell, wires.shell).expect(

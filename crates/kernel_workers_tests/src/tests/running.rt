@@ -78,6 +78,19 @@ fn inbox_of<T: Drop>(alloc: Global) -> Result<(Inbox<T>, Sender<Note<T>>), Fail>
     Ok((Inbox { to, from }, other))
 }
 
+/// Has subscriber 1 come to a door, and ask for everything.
+fn subscribe<R: Wait>(
+    rt: &R,
+    alloc: Global,
+    to_door: &Sender<Note<Event<Keeper>>>,
+    keeper: Keeper,
+) -> Result<(), Fail> {
+    to_door.send(rt, Note::Job(Event::Attach(1, keeper)))?;
+    let everything = Octets::new(Vec::new(alloc));
+    to_door.send(rt, Note::Job(Event::Subscribe(1, everything)))?;
+    Ok(())
+}
+
 /// A kernel of these interpreters of shell and control, with a queue of so many places, at whose door subscriber 1 asks
 /// for everything, and its client.
 fn kernel_of<I: Drop, R: Wait>(
@@ -96,9 +109,7 @@ fn kernel_of<I: Drop, R: Wait>(
         octets: Vec::new(alloc),
         has_output: Arc::try_clone(&has_output)?,
     };
-    to_door.send(rt, Note::Job(Event::Attach(1, keeper)))?;
-    let everything = Octets::new(Vec::new(alloc));
-    to_door.send(rt, Note::Job(Event::Subscribe(1, everything)))?;
+    subscribe(rt, alloc, &to_door, keeper)?;
     let parts = Parts {
         shell: (shell, OneDate),
         control: (control, OneDate),
@@ -201,34 +212,46 @@ fn expect_end(rt: &impl Abort, ended: &KernelEnd<Keeper>, restart: bool, most: u
     assert!(rt; count <= most, "{count} messages");
 }
 
+/// Asks a hundred times on shell, and then for a shutdown, and eight times on control.
+fn ask_109<R: Wait>(rt: &R, alloc: Global, client: &Client) -> Result<(), Fail> {
+    let shell = (&client.to_shell, &client.shell_replies);
+    for request in 0..ON_SHELL {
+        ask_numbered(rt, alloc, shell, request, (ASKED, "{}"))?;
+    }
+    let shutdown = (SHUTDOWN, r#"{"restart":false}"#);
+    ask_numbered(rt, alloc, shell, ON_SHELL, shutdown)?;
+    let control = (&client.to_control, &client.control_replies);
+    for request in 0..ON_CONTROL {
+        ask_numbered(rt, alloc, control, request, (ASKED, "{}"))?;
+    }
+    Ok(())
+}
+
+/// Expects one reply to each of them.
+fn expect_109<R: Wait + Abort>(rt: &R, alloc: Global, client: &Client) -> Result<(), Fail> {
+    let info = |number| ("kernel_info_reply", number, INFO);
+    for request in 0..ON_SHELL {
+        let due = info(4 + 3 * request);
+        expect_numbered(rt, alloc, &client.from_shell, (request, ASKED), due)?;
+    }
+    let due = ("shutdown_reply", 304, r#"{"restart":false,"status":"ok"}"#);
+    expect_numbered(rt, alloc, &client.from_shell, (ON_SHELL, SHUTDOWN), due)?;
+    assert!(rt; client.from_shell.try_recv(rt).is_err());
+    for request in 0..ON_CONTROL {
+        let due = info(3 + 3 * request);
+        expect_numbered(rt, alloc, &client.from_control, (request, ASKED), due)?;
+    }
+    assert!(rt; client.from_control.try_recv(rt).is_err());
+    Ok(())
+}
+
 #[test]
 fn each_of_109_jobs_has_one_reply(rt: HostRuntime) -> Result<(), Fail> {
     let alloc = rt.alloc();
     let (parts, client) = kernel_of(&rt, alloc, 16, two_ariths(alloc))?;
-    let shell = (&client.to_shell, &client.shell_replies);
-    for request in 0..ON_SHELL {
-        ask_numbered(&rt, alloc, shell, request, (ASKED, "{}"))?;
-    }
-    let shutdown = (SHUTDOWN, r#"{"restart":false}"#);
-    ask_numbered(&rt, alloc, shell, ON_SHELL, shutdown)?;
-    let control = (&client.to_control, &client.control_replies);
-    for request in 0..ON_CONTROL {
-        ask_numbered(&rt, alloc, control, request, (ASKED, "{}"))?;
-    }
+    ask_109(&rt, alloc, &client)?;
     let ended = run_kernel(rt, alloc, parts)?;
-    let info = |number| ("kernel_info_reply", number, INFO);
-    for request in 0..ON_SHELL {
-        let due = info(4 + 3 * request);
-        expect_numbered(&rt, alloc, &client.from_shell, (request, ASKED), due)?;
-    }
-    let due = ("shutdown_reply", 304, r#"{"restart":false,"status":"ok"}"#);
-    expect_numbered(&rt, alloc, &client.from_shell, (ON_SHELL, SHUTDOWN), due)?;
-    assert!(rt; client.from_shell.try_recv(&rt).is_err());
-    for request in 0..ON_CONTROL {
-        let due = info(3 + 3 * request);
-        expect_numbered(&rt, alloc, &client.from_control, (request, ASKED), due)?;
-    }
-    assert!(rt; client.from_control.try_recv(&rt).is_err());
+    expect_109(&rt, alloc, &client)?;
     expect_end(&rt, &ended, false, 1 + 2 * 109);
     Ok(())
 }
@@ -273,6 +296,18 @@ fn await_output(rt: &impl Abort, has_output: &AtomicBool) {
     assert!(rt; false, "no output in time");
 }
 
+/// Interrupts the cell that runs, and then asks for a shutdown.
+fn interrupt<R: Wait + Abort>(rt: &R, alloc: Global, client: &Client) -> Result<(), Fail> {
+    await_output(rt, &client.has_output);
+    let control = (&client.to_control, &client.control_replies);
+    ask_numbered(rt, alloc, control, 1, ("interrupt_request", "{}"))?;
+    let text = await_reply(rt, alloc, &client.from_control)?;
+    assert!(rt; text.ends_with(r#"{"status":"ok"}"#), "{text}");
+    let text = await_reply(rt, alloc, &client.from_shell)?;
+    assert!(rt; text.ends_with(INTERRUPTED), "{text}");
+    ask_numbered(rt, alloc, control, 2, (SHUTDOWN, r#"{"restart":false}"#))
+}
+
 #[test]
 fn a_cell_that_runs_is_interrupted(rt: HostRuntime) -> Result<(), Fail> {
     let alloc = rt.alloc();
@@ -280,14 +315,7 @@ fn a_cell_that_runs_is_interrupted(rt: HostRuntime) -> Result<(), Fail> {
     let shell = (&client.to_shell, &client.shell_replies);
     ask_numbered(&rt, alloc, shell, 0, ("execute_request", r#"{"code":"x"}"#))?;
     let kernel = thread::spawn(&rt, move || run_kernel(rt, alloc, parts))?;
-    await_output(&rt, &client.has_output);
-    let control = (&client.to_control, &client.control_replies);
-    ask_numbered(&rt, alloc, control, 1, ("interrupt_request", "{}"))?;
-    let text = await_reply(&rt, alloc, &client.from_control)?;
-    assert!(rt; text.ends_with(r#"{"status":"ok"}"#), "{text}");
-    let text = await_reply(&rt, alloc, &client.from_shell)?;
-    assert!(rt; text.ends_with(INTERRUPTED), "{text}");
-    ask_numbered(&rt, alloc, control, 2, (SHUTDOWN, r#"{"restart":false}"#))?;
+    interrupt(&rt, alloc, &client)?;
     let ended = kernel.join(&rt)?;
     let due = ("shutdown_reply", 6, r#"{"restart":false,"status":"ok"}"#);
     expect_numbered(&rt, alloc, &client.from_control, (2, SHUTDOWN), due)?;

@@ -48,9 +48,88 @@ fn expect_blocks(rt: &impl Abort, alloc: Global, seen: &Seen) -> Result<(), Fail
     Ok(())
 }
 
+/// What is outside of shell: where requests are put, and what comes of them.
+#[derive(Drop)]
+struct Outside {
+    /// The inbox of shell.
+    to: Sender<Note<Job>>,
+    /// The inbox of control.
+    control: Receiver<Note<Job>>,
+    /// What tells that shell has ended.
+    has_ended: Receiver<()>,
+    /// Where replies go.
+    replies: Sender<Frames>,
+    /// Where they come out.
+    from: Receiver<Frames>,
+}
+
+/// The lines of shell, and what is outside of it.
+fn lay_lines(alloc: Global) -> Result<(ShellLines, Outside), Fail> {
+    let flags = Flags::new(alloc)?;
+    let (to, inbox) = unbounded(alloc)?;
+    let (control, control_in) = unbounded(alloc)?;
+    let (ended, has_ended) = unbounded(alloc)?;
+    let (replies, from) = unbounded(alloc)?;
+    let lines = ShellLines {
+        inbox,
+        flags,
+        ended,
+        control,
+    };
+    let outside = Outside {
+        to,
+        control: control_in,
+        has_ended,
+        replies,
+        from,
+    };
+    Ok((lines, outside))
+}
+
+/// Asks twice what the kernel is, with nothing in between, and then for a shutdown.
+fn ask_all<R: Wait>(rt: &R, alloc: Global, outside: &Outside) -> Result<(), Fail> {
+    let (to, replies) = (&outside.to, &outside.replies);
+    ask(rt, alloc, to, replies, (ASKED, "{}"))?;
+    let nothing = Job {
+        frames: Frames::new(Vec::new(alloc)),
+        reply: replies.clone()?,
+    };
+    to.send(rt, Note::Job(nothing))?;
+    ask(rt, alloc, to, replies, (ASKED, "{}"))?;
+    ask(rt, alloc, to, replies, (SHUTDOWN, r#"{"restart":true}"#))
+}
+
+/// Expects the reply to each of these, and that shell tells its end.
+fn expect_replies<R: Wait + Abort>(rt: &R, alloc: Global, outside: &Outside) -> Result<(), Fail> {
+    let from = &outside.from;
+    expect_reply(rt, alloc, from, ("kernel_info_reply", 4, INFO), ASKED)?;
+    expect_reply(rt, alloc, from, ("kernel_info_reply", 7, INFO), ASKED)?;
+    let due = r#"{"restart":true,"status":"ok"}"#;
+    expect_reply(rt, alloc, from, ("shutdown_reply", 10, due), SHUTDOWN)?;
+    assert_eq!(rt; outside.has_ended.recv(rt), Ok(()));
+    assert!(rt; matches!(outside.control.recv(rt), Ok(Note::End)));
+    Ok(())
+}
+
+/// Has shell serve the requests, while the taker takes all that is published.
+fn converse<R: Wait + Abort>(
+    rt: &R,
+    alloc: Global,
+    outside: &Outside,
+    taker: &mut Taker<Event<()>, R>,
+    parker: &Parker,
+) -> Result<(), Fail> {
+    let mut seen = Vec::new(alloc);
+    ask_all(rt, alloc, outside)?;
+    take_all(rt, alloc, taker, parker, &mut seen)?;
+    expect_replies(rt, alloc, outside)?;
+    expect_blocks(rt, alloc, &seen)
+}
+
 #[test]
 fn shell_replies_until_a_client_ends_it(rt: HostRuntime) -> Result<(), Fail> {
     let alloc = rt.alloc();
+    let (lines, outside) = lay_lines(alloc)?;
     let Queue {
         shell,
         control,
@@ -60,38 +139,12 @@ fn shell_replies_until_a_client_ends_it(rt: HostRuntime) -> Result<(), Fail> {
     } = Queue::open(&rt, alloc, 3)?;
     let _ = control.close();
     let _ = door.close();
-    let (to, inbox) = unbounded(alloc)?;
-    let (control, control_in) = unbounded(alloc)?;
-    let (ended, has_ended) = unbounded(alloc)?;
-    let (replies, from) = unbounded(alloc)?;
-    let flags = Flags::new(alloc)?;
-    let lines = ShellLines {
-        inbox,
-        flags,
-        ended,
-        control,
-    };
     let arith = ShellArith::new(alloc);
     let signer = Signer::new(Vec::new(alloc));
     let shell = spawn_shell(rt, alloc, arith, OneDate, signer, shell, lines).expect(
         &rt, "a thread",
     );
-    ask(&rt, alloc, &to, &replies, (ASKED, "{}"))?;
-    let nothing = Job {
-        frames: Frames::new(Vec::new(alloc)),
-        reply: replies.clone()?,
-    };
-    to.send(&rt, Note::Job(nothing))?;
-    ask(&rt, alloc, &to, &replies, (ASKED, "{}"))?;
-    ask(&rt, alloc, &to, &replies, (SHUTDOWN, r#"{"restart":true}"#))?;
-    let mut seen = Vec::new(alloc);
-    take_all(&rt, alloc, &mut taker, &parker, &mut seen)?;
-    expect_reply(&rt, alloc, &from, ("kernel_info_reply", 4, INFO), ASKED)?;
-    expect_reply(&rt, alloc, &from, ("kernel_info_reply", 7, INFO), ASKED)?;
-    let due = r#"{"restart":true,"status":"ok"}"#;
-    expect_reply(&rt, alloc, &from, ("shutdown_reply", 10, due), SHUTDOWN)?;
-    assert_eq!(rt; has_ended.recv(&rt), Ok(()));
-    assert!(rt; matches!(control_in.recv(&rt), Ok(Note::End)));
+    converse(&rt, alloc, &outside, &mut taker, &parker)?;
     assert_eq!(rt; shell.join(&rt).restart, Some(true));
-    expect_blocks(&rt, alloc, &seen)
+    Ok(())
 }
