@@ -9,6 +9,3 @@ mod statement;
 
 pub use laws::words_are_tokens;
 pub use shell_arithmetic::{ShellArith, Statements};
-
-#[cfg(test)]
-mod tests;

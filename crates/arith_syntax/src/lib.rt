@@ -23,6 +23,3 @@ pub use operator::{AssignmentOperator, BinaryOperator, UnaryOperator};
 pub use reading::{read_cell, read_statement};
 pub use token::{Placed, Token};
 pub use token_laws::{one_lexing, one_wrong_place, tokens_are_nowhere_wrong};
-
-#[cfg(test)]
-mod tests;

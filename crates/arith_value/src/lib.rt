@@ -12,6 +12,3 @@ pub use fault::ValueFault;
 pub use laws::values_are_their_own;
 pub use operators::{apply, unary};
 pub use variables::Variables;
-
-#[cfg(test)]
-mod tests;

@@ -25,6 +25,3 @@ pub use opening::open_envelope;
 pub use sealing::seal;
 pub use signer::Signer;
 pub use stamp::Stamp;
-
-#[cfg(test)]
-mod tests;

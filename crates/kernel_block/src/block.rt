@@ -1,6 +1,8 @@
 //! The ends of a block: busy and idle, and the reply.
 
 ghost use Rattle.std.specs.Prelude.{◌≡◌, ◌+◌, ◌<◌, ◌≤◌, ◌^◌, IfOk, OnErr, MatchResult};
+ghost use Rattle.serde_json.specs.Written.{compact_text};
+ghost use Rattle.jmsg_types.specs.Reply.{reply_data};
 ghost use Rattle.listed.specs.Bodies.{bodies};
 ghost use Rattle.kernel_block.specs.Block.{reply_message};
 ghost use Rattle.kernel_block.specs.Growth.{sealing_of};
@@ -77,8 +79,12 @@ impl<P, S: Stamp> Publishing<P, S> {
             date: Text::new(self.stamp.date(alloc)?),
             parent: Octets::new(Vec::from_slice(alloc, b"{}")?),
         };
-        let starting = Publication::Status(State::Starting);
-        let message = self.publication(alloc, &heading, self.next, &starting)?;
+        let message = self.publication(
+            alloc,
+            &heading,
+            self.next,
+            &Publication::Status(State::Starting),
+        )?;
         match self.sink.publish(Event::Message(Frames::new(message))) {
             Ok(()) => {
                 self.next += 1;
@@ -110,16 +116,24 @@ impl<P, S: Stamp> Publishing<P, S> {
         let Some(reply) = reply else {
             return Ok(None);
         };
+        let content = content_octets(alloc, reply)?;
         if self.next > LAST_NUMBER {
             return Err(AllocError);
         }
-        let Ok(content) = content_text(alloc, &reply) else {
-            return Err(AllocError);
-        };
         let msg_type = reply_type(msg_type).unwrap_or("");
         let prefix = identities.into_vec();
         let message = self.message(alloc, heading, prefix, self.next, msg_type, content)?;
         self.next += 1;
         Ok(Some(Frames::new(message)))
+    }
+}
+
+/// The octets of the content of a reply, which is JSON.
+fn content_octets(alloc: Global, reply: Reply) -> Result<Vec<u8>, AllocError>
+    ensures { IfOk result (λ content. content.items ≡ compact_text (reply_data reply)) }
+{
+    match content_text(alloc, &reply) {
+        Ok(content) => Ok(content),
+        Err(_) => Err(AllocError),
     }
 }

@@ -173,8 +173,14 @@ impl<'n> Bench<'n> {
         let ours = socket_of(name)?;
         match self.shake(ours) {
             Ok(peer) => write!(self.text, " met {peer:?}.")?,
-            Err(end) => write!(self.text, " {end:?}.")?,
+            Err(end) => self.tell_end(end)?,
         }
+        Ok(())
+    }
+
+    /// Tells how an exchange ended.
+    fn tell_end(&mut self, end: SessionEnd) -> io::Result<()> {
+        write!(self.text, " {end:?}.")?;
         Ok(())
     }
 
@@ -201,7 +207,7 @@ impl<'n> Bench<'n> {
             "hear-on" => self.hear_on(),
             _ => return Ok(false),
         };
-        write!(self.text, " {end:?}.")?;
+        self.tell_end(end)?;
         Ok(true)
     }
 

@@ -2,13 +2,13 @@
 
 use crate::socket::Socket;
 use crossbeam_channel::{Receiver, SendError, Sender, unbounded};
-use kernel_engine::{Intake, hear, shake};
+use kernel_engine::{Intake, Shaken, hear, shake};
 use kernel_workers::{Job, Note};
 use listed::Frames;
 use std::alloc::{AllocError, Global};
 use std::sync::Wait;
 use std::thread;
-use std::thread::Threads;
+use std::thread::{JoinHandle, Threads};
 use zmtp_wire::{Counted, SocketType, Traffic, write_all, write_message};
 
 /// The most reads of one handshake, and of hearing behind it.
@@ -50,6 +50,16 @@ impl<R: Wait> Intake for Requests<R> {
     }
 }
 
+/// Hears a peer with whom hands were shaken, until its octets end or are refused, or the intake gives it up.
+pub(crate) fn hear_out<T: Intake>(
+    alloc: Global,
+    reader: &mut Counted<Socket>,
+    mut shaken: Shaken,
+    intake: &mut T,
+) {
+    let _ = hear(alloc, reader, &mut shaken, intake, TURNS);
+}
+
 /// Serves a peer of shell or control as a ROUTER: shakes hands with it, and puts each message that it sends into the
 /// inbox, while a second thread writes the replies. Returns when its octets ended or are refused, and all replies
 /// were written or a write failed.
@@ -65,20 +75,31 @@ where
 {
     let mut reader = Counted::new(reader);
     let mut writer = Counted::new(writer);
-    let Ok(mut shaken) = shake(alloc, &mut reader, &mut writer, SocketType::Router, TURNS) else {
+    let Ok(shaken) = shake(alloc, &mut reader, &mut writer, SocketType::Router, TURNS) else {
         return;
     };
-    let Ok((replies, due)) = unbounded(alloc) else {
-        return;
-    };
-    let Ok(writing) = thread::spawn(&rt, move || write_replies(rt, alloc, due, writer)) else {
+    let Some((replies, writing)) = start_replies(rt, alloc, writer) else {
         return;
     };
     let mut requests = Requests { rt, inbox, replies };
-    let _ = hear(alloc, &mut reader, &mut shaken, &mut requests, TURNS);
+    hear_out(alloc, &mut reader, shaken, &mut requests);
     // The writing thread ends once nobody is left who could reply.
     drop(requests);
     writing.join(&rt);
+}
+
+/// Where the replies to a peer go, and the thread that writes them. None where no memory or no thread is left.
+fn start_replies<R>(
+    rt: R,
+    alloc: Global,
+    writer: Counted<Socket>,
+) -> Option<(Sender<Frames>, JoinHandle<()>)>
+where
+    R: Threads + Wait + Copy + Send + Sync + Drop + 'static,
+{
+    let (replies, due) = unbounded(alloc).ok()?;
+    let writing = thread::spawn(&rt, move || write_replies(rt, alloc, due, writer)).ok()?;
+    Some((replies, writing))
 }
 
 /// Writes replies to a peer, until nobody is left who could send one, a write fails or there is no memory for a text.

@@ -137,16 +137,32 @@ where
     };
     let mut buffer = [0; ID_LENGTH];
     let session = session.hyphenated();
-    let session: &str = session.encode_lower(&mut buffer);
+    let (shell, control) = stamps_of(rt, alloc, session.encode_lower(&mut buffer))?;
+    let shell_in = inbox(alloc)?;
+    let control_in = inbox(alloc)?;
+    let door_in = inbox(alloc)?;
     Ok(Parts {
-        shell: (ShellArith::new(alloc), stamp_of(rt, alloc, session, "s")?),
-        control: (ShellArith::new(alloc), stamp_of(rt, alloc, session, "c")?),
+        shell: (ShellArith::new(alloc), shell),
+        control: (ShellArith::new(alloc), control),
         key,
         capacity: CAPACITY,
-        shell_in: inbox(alloc)?,
-        control_in: inbox(alloc)?,
-        door_in: inbox(alloc)?,
+        shell_in,
+        control_in,
+        door_in,
     })
+}
+
+/// The stamps of shell and control.
+fn stamps_of<R>(
+    rt: R,
+    alloc: Global,
+    session: &str,
+) -> Result<(KernelStamp<R>, KernelStamp<R>), AllocError>
+where
+    R: Copy + Drop,
+{
+    let shell = stamp_of(rt, alloc, session, "s")?;
+    Ok((shell, stamp_of(rt, alloc, session, "c")?))
 }
 
 /// The stamp of a channel, whose ids are told apart from the other's by a letter.
@@ -187,15 +203,13 @@ where
     let shell = Service::Requests(parts.shell_in.to.clone()?);
     let iopub = Service::Subscriptions(parts.door_in.to.clone()?);
     let control = Service::Requests(parts.control_in.to.clone()?);
-    acceptors.push(start(rt, alloc, Port::Shell, ports.shell, shell)?)?;
-    acceptors.push(start(rt, alloc, Port::Iopub, ports.iopub, iopub)?)?;
-    acceptors.push(start(rt, alloc, Port::Control, ports.control, control)?)?;
-    acceptors.push(start(
-        rt,
-        alloc,
-        Port::Heartbeat,
-        ports.heartbeat,
-        Service::Heartbeat,
-    )?)?;
+    for (port, listener, service) in [
+        (Port::Shell, ports.shell, shell),
+        (Port::Iopub, ports.iopub, iopub),
+        (Port::Control, ports.control, control),
+        (Port::Heartbeat, ports.heartbeat, Service::Heartbeat),
+    ] {
+        acceptors.push(start(rt, alloc, port, listener, service)?)?;
+    }
     Ok(())
 }

@@ -1,13 +1,13 @@
 //! Connections of IOPub: subscribers, who are written to by the relay alone.
 
 use crate::backlog::Backlog;
-use crate::connection::TURNS;
+use crate::connection::{TURNS, hear_out};
 use crate::feed::Feed;
 use crate::socket::Socket;
 use crossbeam_channel::{SendError, Sender};
 use iopub_event::Event;
 use iopub_relay::door_event;
-use kernel_engine::{Intake, hear, shake};
+use kernel_engine::{Intake, shake};
 use kernel_workers::Note;
 use std::alloc::{AllocError, Global};
 use std::sync::{Arc, Wait};
@@ -44,31 +44,40 @@ impl<R: Wait + Drop> Intake for Subscriptions<R> {
     ghost names = { λ _. [] };
 
     fn put(&mut self, traffic: Traffic) -> Result<bool, AllocError> {
-        let Some(event) = door_event(self.alloc, self.id, &traffic)? else {
-            return Ok(true);
-        };
+        match door_event(self.alloc, self.id, &traffic)? {
+            Some(event) => self.tell(event),
+            None => Ok(true),
+        }
+    }
+}
+
+impl<R: Wait + Drop> Subscriptions<R> {
+    /// Tells the door an event, and answers whether the door is still there.
+    ///
+    /// # Errors
+    ///
+    /// Where memory is refused.
+    fn tell(&self, event: Event<Writer<R>>) -> Result<bool, AllocError> {
         match self.door.send(&self.rt, Note::Job(event)) {
             Ok(()) => Ok(true),
             Err(SendError::Disconnected(_)) => Ok(false),
             Err(SendError::OutOfMemory(_)) => Err(AllocError),
         }
     }
-}
 
-impl<R: Wait + Drop> Subscriptions<R> {
     /// Tells the door that the subscriber came, and answers whether the door is still there.
     fn attach(&self, feed: Feed<R>) -> bool {
         let event = Event::Attach(self.id, Counted::new(feed));
-        self.door.send(&self.rt, Note::Job(event)).is_ok()
+        matches!(self.tell(event), Ok(true))
     }
 
     /// Tells the door that the subscriber left. Where memory is refused it is tried again; where the door is gone
     /// nothing is to be done.
     fn detach(&self) {
         for _ in self.rt.forever() {
-            match self.door.send(&self.rt, Note::Job(Event::Detach(self.id))) {
-                Err(SendError::OutOfMemory(_)) => thread::yield_now(),
-                Ok(()) | Err(SendError::Disconnected(_)) => return,
+            match self.tell(Event::Detach(self.id)) {
+                Ok(_) => return,
+                Err(AllocError) => thread::yield_now(),
             }
         }
         unreachable!()
@@ -91,7 +100,7 @@ where
 {
     let mut reader = Counted::new(reader);
     let mut writer = Counted::new(writer);
-    let Ok(mut shaken) = shake(alloc, &mut reader, &mut writer, SocketType::Pub, TURNS) else {
+    let Ok(shaken) = shake(alloc, &mut reader, &mut writer, SocketType::Pub, TURNS) else {
         return;
     };
     let Some((feed, writing)) = start_feed(rt, alloc, writer.into_inner()) else {
@@ -104,7 +113,7 @@ where
         door,
     };
     if subscriptions.attach(feed) {
-        let _ = hear(alloc, &mut reader, &mut shaken, &mut subscriptions, TURNS);
+        hear_out(alloc, &mut reader, shaken, &mut subscriptions);
         subscriptions.detach();
     }
     // The writing thread ends once the feed is dropped, which may be only with the last owner of the door's inbox.

@@ -10,12 +10,13 @@ use crate::ended::{Cause, Ended};
 use crate::flags::{Flags, Never};
 use crate::inbox::{Note, tell_end};
 use crate::job::Job;
+use crate::parts::ChannelParts;
 use crate::request::{after_fault, close, is_shutdown, open_request, reply};
 use crate::waking::Waking;
 use crossbeam_channel::{Receiver, Sender};
 use interp_core::Interpreter;
 use iopub_event::Event;
-use jmsg_envelope::{Signer, Stamp};
+use jmsg_envelope::Stamp;
 use kernel_block::{Engine, Side};
 use std::alloc::Global;
 use std::sync::Wait;
@@ -50,10 +51,7 @@ impl<W: Drop> ControlLines<W> {
 pub fn work_control<I, S, W, R>(
     rt: R,
     alloc: Global,
-    interp: I,
-    stamp: S,
-    signer: Signer,
-    sink: Waking<Event<W>, R>,
+    parts: ChannelParts<I, S, W, R>,
     lines: ControlLines<W>,
 ) -> Ended<W>
 where
@@ -62,10 +60,16 @@ where
     S: Stamp + Drop,
     W: Drop,
     R: Wait + Drop,
-    requires { sink.published ≡ [] }
-    ensures { EndsBlocked I.meaning (S.is_date (S.meaning stamp)) Control
-        (sealing_by S.meaning S.id_text signer stamp) sink result.closed }
+    requires { parts.sink.published ≡ [] }
+    ensures { EndsBlocked I.meaning (S.is_date (S.meaning parts.stamp)) Control
+        (sealing_by S.meaning S.id_text parts.signer parts.stamp) parts.sink result.closed }
 {
+    let ChannelParts {
+        interp,
+        stamp,
+        signer,
+        sink,
+    } = parts;
     let mut engine = Engine::new(Side::Control, interp, sink, stamp, signer);
     let mut shell_ended = false;
     let cause = serve(&rt, alloc, &mut engine, &lines, &mut shell_ended);

@@ -18,6 +18,8 @@ mod request;
 mod running;
 mod shell;
 mod spawning;
+mod staging;
+mod starting;
 mod waking;
 
 pub use control::{ControlLines, work_control};
@@ -27,7 +29,7 @@ pub use fault::KernelFault;
 pub use flags::Flags;
 pub use inbox::{Inbox, Note};
 pub use job::Job;
-pub use parts::Parts;
+pub use parts::{ChannelParts, Parts};
 pub use promises::{ClosesBlocked, ClosesSilent, ServesOn};
 pub use relaying::{RelayEnd, RelayLines, work_relay};
 pub use running::{KernelEnd, run_kernel};

@@ -1,8 +1,10 @@
-//! What a kernel runs on.
+//! What a kernel runs on, and what its workers own.
 
 use crate::inbox::Inbox;
 use crate::job::Job;
+use crate::waking::Waking;
 use iopub_event::Event;
+use jmsg_envelope::Signer;
 
 /// What a kernel runs on: interpreters `I`, stamps `S` for ids and dates, and writers `W` of subscribers.
 #[derive(Drop)]
@@ -21,4 +23,17 @@ pub struct Parts<I, S, W> {
     pub control_in: Inbox<Job>,
     /// What subscribers come, ask for and leave by.
     pub door_in: Inbox<Event<W>>,
+}
+
+/// What a worker of shell or control owns.
+#[derive(Drop)]
+pub struct ChannelParts<I, S, W, R> {
+    /// What runs its cells.
+    pub interp: I,
+    /// Where its ids and dates come from.
+    pub stamp: S,
+    /// What its messages are signed with.
+    pub signer: Signer,
+    /// What it publishes by.
+    pub sink: Waking<Event<W>, R>,
 }

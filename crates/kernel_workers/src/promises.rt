@@ -1,6 +1,9 @@
 //! The promises of the workers, which hold behind a join.
 
+ghost use Rattle.kernel_workers.specs.Staging.{Promises};
+
 use crate::ended::Ended;
+use crate::parts::ChannelParts;
 use crate::waking::Waking;
 use interp_core::Interpreter;
 use iopub_event::Event;
@@ -27,6 +30,21 @@ pub struct ClosesBlocked<I, S, W, R> {
     pub sink: Snapshot<Waking<Event<W>, R>>,
     /// What runs its cells.
     pub interp: PhantomData<I>,
+}
+
+impl<I, S, W, R> ClosesBlocked<I, S, W, R> {
+    /// The promise of a worker of this channel that owns these parts.
+    pub(crate) fn of(side: Side, parts: &ChannelParts<I, S, W, R>) -> ClosesBlocked<I, S, W, R>
+        ensures { Promises side parts.now result }
+    {
+        ClosesBlocked {
+            side,
+            signer: Snapshot::of(&parts.signer),
+            stamp: Snapshot::of(&parts.stamp),
+            sink: Snapshot::of(&parts.sink),
+            interp: PhantomData,
+        }
+    }
 }
 
 impl<I: Interpreter, S: Stamp, W, R> Promise<Ended<W>> for ClosesBlocked<I, S, W, R> {

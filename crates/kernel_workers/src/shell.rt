@@ -10,12 +10,13 @@ use crate::ended::{Cause, Ended};
 use crate::flags::Flags;
 use crate::inbox::{Note, tell_end};
 use crate::job::Job;
+use crate::parts::ChannelParts;
 use crate::request::{after_fault, close, open_request, reply};
 use crate::waking::Waking;
 use crossbeam_channel::{Receiver, Sender};
 use interp_core::Interpreter;
 use iopub_event::Event;
-use jmsg_envelope::{Signer, Stamp};
+use jmsg_envelope::Stamp;
 use kernel_block::{Engine, Side};
 use std::alloc::Global;
 use std::sync::Wait;
@@ -39,10 +40,7 @@ pub struct ShellLines {
 pub fn work_shell<I, S, W, R>(
     rt: R,
     alloc: Global,
-    interp: I,
-    stamp: S,
-    signer: Signer,
-    sink: Waking<Event<W>, R>,
+    parts: ChannelParts<I, S, W, R>,
     lines: ShellLines,
 ) -> Ended<W>
 where
@@ -51,10 +49,16 @@ where
     S: Stamp + Drop,
     W: Drop,
     R: Wait + Drop,
-    requires { sink.published ≡ [] }
-    ensures { EndsBlocked I.meaning (S.is_date (S.meaning stamp)) Shell
-        (sealing_by S.meaning S.id_text signer stamp) sink result.closed }
+    requires { parts.sink.published ≡ [] }
+    ensures { EndsBlocked I.meaning (S.is_date (S.meaning parts.stamp)) Shell
+        (sealing_by S.meaning S.id_text parts.signer parts.stamp) parts.sink result.closed }
 {
+    let ChannelParts {
+        interp,
+        stamp,
+        signer,
+        sink,
+    } = parts;
     let mut engine = Engine::new(Side::Shell, interp, sink, stamp, signer);
     start(alloc, &mut engine);
     let cause = serve(&rt, alloc, &mut engine, &lines);

@@ -3,11 +3,13 @@
 
 ghost use Rattle.std.specs.Prelude.{◌≡◌, [], IfSome};
 ghost use Rattle.kernel_block.specs.declared.side.Side.TheVariants.{Shell, Control};
+ghost use Rattle.kernel_workers.specs.Staging.{Promises};
 
 use crate::control::{ControlLines, work_control};
 use crate::door::work_door;
 use crate::ended::Ended;
 use crate::inbox::Note;
+use crate::parts::ChannelParts;
 use crate::promises::{ClosesBlocked, ClosesSilent, ServesOn};
 use crate::relaying::{RelayLines, work_relay};
 use crate::shell::{ShellLines, work_shell};
@@ -17,10 +19,9 @@ use interp_core::Interpreter;
 use iopub_event::Event;
 use iopub_queue::Closed;
 use iopub_relay::Relay;
-use jmsg_envelope::{Signer, Stamp};
+use jmsg_envelope::Stamp;
 use kernel_block::Side;
 use std::alloc::Global;
-use std::marker::PhantomData;
 use std::snapshot::Snapshot;
 use std::sync::Wait;
 use std::thread;
@@ -31,10 +32,7 @@ use zmtp_wire::Outlet;
 pub fn spawn_shell<I, S, W, R>(
     rt: R,
     alloc: Global,
-    interp: I,
-    stamp: S,
-    signer: Signer,
-    sink: Waking<Event<W>, R>,
+    parts: ChannelParts<I, S, W, R>,
     lines: ShellLines,
 ) -> Option<PromisedHandle<Ended<W>, ClosesBlocked<I, S, W, R>>>
 where
@@ -43,22 +41,11 @@ where
     S: Stamp + Drop + Send + 'static,
     W: Drop + Send + 'static,
     R: Threads + Wait + Copy + Send + Sync + Drop + 'static,
-    requires { sink.published ≡ [] }
-    ensures side { IfSome result (λ handle. handle.promise.side ≡ Shell) }
-    ensures signer { IfSome result (λ handle. handle.promise.signer.value ≡ signer) }
-    ensures stamp { IfSome result (λ handle. handle.promise.stamp.value ≡ stamp) }
-    ensures sink { IfSome result (λ handle. handle.promise.sink.value ≡ sink) }
+    requires { parts.sink.published ≡ [] }
+    ensures { IfSome result (λ handle. Promises Shell parts handle.promise) }
 {
-    let promise = ClosesBlocked {
-        side: Side::Shell,
-        signer: Snapshot::of(&signer),
-        stamp: Snapshot::of(&stamp),
-        sink: Snapshot::of(&sink),
-        interp: PhantomData,
-    };
-    match thread::spawn_with(&rt, promise, move || {
-        work_shell(rt, alloc, interp, stamp, signer, sink, lines)
-    }) {
+    let promise = ClosesBlocked::of(Side::Shell, &parts);
+    match thread::spawn_with(&rt, promise, move || work_shell(rt, alloc, parts, lines)) {
         Ok(handle) => Some(handle),
         Err(_) => None,
     }
@@ -68,10 +55,7 @@ where
 pub fn spawn_control<I, S, W, R>(
     rt: R,
     alloc: Global,
-    interp: I,
-    stamp: S,
-    signer: Signer,
-    sink: Waking<Event<W>, R>,
+    parts: ChannelParts<I, S, W, R>,
     lines: ControlLines<W>,
 ) -> Option<PromisedHandle<Ended<W>, ClosesBlocked<I, S, W, R>>>
 where
@@ -80,22 +64,11 @@ where
     S: Stamp + Drop + Send + 'static,
     W: Drop + Send + 'static,
     R: Threads + Wait + Copy + Send + Sync + Drop + 'static,
-    requires { sink.published ≡ [] }
-    ensures side { IfSome result (λ handle. handle.promise.side ≡ Control) }
-    ensures signer { IfSome result (λ handle. handle.promise.signer.value ≡ signer) }
-    ensures stamp { IfSome result (λ handle. handle.promise.stamp.value ≡ stamp) }
-    ensures sink { IfSome result (λ handle. handle.promise.sink.value ≡ sink) }
+    requires { parts.sink.published ≡ [] }
+    ensures { IfSome result (λ handle. Promises Control parts handle.promise) }
 {
-    let promise = ClosesBlocked {
-        side: Side::Control,
-        signer: Snapshot::of(&signer),
-        stamp: Snapshot::of(&stamp),
-        sink: Snapshot::of(&sink),
-        interp: PhantomData,
-    };
-    match thread::spawn_with(&rt, promise, move || {
-        work_control(rt, alloc, interp, stamp, signer, sink, lines)
-    }) {
+    let promise = ClosesBlocked::of(Side::Control, &parts);
+    match thread::spawn_with(&rt, promise, move || work_control(rt, alloc, parts, lines)) {
         Ok(handle) => Some(handle),
         Err(_) => None,
     }

@@ -9,12 +9,13 @@ mod shell;
 
 ghost use Rattle.std.specs.Prelude.{◌≡◌, [], IfOk};
 
+use arith_shell::ShellArith;
 use crossbeam_channel::{Receiver, Sender, unbounded};
 use crossbeam_utils::sync::{Parker, Unparker};
 use iopub_event::Event;
 use iopub_queue::{Taken, Taker, open_queue};
-use jmsg_envelope::Stamp;
-use kernel_workers::{Job, Note, Waking};
+use jmsg_envelope::{Signer, Stamp};
+use kernel_workers::{ChannelParts, Job, Note, Waking};
 use listed::Frames;
 use std::alloc::{AllocError, Global};
 use std::process::Abort;
@@ -98,6 +99,21 @@ impl<R: Wait + Copy + Drop> Queue<R> {
             taker,
             parker,
         })
+    }
+}
+
+/// What a worker that publishes by a sink owns: arithmetic, and no key.
+fn arith_parts<R>(
+    alloc: Global,
+    sink: Waking<Event<()>, R>,
+) -> ChannelParts<ShellArith, OneDate, (), R>
+    ensures { result.sink ≡ sink }
+{
+    ChannelParts {
+        interp: ShellArith::new(alloc),
+        stamp: OneDate,
+        signer: Signer::new(Vec::new(alloc)),
+        sink,
     }
 }
 

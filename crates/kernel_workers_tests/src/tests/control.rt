@@ -1,8 +1,6 @@
 //! Control beside shell and the door: it interrupts a cell, and ends all.
 
 use super::*;
-use arith_shell::ShellArith;
-use jmsg_envelope::Signer;
 use kernel_workers::{ControlLines, Flags, ShellLines, spawn_control, spawn_door, spawn_shell};
 use std::thread;
 
@@ -139,16 +137,10 @@ fn control_interrupts_a_cell_and_ends_all_in_order(rt: HostRuntime) -> Result<()
         mut taker,
         parker,
     } = Queue::open(&rt, alloc, 2)?;
-    let key = Signer::new(Vec::new(alloc));
-    let arith = ShellArith::new(alloc);
-    let shell = spawn_shell(rt, alloc, arith, OneDate, key, shell, wires.shell).expect(
-        &rt, "a thread",
-    );
-    let key = Signer::new(Vec::new(alloc));
-    let arith = ShellArith::new(alloc);
-    let control = spawn_control(rt, alloc, arith, OneDate, key, control, wires.control).expect(
-        &rt, "a thread",
-    );
+    let parts = arith_parts(alloc, shell);
+    let shell = spawn_shell(rt, alloc, parts, wires.shell).expect(&rt, "a thread");
+    let parts = arith_parts(alloc, control);
+    let control = spawn_control(rt, alloc, parts, wires.control).expect(&rt, "a thread");
     let door = spawn_door(rt, door, wires.door).expect(&rt, "a thread");
     let peers = (&wires.to_shell, &wires.to_control);
     let seen = converse(&rt, alloc, peers, &mut taker, &parker)?;

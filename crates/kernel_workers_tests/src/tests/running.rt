@@ -4,7 +4,6 @@ use super::*;
 use crate::tests::control::INTERRUPTED;
 use crate::tests::long::Long;
 use crate::tests::shell::{ASKED, INFO, SHUTDOWN};
-use arith_shell::ShellArith;
 use kernel_workers::{Inbox, KernelEnd, Parts, run_kernel};
 use listed::Octets;
 use std::sync::Arc;

@@ -1,8 +1,6 @@
 //! Shell in a thread of its own, with nobody else.
 
 use super::*;
-use arith_shell::ShellArith;
-use jmsg_envelope::Signer;
 use kernel_workers::{Flags, ShellLines, spawn_shell};
 
 /// What the kernel says of itself.
@@ -139,11 +137,8 @@ fn shell_replies_until_a_client_ends_it(rt: HostRuntime) -> Result<(), Fail> {
     } = Queue::open(&rt, alloc, 3)?;
     let _ = control.close();
     let _ = door.close();
-    let arith = ShellArith::new(alloc);
-    let signer = Signer::new(Vec::new(alloc));
-    let shell = spawn_shell(rt, alloc, arith, OneDate, signer, shell, lines).expect(
-        &rt, "a thread",
-    );
+    let parts = arith_parts(alloc, shell);
+    let shell = spawn_shell(rt, alloc, parts, lines).expect(&rt, "a thread");
     converse(&rt, alloc, &outside, &mut taker, &parker)?;
     assert_eq!(rt; shell.join(&rt).restart, Some(true));
     Ok(())

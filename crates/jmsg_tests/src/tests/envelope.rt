@@ -1,6 +1,8 @@
 //! Known codes of RFC 4231, envelopes judged, headers, and the words of faults.
 
-use super::*;
+use jmsg_envelope::{
+    Envelope, EnvelopeFault, Signer, Stamp, header_text, hmac_sha256, open_envelope, seal,
+};
 use std::alloc::{AllocError, Global};
 use std::test::Fail;
 
@@ -69,41 +71,59 @@ fn frames_of(alloc: Global, bodies: &[&[u8]]) -> Result<Vec<Vec<u8>>, AllocError
     Ok(frames)
 }
 
-#[test]
-fn what_is_sealed_is_opened(rt: HostRuntime) -> Result<(), Fail> {
-    let alloc = rt.alloc();
-    let signer = Signer::new(b"secret".to_vec(alloc)?);
-    let frames = seal(
+/// The frames of a message that is sealed.
+fn sealed(alloc: Global, signer: &Signer) -> Result<Vec<Vec<u8>>, Fail> {
+    Ok(seal(
         alloc,
-        &signer,
+        signer,
         frames_of(alloc, &[b"peer"])?,
         HEADER.to_vec(alloc)?,
         b"{}".to_vec(alloc)?,
         b"{}".to_vec(alloc)?,
         b"{}".to_vec(alloc)?,
         frames_of(alloc, &[b"<IDS|MSG>"])?,
-    )?;
-    let wanted: [&[u8]; 8] = [
-        b"peer",
-        b"<IDS|MSG>",
-        DIGITS,
-        HEADER,
-        b"{}",
-        b"{}",
-        b"{}",
-        b"<IDS|MSG>",
-    ];
-    assert_eq!(rt; frames.len(), wanted.len());
-    for (frame, body) in frames.iter().zip(wanted) {
-        assert_eq!(rt; frame.as_slice(), body);
+    )?)
+}
+
+/// The frames of the message that `sealed` seals.
+const SEALED: &[&[u8]] = &[
+    b"peer",
+    b"<IDS|MSG>",
+    DIGITS,
+    HEADER,
+    b"{}",
+    b"{}",
+    b"{}",
+    b"<IDS|MSG>",
+];
+
+/// Whether these frames have these octets.
+fn have(frames: &[Vec<u8>], bodies: &[&[u8]]) -> bool {
+    for (frame, body) in frames.iter().zip(bodies) {
+        if frame.as_slice() != *body {
+            return false;
+        }
     }
-    let envelope = open_envelope(alloc, &signer, frames)?;
-    assert_eq!(rt; envelope.identities.len(), 1);
-    assert_eq!(rt; envelope.msg_id.as_str(), "a1");
-    assert_eq!(rt; envelope.msg_type.as_str(), "kernel_info_request");
-    assert_eq!(rt; envelope.header.as_slice(), HEADER);
-    assert_eq!(rt; envelope.content.as_slice(), b"{}".as_slice());
-    assert_eq!(rt; envelope.buffers.len(), 1);
+    frames.len() == bodies.len()
+}
+
+/// Whether an envelope is that of the message which was sealed.
+fn is_as_sealed(envelope: &Envelope) -> bool {
+    envelope.identities.len() == 1
+        && envelope.msg_id.as_str() == "a1"
+        && envelope.msg_type.as_str() == "kernel_info_request"
+        && envelope.header.as_slice() == HEADER
+        && envelope.content.as_slice() == b"{}".as_slice()
+        && envelope.buffers.len() == 1
+}
+
+#[test]
+fn what_is_sealed_is_opened(rt: HostRuntime) -> Result<(), Fail> {
+    let signer = Signer::new(b"secret".to_vec(rt.alloc())?);
+    let frames = sealed(rt.alloc(), &signer)?;
+    assert!(rt; have(&frames, SEALED), "{frames:?}");
+    let envelope = open_envelope(rt.alloc(), &signer, frames)?;
+    assert!(rt; is_as_sealed(&envelope), "{envelope:?}");
     Ok(())
 }
 

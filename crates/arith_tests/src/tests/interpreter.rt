@@ -1,9 +1,6 @@
-//! Tests of shell arithmetic as an interpreter.
+//! Cells that are run to their end, and long texts.
 
-mod cells;
-mod words;
-
-use crate::ShellArith;
+use arith_shell::ShellArith;
 use interp_core::{InterpFault, Interpreter, Next, Output, Stepped};
 use std::alloc::Global;
 use std::test::Fail;

@@ -1,6 +1,6 @@
 //! The words of faults.
 
-use crate::ValueFault;
+use arith_value::ValueFault;
 use std::alloc::AllocError;
 use std::test::Fail;
 

@@ -1,7 +1,7 @@
 //! Cells, and what they write.
 
-use super::{fresh, repeated, run};
-use crate::ShellArith;
+use crate::tests::interpreter::{fresh, repeated, run};
+use arith_shell::ShellArith;
 use interp_core::{InterpFault, Interpreter, Next, Output, Stepped};
 use std::alloc::Global;
 use std::test::Fail;
@@ -336,13 +336,13 @@ fn hostile_texts_get_their_fault(rt: HostRuntime) -> Result<(), Fail> {
 
 #[test]
 fn a_hundred_thousand_statements_run(rt: HostRuntime) -> Result<(), Fail> {
-    let alloc = rt.alloc();
-    let code = repeated(alloc, "1;", 100_000, "")?;
-    let mut arithmetic = ShellArith::new(alloc);
-    let cell = arithmetic.begin(alloc, code.as_str())?;
+    let code = repeated(rt.alloc(), "1;", 100_000, "")?;
+    let wanted = repeated(rt.alloc(), "1\n", 99_999, "= 1")?;
+    let written = fresh(rt.alloc(), code.as_str())?;
+    assert!(rt; written.as_str() == wanted.as_str());
+    let mut arithmetic = ShellArith::new(rt.alloc());
+    let cell = arithmetic.begin(rt.alloc(), code.as_str())?;
     assert_eq!(rt; arithmetic.steps_left(&cell), 100_000);
-    let wanted = repeated(alloc, "1\n", 99_999, "= 1")?;
-    assert!(rt; fresh(alloc, code.as_str())?.as_str() == wanted.as_str());
     Ok(())
 }
 

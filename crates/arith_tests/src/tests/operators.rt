@@ -1,7 +1,7 @@
 //! The values of operators.
 
-use crate::{ValueFault, apply, unary};
 use arith_syntax::{BinaryOperator, UnaryOperator};
+use arith_value::{ValueFault, apply, unary};
 use std::process::Abort;
 
 /// An operator, its operands, and its value or its fault.

@@ -1,6 +1,6 @@
 //! The variables of a shell.
 
-use crate::Variables;
+use arith_value::Variables;
 use std::test::Fail;
 
 #[test]
@@ -13,11 +13,13 @@ fn names_are_listed_in_order(rt: HostRuntime) -> Result<(), Fail> {
     assert_eq!(rt; variables.get("c"), None);
     assert_eq!(rt; variables.read("c"), 0);
     assert_eq!(rt; variables.get("aa"), Some(3));
-    let mut found = String::new(alloc);
-    for name in &variables.names_beginning(alloc, "a")? {
-        found.push_str(name.as_str())?;
-        found.push(' ')?;
-    }
-    assert_eq!(rt; found.as_str(), "a aa ab ");
+    let found = variables.names_beginning(alloc, "a")?;
+    assert!(rt;
+        found
+            .iter()
+            .map(|name| name.as_str())
+            .eq(["a", "aa", "ab"].iter().copied()),
+        "{found:?}"
+    );
     Ok(())
 }

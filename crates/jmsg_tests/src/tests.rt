@@ -1,7 +1,8 @@
-//! What no contract says: contents as 'Messaging in Jupyter' has them, and what is printed of others. What contents of
-//! requests are read as stands in `jmsg_types_cases`, as a table.
+//! What no contract says: envelopes and contents as 'Messaging in Jupyter' has them, and what is printed of others.
+//! What contents of requests are read as stands in `jmsg_types_cases`, as a table.
 
 mod codes;
+mod envelope;
 mod publications;
 mod replies;
 mod types;

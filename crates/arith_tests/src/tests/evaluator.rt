@@ -1,7 +1,7 @@
 //! The values of expressions, and the variables after them.
 
-use crate::{ValueFault, Variables, evaluate};
 use arith_syntax::{AssignmentOperator, BinaryOperator, Expression, UnaryOperator};
+use arith_value::{ValueFault, Variables, evaluate};
 use listed::Text;
 use std::alloc::{AllocFailed, Global};
 use std::test::Fail;

@@ -1,4 +1,0 @@
-//! Tests of the grammar.
-
-mod lexer;
-mod parser;

@@ -1,0 +1,5 @@
+//! Tests of `arith_syntax`, `arith_value` and `arith_shell`, apart from them, so that each is proved once.
+#![tactic(auto)]
+
+#[cfg(test)]
+mod tests;

@@ -1,0 +1,176 @@
+//! The workers of a kernel, started one after the other. Where a thread can't be made, those that were are ended and
+//! joined, the last first: each function does so with what it started itself.
+
+ghost use Rattle.std.specs.Prelude.{◌≡◌, [], IfErr, IfOk, IfSome};
+ghost use Rattle.kernel_block.specs.declared.side.Side.TheVariants.{Shell, Control};
+ghost use Rattle.kernel_workers.specs.Staging.{Promises};
+
+use crate::ended::Ended;
+use crate::fault::KernelFault;
+use crate::inbox::tell_end;
+use crate::parts::ChannelParts;
+use crate::promises::{ClosesBlocked, ClosesSilent, ServesOn};
+use crate::relaying::RelayEnd;
+use crate::spawning::{spawn_control, spawn_door, spawn_relay, spawn_shell};
+use crate::staging::{ChannelLines, Lines, Stage};
+use crate::waking::Waking;
+use interp_core::Interpreter;
+use iopub_event::Event;
+use iopub_queue::Closed;
+use iopub_relay::Relay;
+use jmsg_envelope::Stamp;
+use std::alloc::Global;
+use std::sync::Wait;
+use std::thread::{PromisedHandle, Threads};
+use zmtp_wire::Outlet;
+
+/// The workers of shell and control in their threads.
+struct ChannelWorkers<I: Interpreter, S: Stamp, W, R> {
+    /// Shell's.
+    shell: PromisedHandle<Ended<W>, ClosesBlocked<I, S, W, R>>,
+    /// Control's.
+    control: PromisedHandle<Ended<W>, ClosesBlocked<I, S, W, R>>,
+}
+
+/// The workers that publish in their threads.
+struct PublishingWorkers<I: Interpreter, S: Stamp, W, R> {
+    /// Those of shell and control.
+    channels: ChannelWorkers<I, S, W, R>,
+    /// The door's.
+    door: PromisedHandle<Closed<Event<W>>, ClosesSilent<W, R>>,
+}
+
+/// The workers of a kernel in their threads.
+pub(crate) struct Workers<I: Interpreter, S: Stamp, W: Outlet, R> {
+    /// Shell's.
+    pub(crate) shell: PromisedHandle<Ended<W>, ClosesBlocked<I, S, W, R>>,
+    /// Control's.
+    pub(crate) control: PromisedHandle<Ended<W>, ClosesBlocked<I, S, W, R>>,
+    /// The door's.
+    pub(crate) door: PromisedHandle<Closed<Event<W>>, ClosesSilent<W, R>>,
+    /// The relay's.
+    pub(crate) relay: PromisedHandle<Relay<W, R>, ServesOn<W, R>>,
+    /// By which the relay's worker is told to end.
+    pub(crate) relay_end: RelayEnd,
+}
+
+/// Starts the workers of control and shell. None where a thread can't be made; then control's was ended and joined.
+fn start_channels<I, S, W, R>(
+    rt: R,
+    alloc: Global,
+    shell: ChannelParts<I, S, W, R>,
+    control: ChannelParts<I, S, W, R>,
+    lines: ChannelLines<W>,
+) -> Option<ChannelWorkers<I, S, W, R>>
+where
+    I: Interpreter + Drop + Send + 'static,
+    I::Cell: Drop + Send + 'static,
+    S: Stamp + Drop + Send + 'static,
+    W: Drop + Send + 'static,
+    R: Threads + Wait + Copy + Send + Sync + Drop + 'static,
+    requires shell { shell.sink.published ≡ [] }
+    requires control { control.sink.published ≡ [] }
+    ensures shell { IfSome result (λ workers. Promises Shell shell workers.shell.promise) }
+    ensures control { IfSome result (λ workers. Promises Control control workers.control.promise) }
+{
+    let control = spawn_control(rt, alloc, control, lines.control)?;
+    match spawn_shell(rt, alloc, shell, lines.shell) {
+        Some(shell) => Some(ChannelWorkers { shell, control }),
+        None => {
+            tell_end(&rt, &lines.to_control);
+            control.join(&rt);
+            None
+        }
+    }
+}
+
+/// Starts the workers that publish. None where a thread can't be made; then those that were are ended and joined.
+fn start_publishing<I, S, W, R>(
+    rt: R,
+    alloc: Global,
+    shell: ChannelParts<I, S, W, R>,
+    control: ChannelParts<I, S, W, R>,
+    door: Waking<Event<W>, R>,
+    lines: Lines<W>,
+) -> Option<PublishingWorkers<I, S, W, R>>
+where
+    I: Interpreter + Drop + Send + 'static,
+    I::Cell: Drop + Send + 'static,
+    S: Stamp + Drop + Send + 'static,
+    W: Drop + Send + 'static,
+    R: Threads + Wait + Copy + Send + Sync + Drop + 'static,
+    requires shell { shell.sink.published ≡ [] }
+    requires control { control.sink.published ≡ [] }
+    requires door { door.published ≡ [] }
+    ensures shell { IfSome result (λ workers. Promises Shell shell workers.channels.shell.promise) }
+    ensures control { IfSome result (λ workers. Promises Control control workers.channels.control.promise) }
+    ensures door { IfSome result (λ workers. workers.door.promise.sink.value ≡ door) }
+{
+    let door = spawn_door(rt, door, lines.door)?;
+    match start_channels(rt, alloc, shell, control, lines.channels) {
+        Some(channels) => Some(PublishingWorkers { channels, door }),
+        None => {
+            tell_end(&rt, &lines.to_door);
+            door.join(&rt);
+            None
+        }
+    }
+}
+
+/// Starts the workers of a kernel.
+///
+/// # Errors
+///
+/// `NoThread` where a thread can't be made. Then those that were are ended and joined.
+pub(crate) fn start<I, S, W, R>(
+    rt: R,
+    alloc: Global,
+    stage: Stage<I, S, W, R>,
+) -> Result<Workers<I, S, W, R>, KernelFault>
+where
+    I: Interpreter + Drop + Send + 'static,
+    I::Cell: Drop + Send + 'static,
+    S: Stamp + Drop + Send + 'static,
+    W: Outlet + Drop + Send + 'static,
+    R: Threads + Wait + Copy + Send + Sync + Drop + 'static,
+    requires shell { stage.shell.sink.published ≡ [] }
+    requires control { stage.control.sink.published ≡ [] }
+    requires door { stage.door.published ≡ [] }
+    ensures shell { IfOk result (λ workers. Promises Shell stage.shell workers.shell.promise) }
+    ensures control { IfOk result (λ workers. Promises Control stage.control workers.control.promise) }
+    ensures door { IfOk result (λ workers. workers.door.promise.sink.value ≡ stage.door) }
+    ensures relay { IfOk result (λ workers. workers.relay.promise.relay.value ≡ stage.relay) }
+    ensures refused { IfErr result (λ fault. fault ≡ KernelFault.NoThread) }
+{
+    let Stage {
+        shell,
+        control,
+        door,
+        relay,
+        relay_lines,
+        relay_end,
+        lines,
+    } = stage;
+    let Some(relay) = spawn_relay(rt, relay, relay_lines) else {
+        return Err(KernelFault::NoThread);
+    };
+    match start_publishing(rt, alloc, shell, control, door, lines) {
+        Some(
+            PublishingWorkers {
+                channels: ChannelWorkers { shell, control },
+                door,
+            },
+        ) => Ok(Workers {
+            shell,
+            control,
+            door,
+            relay,
+            relay_end,
+        }),
+        None => {
+            relay_end.end();
+            relay.join(&rt);
+            Err(KernelFault::NoThread)
+        }
+    }
+}
