@@ -5,10 +5,11 @@ use Rattle.std.specs.Prelude.{IfSome}
 use Rattle.std.proofs.lemmas.List.{append-nil}
 use Rattle.std.specs.Io.BufRead.{drop_through}
 use Rattle.std.specs.Io.KnownBytes.{Appends, Keeps}
+use Rattle.std.proofs.KnownBytes.{Appends-nil, Appends-kept}
 use Rattle.interp_core.specs.Interpreter.{Meaning}
 use Rattle.arith_cells.specs.Printed.{InputPrints, LinePrints, Prints}
 use Rattle.arith_cells.specs.Printed.InputPrints.{end, next_line}
-use Rattle.arith_cells.proofs.PrintedLemmas.{appends_nothing, appends_then, appends_kept}
+use Rattle.arith_cells.proofs.PrintedLemmas.{appends_then}
 
 -- what was printed so far stands in front of what the lines that are left print
 pub record IsUnderway {State Cell : Type 0} (m : Meaning State Cell) (start : State) (input : List ℕ)
@@ -28,7 +29,7 @@ not_underway m start known (Some input) = record {
   rest = input;
   left = refl;
   text = [];
-  appended = appends_nothing known;
+  appended = Appends-nil known;
   in_front = λ behind final printed. printed;
 }
 
@@ -75,7 +76,7 @@ line_last {State = State} m goes start state after old middle new last (Some inp
     (begun.in_front [] state same) in
     record {
       text = begun.text;
-      appended = appends_kept old new last begun.text (subst (λ (o : Option (List ℕ)). Appends old o begun.text)
+      appended = Appends-kept old new last begun.text (subst (λ (o : Option (List ℕ)). Appends old o begun.text)
           (sym line.1) begun.appended) kept;
       said = subst (λ (s : State). InputPrints m start input begun.text s) (sym line.2) whole;
     }

@@ -1,8 +1,7 @@
 -- What is printed in turn.
-use Rattle.std.proofs.Common.{◌≡◌, ℕ, List, [], ◌++◌, true, false, Option, Some, None, OnOk, Result, Ok, Err, refl}
-use Rattle.std.proofs.Common.{sym, ap, ◌∙◌, append_assoc}
-use Rattle.std.proofs.lemmas.List.{append-nil}
-use Rattle.std.specs.Io.KnownBytes.{Appends, Keeps}
+use Rattle.std.proofs.Common.{◌≡◌, ℕ, List, ◌++◌, true, false, Option, OnOk, Result, Ok, Err, refl}
+use Rattle.std.specs.Io.KnownBytes.{Appends}
+use Rattle.std.proofs.KnownBytes.{Appends-trans}
 use Rattle.interp_core.specs.declared.fault.InterpFault.{InterpFault}
 use Rattle.interp_core.specs.declared.fault.InterpFault.TheVariants as fault
 use Rattle.interp_core.specs.declared.answer.Next.{Next}
@@ -10,19 +9,10 @@ use Rattle.interp_core.specs.declared.answer.Next.TheVariants.{More, Done, Faile
 use Rattle.interp_core.specs.Interpreter.{ByMemory, IfMemory, IsEnd}
 use Rattle.arith_cells.specs.Printed.{FoundMemory, IsReported, goes_on}
 
--- nothing was printed yet
-pub appends_nothing : (known : Option (List ℕ)) → Appends known known []
-appends_nothing None = tt
-appends_nothing (Some xs) = sym (append-nil xs)
-
 -- one text after another
 pub appends_then : (first middle last : Option (List ℕ)) (text more : List ℕ) → Appends first middle text
     → Appends middle last more → Appends first last (text ++ more)
-appends_then None middle last text more before after = tt
-appends_then (Some xs) None last text more before after = absurd before
-appends_then (Some xs) (Some ys) None text more before after = after
-appends_then (Some xs) (Some ys) (Some zs) text more before after = after ∙ ap (λ (t : List ℕ). t ++ more) before
-    ∙ append_assoc xs text more
+appends_then = Appends-trans
 
 -- what is known of a step that didn't fail for want of memory
 pub of_answered : (next : Next) (memory other : Type 0) → FoundMemory next → ByMemory next memory other → other
@@ -67,14 +57,6 @@ follows (Err e) P Q p f = tt
 pub both_follow : {T E : Type 0} (r : Result T E) (P Q R : Type 0) → OnOk r P → OnOk r Q → (P → Q → R) → OnOk r R
 both_follow (Ok v) P Q R p q f = f p q
 both_follow (Err e) P Q R p q f = tt
-
--- a text that was printed stays
-pub appends_kept : (first middle last : Option (List ℕ)) (text : List ℕ) → Appends first middle text → Keeps middle last
-    → Appends first last text
-appends_kept None middle last text before kept = tt
-appends_kept (Some xs) None last text before kept = absurd before
-appends_kept (Some xs) (Some ys) None text before kept = absurd kept
-appends_kept (Some xs) (Some ys) (Some zs) text before kept = kept ∙ before
 
 -- a fact that holds anyway holds on success
 pub on_success : {T E : Type 0} (r : Result T E) (P : Type 0) → P → OnOk r P

@@ -2,11 +2,12 @@
 use Rattle.std.proofs.Common.{◌≡◌, ℕ, List, [], ◌++◌, true, false, Option, subst, sym, append_assoc}
 use Rattle.std.proofs.lemmas.List.{append-nil}
 use Rattle.std.specs.Io.KnownBytes.{Appends}
+use Rattle.std.proofs.KnownBytes.{Appends-nil}
 use Rattle.interp_core.specs.declared.answer.Stepped.{Stepped}
 use Rattle.interp_core.specs.Interpreter.{ByMemory, Meaning}
 use Rattle.arith_cells.specs.Printed.{FoundMemory, Prints, StepsPrint, goes_on, step_text}
 use Rattle.arith_cells.specs.Printed.StepsPrint.{none, more, last}
-use Rattle.arith_cells.proofs.PrintedLemmas.{appends_nothing, appends_then, of_answered, is_more, is_end}
+use Rattle.arith_cells.proofs.PrintedLemmas.{appends_then, of_answered, is_more, is_end}
 
 -- what was printed so far stands in front of what the steps that are left print
 pub record IsBegun {State Cell : Type 0} (m : Meaning State Cell) (start : State) (whole : Cell)
@@ -21,7 +22,7 @@ pub not_begun : {State Cell : Type 0} (m : Meaning State Cell) (start : State) (
     → IsBegun m start whole known known start whole
 not_begun m start whole known = record {
   text = [];
-  appended = appends_nothing known;
+  appended = Appends-nil known;
   in_front = λ rest end printed. printed;
 }
 

@@ -1,12 +1,12 @@
 -- A text that is tokens and white space is ASCII, so its octets are its code points.
-use Rattle.std.proofs.Common.{◌≡◌, ℕ, zero, suc, ◌<◌, Bool, true, ◌&&◌, List, [], ◌∷◌, ◌++◌, refl, sym, ◌∙◌, arith}
+use Rattle.std.proofs.Common.{◌≡◌, ℕ, suc, ◌<◌, Bool, true, ◌&&◌, List, [], ◌∷◌, ◌++◌, refl, sym, ◌∙◌, arith}
 use Rattle.std.proofs.Common.{nat_lt, subst}
 use Rattle.std.specs.Prelude.{codes}
 use Rattle.std.proofs.lemmas.Bool.Decides.{nat_tests}
 use Rattle.std.specs.List.{All}
 use Rattle.std.specs.Str.{IsAscii, IsUtf8, chars}
 use Rattle.std.proofs.lemmas.Str.{IsAscii-append, encodes-IsAscii, encodes-chars}
-use Rattle.std.proofs.lemmas.Str.Ascii.{IsAscii-nil}
+use Rattle.std.proofs.lemmas.Str.Ascii.{IsAscii-nil, IsAscii-cons}
 use Rattle.arith_syntax.specs.declared.operator.BinaryOperator.{BinaryOperator}
 use Rattle.arith_syntax.specs.declared.operator.BinaryOperator.TheVariants as binary
 use Rattle.arith_syntax.specs.declared.operator.AssignmentOperator.{AssignmentOperator}
@@ -19,16 +19,11 @@ use Rattle.arith_syntax.specs.declared.token.Placed.{Placed}
 use Rattle.arith_syntax.specs.Tokens.{IsWhite, IsWordCharacter, IsSign, IsToken, IsTokens, ReadsTokens, operator_sign}
 use Rattle.arith_syntax.specs.Tokens.{assignment_sign}
 
--- one more ASCII character
-pub one_more : (c : ℕ) (cs : List ℕ) → c < 128 → IsAscii cs → IsAscii (c ∷ cs)
-one_more c cs h t zero = h
-one_more c cs h t (suc i) = t i
-
 -- characters of a kind that is ASCII
 pub of_kind : (P : ℕ → Type 0) → ((c : ℕ) → P c → c < 128) → (cs : List ℕ) → All P cs → IsAscii cs
 of_kind P small [] h = IsAscii-nil
 of_kind P small (c ∷ cs) h =
-    one_more c cs (small c (h 0 c (omega arith))) (of_kind P small cs (λ k d below. h (suc k) d (omega arith)))
+    IsAscii-cons c cs (small c (h 0 c (omega arith))) (of_kind P small cs (λ k d below. h (suc k) d (omega arith)))
 
 -- white space is ASCII
 pub white : (c : ℕ) → IsWhite c → c < 128
@@ -46,7 +41,7 @@ all_small (c ∷ cs) = nat_lt c 128 && all_small cs
 -- characters that are, by that test
 pub ascii : (cs : List ℕ) → all_small cs ≡ true → IsAscii cs
 ascii [] h = IsAscii-nil
-ascii (c ∷ cs) h = one_more c cs (grind (arith, nat_tests)) (ascii cs (grind (arith, nat_tests)))
+ascii (c ∷ cs) h = IsAscii-cons c cs (grind (arith, nat_tests)) (ascii cs (grind (arith, nat_tests)))
 
 -- the sign of an operator is ASCII
 pub operator : (op : BinaryOperator) → all_small (operator_sign op) ≡ true

@@ -1,6 +1,6 @@
 //! A language of a few lines.
 
-ghost use Rattle.std.specs.Prelude.{◌≡◌, ◌⊎◌, ◌==◌, IfOk, length};
+ghost use Rattle.std.specs.Prelude.{◌≡◌, ◌⊎◌, ◌==◌, IfOk};
 ghost use Rattle.interp_core.specs.declared.fault.InterpFault.TheVariants.{OutOfMemory};
 ghost use Rattle.engine_examples.specs.Letters.{next_of, outputs_of};
 

@@ -6,7 +6,7 @@
 
 mod closed;
 mod fault;
-pub mod laws;
+mod laws;
 mod line;
 mod list_sink;
 mod open;
@@ -22,6 +22,7 @@ mod word;
 
 pub use closed::Closed;
 pub use fault::OpenFault;
+pub use laws::stands_behind;
 pub use list_sink::ListSink;
 pub use open::open_queue;
 pub use plain_core::{CoreEvent, CoreFault, CoreState, run_core};

@@ -134,7 +134,7 @@ impl<T, R: Wait + Drop> Publisher<T, R> {
 }
 
 impl<T, R: Wait> Publish for Publisher<T, R> {
-    ghost use Rattle.std.specs.Prelude.{◌≡◌, ◌++◌, ◌∷◌, [], Some, IfErr, OnErr, OnOk, refl};
+    ghost use Rattle.std.specs.Prelude.{◌≡◌, refl};
     ghost use Rattle.std.proofs.Common.{◌∙◌};
 
     type Item = T;

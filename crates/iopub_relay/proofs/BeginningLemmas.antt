@@ -4,20 +4,16 @@ use Rattle.std.proofs.Common.{refl, sym, ap, ◌∙◌, arith}
 use Rattle.std.proofs.Common.{inl, inr, subst}
 use Rattle.std.proofs.Math.Nat.{eq-or-lt_of_le}
 use Rattle.std.proofs.Common.{◌⊎◌, ◌+◌, ◌++◌, length-append}
-use Rattle.std.proofs.Common.{◌+◌}
 use Rattle.std.proofs.lemmas.Bool.{false≢true}
 use Rattle.std.specs.List.{list_any}
 use Rattle.iopub_relay.specs.Topics.{beginnings}
+use Rattle.iopub_relay.proofs.LifeLemmas.{or_true}
 
 -- a test of each beginning, behind an octet
 any_behind : (test : List ℕ → Bool) (octet : ℕ) (lists : List (List ℕ))
     → list_any test (map (λ list. octet ∷ list) lists) ≡ list_any (λ list. test (octet ∷ list)) lists
 any_behind test octet [] = refl
 any_behind test octet (list ∷ lists) = ap (λ (b : Bool). test (octet ∷ list) || b) (any_behind test octet lists)
-
-or_true : (b : Bool) → (b || true) ≡ true
-or_true true = refl
-or_true false = refl
 
 -- one that passes makes the answer
 pub one_passes : (test : List ℕ → Bool) (octets : List ℕ) (len : ℕ) → len ≤ length octets

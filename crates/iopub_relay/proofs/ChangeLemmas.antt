@@ -1,6 +1,6 @@
 -- How an event changes each subscriber of a table that serves it.
 use Rattle.std.proofs.Common.{◌≡◌, ◌⊎◌, inl, inr, ℕ, nat_eq, Bool, true, false, List, [], ◌∷◌, ◌++◌, Option}
-use Rattle.std.proofs.Common.{Some, None, refl, sym, ap, subst, ◌∙◌, unwrap_or, if◌then◌else◌}
+use Rattle.std.proofs.Common.{Some, None, refl, sym, ap, subst, ◌∙◌, unwrap_or, if◌then◌else◌, true≢false}
 use Rattle.std.specs.Bool.{⊤}
 use Rattle.std.proofs.lemmas.Bool.Decides.{eqb_tells}
 use Rattle.zmtp_wire.specs.Device.{Outflow, risen}
@@ -15,7 +15,8 @@ use Rattle.iopub_relay.specs.Table.{GetsBy, LivesAt, Fits, IsStarved, Grows}
 use Rattle.iopub_relay.specs.Relay.{Relaying, ServesTaken, ServesOne, IsSubscribeOf, ChangesBy, ChangesAt, Changes}
 use Rattle.iopub_queue.specs.Calls.{TakesOne}
 use Rattle.iopub_relay.proofs.LifeLemmas.{onward, life_left, life_more}
-use Rattle.iopub_relay.proofs.RowLemmas.{same_id}
+use Rattle.iopub_relay.proofs.RowLemmas.{same_id, some_not_none}
+use Rattle.iopub_relay.proofs.StandingLemmas.{broken_not_starved, served_not_broken, served_not_starved}
 
 abbrev is_empty : {A : Type 0} → List A → Type 0
 is_empty [] = ⊤
@@ -25,43 +26,19 @@ nothing_splits : {A : Type 0} (before behind : List A) (item : A) → [] ≡ bef
 nothing_splits [] behind item same = subst is_empty same tt
 nothing_splits (first ∷ before) behind item same = subst is_empty same tt
 
-abbrev is_true : Bool → Type 0
-is_true true = ⊤
-is_true false = ⊥
-
-abbrev is_served : Standing → Type 0
-is_served Served = ⊤
-is_served Broken = ⊥
-is_served Starved = ⊥
-
-abbrev is_broken : Standing → Type 0
-is_broken Served = ⊥
-is_broken Broken = ⊤
-is_broken Starved = ⊥
-
-served_not_broken : Served ≡ Broken → ⊥
-served_not_broken same = subst is_served same tt
-
-served_not_starved : Served ≡ Starved → ⊥
-served_not_starved same = subst is_served same tt
-
 same_as : (id other : ℕ) → nat_eq id other ≡ true → id ≡ other
 same_as id other same = elim (eqb_tells id other) [
   | inl (test, is) ↦ is
-  | inr (test, apart) ↦ absurd (subst is_true (sym same ∙ test) tt)
+  | inr (test, apart) ↦ absurd (true≢false (sym same ∙ test))
 ]
-
-abbrev IsThere : {A : Type 0} → Option A → Type 0
-IsThere (Some item) = ⊤
-IsThere None = ⊥
 
 module _ {Writer : Type 0} where
   -- an event by which a subscriber leaves
   is_detach : (id : ℕ) (event : Event Writer) → leaves id event ≡ true → event ≡ Detach id
-  is_detach id (Message frames) left = absurd (subst is_true (sym left) tt)
-  is_detach id (Attach other writer) left = absurd (subst is_true (sym left) tt)
-  is_detach id (Subscribe other topic) left = absurd (subst is_true (sym left) tt)
-  is_detach id (Cancel other topic) left = absurd (subst is_true (sym left) tt)
+  is_detach id (Message frames) left = absurd (true≢false (sym left))
+  is_detach id (Attach other writer) left = absurd (true≢false (sym left))
+  is_detach id (Subscribe other topic) left = absurd (true≢false (sym left))
+  is_detach id (Cancel other topic) left = absurd (true≢false (sym left))
   is_detach id (Detach other) left = ap Detach (sym (same_as id other left))
 
   some_of_if : (id other : ℕ) (test : Bool) (writer came : Writer) → nat_eq id other ≡ test
@@ -69,17 +46,16 @@ module _ {Writer : Type 0} where
   some_of_if id other true writer came same is =
       ap (λ (one : ℕ). Attach one writer) (sym (same_as id other same))
       ∙ ap (λ (one : Option Writer). Attach id (unwrap_or one writer)) is
-  some_of_if id other false writer came same is =
-      absurd (subst (λ (one : Option Writer). IsThere one) (sym is) tt)
+  some_of_if id other false writer came same is = absurd (some_not_none came (sym is))
 
   -- an event by which a subscriber comes
   is_attach : (id : ℕ) (event : Event Writer) (writer : Writer) → comes_with id event ≡ Some writer
       → event ≡ Attach id writer
-  is_attach id (Message frames) writer came = absurd (subst (λ (one : Option Writer). IsThere one) (sym came) tt)
+  is_attach id (Message frames) writer came = absurd (some_not_none writer (sym came))
   is_attach id (Attach other with_it) writer came = some_of_if id other (nat_eq id other) with_it writer refl came
-  is_attach id (Subscribe other topic) writer came = absurd (subst (λ (one : Option Writer). IsThere one) (sym came) tt)
-  is_attach id (Cancel other topic) writer came = absurd (subst (λ (one : Option Writer). IsThere one) (sym came) tt)
-  is_attach id (Detach other) writer came = absurd (subst (λ (one : Option Writer). IsThere one) (sym came) tt)
+  is_attach id (Subscribe other topic) writer came = absurd (some_not_none writer (sym came))
+  is_attach id (Cancel other topic) writer came = absurd (some_not_none writer (sym came))
+  is_attach id (Detach other) writer came = absurd (some_not_none writer (sym came))
 
   module _ (outflow : Writer → Outflow) (id : ℕ) (event : Event Writer) where
     -- who has just come is served
@@ -126,16 +102,14 @@ module _ {Writer : Type 0} where
     stayer_by Broken Broken old new now was is one other stays starves =
         stays (λ served. served_not_broken (sym served ∙ was))
     stayer_by Broken Starved old new now was is one other stays starves =
-        absurd (subst is_broken (sym (sym is
-        ∙ standing_stays old new stays (λ served. served_not_broken (sym served ∙ was)) ∙ was))
-        tt)
+        absurd (broken_not_starved (sym (sym is
+        ∙ standing_stays old new stays (λ served. served_not_broken (sym served ∙ was)) ∙ was)))
     stayer_by Starved Served old new now was is one other stays starves =
         absurd (served_not_starved (sym is
         ∙ standing_stays old new stays (λ served. served_not_starved (sym served ∙ was)) ∙ was))
     stayer_by Starved Broken old new now was is one other stays starves =
-        absurd (subst is_broken (sym is
-        ∙ standing_stays old new stays (λ served. served_not_starved (sym served ∙ was)) ∙ was)
-        tt)
+        absurd (broken_not_starved (sym is
+        ∙ standing_stays old new stays (λ served. served_not_starved (sym served ∙ was)) ∙ was))
     stayer_by Starved Starved old new now was is one other stays starves =
         stays (λ served. served_not_starved (sym served ∙ was))
 
@@ -181,7 +155,7 @@ module _ {Writer : Type 0} where
       (life_more id events event)
       (λ one row was is stay failed. elim (grows.stays id one was failed) [
         | inl same ↦ row_is row one (sym is ∙ same)
-        | inr leaving ↦ absurd (subst is_true (sym (ap (leaves id) leaving ∙ same_id id) ∙ stay) tt)
+        | inr leaving ↦ absurd (true≢false (sym (ap (leaves id) leaving ∙ same_id id) ∙ stay))
       ]) (grows.starves id)
 
   -- an event that was taken is served

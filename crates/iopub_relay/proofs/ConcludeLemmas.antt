@@ -1,8 +1,7 @@
 -- What is taken in the end, where all publishers have closed.
 use Rattle.std.proofs.Common.{◌≡◌, ◌↔◌, inl, inr, ℕ, ◌+◌, ◌<◌, Bool, true, false, ◌&&◌, List, [], ◌∷◌, ◌++◌, IsTrue}
-use Rattle.std.proofs.Common.{Option, refl, sym, ap, subst, ◌∙◌, append_assoc, take, length, get_or}
+use Rattle.std.proofs.Common.{Option, refl, sym, ap, subst, ◌∙◌, append_assoc, take, length, get_or, true≢false}
 use Rattle.std.proofs.lemmas.List.Elements.{All-more, All-from_recursion, recursion_from_All}
-use Rattle.std.specs.Bool.{⊤}
 use Rattle.std.specs.List.{AllByRecursion}
 use Rattle.std.proofs.lemmas.List.{append-nil}
 use Rattle.iopub_queue.specs.Entries.{Entry, StartsWith, of, CloseIsLast, EndsWithClose, IsComplete}
@@ -10,10 +9,6 @@ use Rattle.iopub_queue.specs.Values.{Publishing, Taking}
 use Rattle.iopub_queue.proofs.Lists.{starts_on}
 use Rattle.iopub_queue.proofs.Parts.{of_append, nothing_behind}
 use Rattle.iopub_relay.specs.Relay.{Meets, AreWhole, HasNumber, AreAllClosed, TakesMore, EndsAll, IsTold}
-
-abbrev is_true : Bool → Type 0
-is_true true = ⊤
-is_true false = ⊥
 
 module _ {T : Type 0} where
   -- the part of a publisher that closed is taken whole, once all that it was told of was taken
@@ -68,7 +63,7 @@ module _ {T : Type 0} where
   both_say true whole taker tokens ends decided meets =
       (λ yes. ends, λ complete. decided.1 (complete_whole taker tokens complete meets))
   both_say false whole taker tokens ends decided meets =
-      (λ yes. absurd (subst is_true (sym yes) tt), λ complete. absurd (ends.1 complete))
+      (λ yes. absurd (true≢false (sym yes)), λ complete. absurd (ends.1 complete))
 
   -- a longer list tells what a shorter one did
   pub tells_still : (told more : List (Entry T)) (tokens : List (Publishing T)) → StartsWith more told

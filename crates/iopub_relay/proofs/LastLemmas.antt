@@ -1,7 +1,6 @@
 -- A life is there exactly where the last of a subscriber's comings and leavings is a coming.
 use Rattle.std.proofs.Common.{◌≡◌, ℕ, Bool, true, false, if◌then◌else◌, ◌||◌, nat_eq, List, [], ◌∷◌, ◌++◌, Option}
-use Rattle.std.proofs.Common.{Some, None, refl, sym, ap, ◌∙◌, append_assoc, subst}
-use Rattle.std.specs.Bool.{⊤}
+use Rattle.std.proofs.Common.{Some, None, refl, sym, ap, ◌∙◌, append_assoc, subst, true≢false}
 use Rattle.std.specs.Option.{IfSome, is_some}
 use Rattle.std.specs.List.{list_any}
 use Rattle.std.proofs.lemmas.Bool.{eqb-true}
@@ -13,13 +12,9 @@ use Rattle.iopub_relay.specs.Laws.{BeganIn, LifeBegan, WhoCameLives, WhoLeftLive
 use Rattle.iopub_relay.proofs.LifeLemmas.{any_but_last, onward, life_left, life_more}
 use Rattle.iopub_relay.proofs.RowLemmas.{same_id}
 
-abbrev is_true : Bool → Type 0
-is_true true = ⊤
-is_true false = ⊥
-
 either_not : (one other : Bool) → (one || other) ≡ false → (one ≡ false) × (other ≡ false)
 either_not false other none = (refl, none)
-either_not true other none = absurd (subst is_true none tt)
+either_not true other none = absurd (true≢false none)
 
 module _ {Writer : Type 0} (id : ℕ) where
   -- a life that was found began in these events
@@ -77,7 +72,7 @@ module _ {Writer : Type 0} (id : ℕ) where
   lives_on : (found : Option (Life Writer)) (event : Event Writer) → is_some found ≡ true
       → is_some (onward id event found) ≡ true
   lives_on (Some now) event there = refl
-  lives_on None event there = absurd (subst is_true (sym there) tt)
+  lives_on None event there = absurd (true≢false (sym there))
 
   comes : (found : Option (Life Writer)) (writer : Writer) → is_some (onward id (Attach id writer) found) ≡ true
   comes (Some now) writer = refl
@@ -99,7 +94,7 @@ module _ {Writer : Type 0} (id : ℕ) where
   no_coming : (came : Option Writer) → is_some came ≡ false
       → life_begun came [] None ≡ None
   no_coming None none = refl
-  no_coming (Some writer) none = absurd (subst is_true none tt)
+  no_coming (Some writer) none = absurd (true≢false none)
 
   none_more : (before : List (Event Writer)) (event : Event Writer) (left : Bool) → leaves id event ≡ left
       → life id before ≡ None → is_some (comes_with id event) ≡ false → life id (before ++ event ∷ []) ≡ None

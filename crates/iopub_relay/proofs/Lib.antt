@@ -14,5 +14,6 @@ pub mod PlaceLemmas
 pub mod RowLemmas
 pub mod ServeLemmas
 pub mod SettleLemmas
+pub mod StandingLemmas
 pub mod TableLemmas
 pub mod TakenLemmas

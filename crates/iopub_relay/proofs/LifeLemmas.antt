@@ -8,7 +8,8 @@ use Rattle.iopub_relay.specs.Life.{Life, leaves, comes_with, since_it_left, life
 use Rattle.iopub_relay.specs.Topics.{held, held_after}
 use Rattle.iopub_relay.specs.Feed.{brings, feed_behind, feed}
 
-or_true : (b : Bool) → (b || true) ≡ true
+-- whatever comes before what is true
+pub or_true : (b : Bool) → (b || true) ≡ true
 or_true true = refl
 or_true false = refl
 

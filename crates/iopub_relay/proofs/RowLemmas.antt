@@ -2,6 +2,7 @@
 use Rattle.std.proofs.Common.{◌≡◌, inl, inr, ℕ, ◌<◌, nat_eq, Bool, true, false, List}
 use Rattle.std.proofs.Common.{[], ◌∷◌, ◌++◌, length, Option, Some, None, refl, sym, ap, subst, ◌∙◌, arith, cond}
 use Rattle.std.proofs.Common.{get_or}
+use Rattle.std.specs.Bool.{⊤}
 use Rattle.std.specs.List.{insert, remove, slice_set}
 use Rattle.std.proofs.lemmas.Bool.Decides.{eqb_tells}
 use Rattle.iopub_relay.specs.declared.subscriber.Subscriber.{Subscriber}
@@ -20,6 +21,14 @@ same_id id = elim (eqb_tells id id) [
   | inl (test, same) ↦ test
   | inr (test, different) ↦ absurd (different refl)
 ]
+
+abbrev IsThere : {A : Type 0} → Option A → Type 0
+IsThere (Some item) = ⊤
+IsThere None = ⊥
+
+-- what is there isn't missing
+pub some_not_none : {A : Type 0} (item : A) → Some item ≡ None → ⊥
+some_not_none {A} item same = subst (λ (found : Option A). IsThere found) same tt
 
 module _ {Writer : Type 0} where
   none_below : (id : ℕ) (rows behind : List (Subscriber Writer)) → AreBelow id rows

@@ -20,20 +20,10 @@ use Rattle.iopub_relay.specs.Table.{GetsBy, Lives, LivesAt, IsStarved, ServesEve
 use Rattle.iopub_relay.specs.Table.{Hears, AllHear}
 use Rattle.iopub_relay.proofs.LifeLemmas.{onward, life_more, held_more, feed_more}
 use Rattle.iopub_relay.proofs.RowLemmas.{same_id, found}
-use Rattle.iopub_relay.proofs.TableLemmas.{puts_on, served_not_starved, matches_same, grown, gets_on, lives_on}
+use Rattle.iopub_relay.proofs.StandingLemmas.{broken_not_served, broken_not_starved, served_not_starved}
+use Rattle.iopub_relay.proofs.TableLemmas.{puts_on, matches_same, grown, gets_on, lives_on}
 use Rattle.iopub_relay.proofs.TableLemmas.{keeps_at, fits_still, subscribe_is_of, cancel_is_of, changed, starves_by}
 use Rattle.iopub_relay.proofs.TableLemmas.{starves_nobody, stays_failed, stays_by, IsOf}
-
-abbrev IsBroken : Standing → Type 0
-IsBroken Served = ⊥
-IsBroken Broken = ⊤
-IsBroken Starved = ⊥
-
-broken_not_served : Broken ≡ Served → ⊥
-broken_not_served same = subst IsBroken same tt
-
-broken_not_starved : Broken ≡ Starved → ⊥
-broken_not_starved same = subst IsBroken same tt
 
 module _ {Writer : Type 0} (outflow : Writer → Outflow) where
   -- a subscriber whose topics alone were changed lives on

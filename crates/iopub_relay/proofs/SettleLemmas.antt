@@ -1,6 +1,5 @@
 -- Settling with one publisher after the other.
-use Rattle.std.proofs.Common.{◌≡◌, ◌↔◌, Bool, true, false, List, [], ◌∷◌, ◌++◌, refl, sym, subst, IsTrue}
-use Rattle.std.specs.Bool.{⊤}
+use Rattle.std.proofs.Common.{◌≡◌, ◌↔◌, Bool, true, false, List, [], ◌∷◌, ◌++◌, refl, sym, subst, IsTrue, true≢false}
 use Rattle.std.specs.List.{AllByRecursion}
 use Rattle.iopub_queue.specs.Values.{Publishing, Taking}
 use Rattle.iopub_queue.specs.Calls.{Settles}
@@ -25,10 +24,6 @@ module _ {A : Type 0} (P : A → Type 0) where
 
   rest_of : (items rest : List A) (first : A) → items ≡ first ∷ rest → AllByRecursion P items → AllByRecursion P rest
   rest_of items rest first same all = (subst (λ (list : List A). AllByRecursion P list) same all).1
-
-abbrev is_true : Bool → Type 0
-is_true true = ⊤
-is_true false = ⊥
 
 module _ {T : Type 0} where
   -- the tokens are of the taker's queue
@@ -61,7 +56,7 @@ module _ {T : Type 0} where
   settling_part taker tokens whole closed settles so_far = record {
     meets = with_last (Meets taker) tokens closed so_far.meets (Beginning, settles);
     decided = (
-      λ yes. absurd (subst is_true (sym yes) tt),
+      λ yes. absurd (true≢false (sym yes)),
       λ all. absurd (settles.decided (last_of _ tokens closed all)),
     );
   }

@@ -3,13 +3,11 @@ use Rattle.std.proofs.Common.{◌≡◌, ◌⊎◌, inl, inr, ℕ, ◌+◌, ◌-
 use Rattle.std.proofs.Common.{if◌then◌else◌, List, [], ◌∷◌, ◌++◌, Option, Some, None, refl, sym, ap, subst, ◌∙◌}
 use Rattle.std.proofs.Common.{append_assoc, bytes_eq}
 use Rattle.std.proofs.Common.{unwrap_or}
-use Rattle.std.specs.Bool.{⊤}
 use Rattle.std.specs.List.{list_any}
 use Rattle.std.proofs.lemmas.List.{append-nil}
 use Rattle.std.proofs.lemmas.Bool.Decides.{eqb_tells}
-use Rattle.std.proofs.KnownBytes.{Appends-nil}
+use Rattle.std.proofs.KnownBytes.{Appends-nil, Appends-trans}
 use Rattle.zmtp_wire.specs.Device.{Outflow, Puts, risen_by}
-use Rattle.zmtp_wire.proofs.DeviceLemmas.{appends_on}
 use Rattle.iopub_event.specs.declared.event.Event.{Event}
 use Rattle.iopub_event.specs.declared.event.Event.TheVariants.{Message, Attach, Subscribe, Cancel, Detach}
 use Rattle.iopub_relay.specs.declared.subscriber.Standing.{Standing}
@@ -24,31 +22,16 @@ use Rattle.iopub_relay.specs.Rows.{row_of, IsAt, IsFree}
 use Rattle.iopub_relay.specs.Table.{GetsBy, Lives, LivesAt, Fits, FitsMore, IsStarved, StarvesOnly, LeavesFailed}
 use Rattle.iopub_relay.specs.Table.{ServesEvent}
 use Rattle.iopub_relay.proofs.LifeLemmas.{onward, life_left, life_more, held_more, feed_more}
-use Rattle.iopub_relay.proofs.RowLemmas.{same_id, found, missing, other_found}
+use Rattle.iopub_relay.proofs.RowLemmas.{same_id, some_not_none, found, missing, other_found}
+use Rattle.iopub_relay.proofs.StandingLemmas.{served_not_starved}
 
 -- octets that were all added, and then others
 pub puts_on : (old middle new : Outflow) (first second : List ℕ) (failures : ℕ) → Puts old middle first 0
     → Puts middle new second failures → Puts old new (first ++ second) failures
 puts_on old middle new first second failures one other = record {
-  added = appends_on old.written middle.written new.written first second one.added other.added;
+  added = Appends-trans old.written middle.written new.written first second one.added other.added;
   fails = other.fails ∙ ap (risen_by failures) one.fails;
 }
-
-abbrev IsThere : {A : Type 0} → Option A → Type 0
-IsThere (Some item) = ⊤
-IsThere None = ⊥
-
-some_not_none : {A : Type 0} (item : A) → Some item ≡ None → ⊥
-some_not_none {A} item same = subst (λ (found : Option A). IsThere found) same tt
-
-abbrev is_served : Standing → Type 0
-is_served Served = ⊤
-is_served Broken = ⊥
-is_served Starved = ⊥
-
--- who is served isn't starved
-pub served_not_starved : Served ≡ Starved → ⊥
-served_not_starved same = subst is_served same tt
 
 any_same : (one other : List ℕ → Bool) → ((item : List ℕ) → one item ≡ other item) → (items : List (List ℕ))
     → list_any one items ≡ list_any other items

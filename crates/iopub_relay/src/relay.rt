@@ -57,7 +57,7 @@ pub struct Relay<W: Outlet, R> {
 }
 
 impl<W: Outlet, R> Model for Relay<W, R> {
-    ghost use Rattle.iopub_relay.specs.Relay.{Relaying, ServesTaken};
+    ghost use Rattle.iopub_relay.specs.Relay.{Relaying};
 
     ghost Value = { Relaying W };
 

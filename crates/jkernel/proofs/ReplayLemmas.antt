@@ -17,14 +17,13 @@ use Rattle.jmsg_envelope.specs.Stamp.{StampMeaning, numbered}
 use Rattle.kernel_block.specs.declared.fault.EngineFault.{EngineFault}
 use Rattle.kernel_block.specs.declared.parts.Parts.{Parts}
 use Rattle.kernel_block.specs.declared.side.Side.TheVariants.{Shell}
-use Rattle.kernel_block.specs.Block.{starting}
+use Rattle.kernel_block.specs.Block.{Message, starting}
 use Rattle.kernel_block.specs.Growth.{item_of}
 use Rattle.kernel_block.specs.Starts.{SaysNothing, SaysStarting}
 use Rattle.kernel_engine.specs.declared.end.SessionEnd.{SessionEnd}
 use Rattle.kernel_engine.specs.declared.end.SessionEnd.TheVariants.{Eof, Shutdown, Wire, Failed}
 use Rattle.kernel_engine.specs.Exchange.{Exchange}
 use Rattle.kernel_engine.specs.Laws.{IsSettled, SessionStays}
-use Rattle.kernel_engine.specs.Peer.{Message}
 use Rattle.kernel_engine.specs.Session.{IsSession, IsTold, Run}
 use Rattle.kernel_engine.specs.Work.{TellsSession, all_items}
 use Rattle.jkernel.specs.Lines.{ending_text, event_text, printed_lines}

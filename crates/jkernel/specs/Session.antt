@@ -9,10 +9,9 @@ use Rattle.iopub_event.specs.declared.event.Event.{Event}
 use Rattle.iopub_event.specs.declared.event.Event.TheVariants as events
 use Rattle.kernel_block.specs.declared.parts.Parts.{Parts}
 use Rattle.kernel_block.specs.declared.side.Side.TheVariants.{Shell}
-use Rattle.kernel_block.specs.Block.{starting}
+use Rattle.kernel_block.specs.Block.{Message, starting}
 use Rattle.kernel_engine.specs.declared.end.SessionEnd.{SessionEnd}
 use Rattle.kernel_engine.specs.Laws.{IsSettled}
-use Rattle.kernel_engine.specs.Peer.{Message}
 use Rattle.kernel_engine.specs.Session.{IsSession, Run, Standing}
 use Rattle.jkernel.specs.Lines.{ending_text, hex_octets, printed_lines}
 use Rattle.jkernel.specs.Stamp.{replay_date, replay_sealing, replay_setting}

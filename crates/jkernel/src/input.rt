@@ -7,7 +7,6 @@ ghost use Rattle.jkernel.specs.Lines.{hex_octets, is_white_space, without_white_
 
 use std::alloc::Global;
 use std::io::{self, ErrorKind, Read};
-use thiserror::Error;
 
 /// The most reads of one input, the last of which finds its end.
 const READS: u32 = 1_000_000_000;
@@ -16,13 +15,11 @@ const READS: u32 = 1_000_000_000;
 const PIECE: usize = 65_536;
 
 /// Why a text gave no octets.
-#[derive(Clone, Copy, Debug, PartialEq, Eq, Error)]
+#[derive(Clone, Copy, Debug, PartialEq, Eq)]
 pub(crate) enum HexFault {
     /// The text is no even number of hexadecimal digits, its white space aside.
-    #[error("input is not an even number of hexadecimal digits")]
     NotHex,
     /// There was no memory for the octets.
-    #[error("out of memory")]
     OutOfMemory,
 }
 

@@ -14,7 +14,7 @@ mod words;
 
 use kernel_serve::Until;
 use program::run;
-use std::env::Env;
+use std::env::{Env, VarError};
 use std::process::ExitCode;
 use std::rt::Process;
 use std::{env, io};
@@ -45,7 +45,9 @@ fn words_behind<R: Env + AllocGlobal>(rt: &R) -> io::Result<Vec<String>> {
 /// Until when a kernel runs: jupyter's programs name themselves in `JPY_PARENT_PID` to one that is to end with them.
 fn runs_until<R: Env + AllocGlobal>(rt: &R, process: Process) -> Until {
     match env::var(rt, "JPY_PARENT_PID") {
-        Ok(parent) if parent.as_str() != "0" => Until::ParentChanges(process),
-        _ => Until::Asked,
+        Err(VarError::NotPresent) => Until::Asked,
+        Ok(parent) if parent.as_str() == "0" => Until::Asked,
+        // What can't be read as a text is there all the same.
+        _ => Until::ParentChanges(process),
     }
 }

@@ -7,13 +7,13 @@ use std::alloc::{AllocError, Global};
 
 /// A source of message ids and dates for one session.
 pub trait Stamp {
-    // The data of this stamp that no call changes.
+    /// The data of this stamp that no call changes.
     ghost meaning: { Self → StampMeaning };
 
-    // The text of a number's id.
+    /// The text of a number's id.
     ghost id_text: { StampMeaning → ℕ → List ℕ };
 
-    // Whether a text may be a date of this stamp.
+    /// Whether a text may be a date of this stamp.
     ghost is_date: { StampMeaning → List ℕ → Bool };
 
     /// The text of the session.
@@ -38,6 +38,6 @@ pub trait Stamp {
             (λ text. is_date (meaning self.old) (string_bytes text) ≡ true) }
         ensures same { meaning self.new ≡ meaning self.old };
 
-    // Different numbers have different ids.
+    /// Different numbers have different ids.
     ghost ids_differ: { IdsDiffer id_text };
 }

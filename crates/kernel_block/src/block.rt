@@ -3,7 +3,6 @@
 ghost use Rattle.std.specs.Prelude.{◌≡◌, ◌+◌, ◌<◌, ◌≤◌, ◌^◌, IfOk, OnErr, MatchResult};
 ghost use Rattle.serde_json.specs.Written.{compact_text};
 ghost use Rattle.jmsg_types.specs.Reply.{reply_data};
-ghost use Rattle.listed.specs.Bodies.{bodies};
 ghost use Rattle.kernel_block.specs.Block.{reply_message};
 ghost use Rattle.kernel_block.specs.Growth.{sealing_of};
 ghost use Rattle.kernel_block.specs.Opens.{Opens, PublishesNone, Starts, ids_of_reply};

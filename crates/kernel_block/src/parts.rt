@@ -1,7 +1,7 @@
 //! The parts of an engine, and the steps by which it handles a request.
 
 ghost use Rattle.std.specs.Prelude.{◌≡◌, ◌⊎◌, ◌≤◌, ◌<◌, ◌^◌, None, MatchBool, MatchResult};
-ghost use Rattle.kernel_block.specs.Handles.{AnswersInBlock, AnswersNot, AsksInVain, Closes, HandlesErr};
+ghost use Rattle.kernel_block.specs.Handles.{AnswersInBlock, AnswersNot, Closes, HandlesErr};
 ghost use Rattle.kernel_block.specs.Handles.{HandlesOk, LeavesOpen, Pays, PaysNot};
 ghost use Rattle.kernel_block.specs.Starts.{StartsFirst, StartsLater, StartsRefused};
 

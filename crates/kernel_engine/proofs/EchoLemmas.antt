@@ -1,6 +1,6 @@
 -- The heartbeat: each message is its own answer.
 use Rattle.std.proofs.Common.{◌≡◌, ◌⊎◌, inl, inr, ℕ, List, [], ◌∷◌, ◌++◌, Bool, false, Result, Ok, Err, sym, ◌∙◌}
-use Rattle.std.proofs.Common.{ap, subst, append_assoc}
+use Rattle.std.proofs.Common.{ap, subst, append_assoc, length-append, arith}
 use Rattle.std.specs.List.{flat_map}
 use Rattle.std.proofs.lemmas.List.{append-nil}
 use Rattle.zmtp_wire.specs.declared.handshake.socket_type.SocketType.TheVariants.{Rep}
@@ -16,7 +16,7 @@ use Rattle.kernel_block.specs.declared.fault.EngineFault.TheVariants.{Memory}
 use Rattle.kernel_engine.specs.Echo.{EchoesOne, Echoes, IsCutShort, echo_of}
 use Rattle.kernel_engine.specs.Exchange.{Exchange}
 use Rattle.kernel_engine.specs.Listen.{RunsOut}
-use Rattle.kernel_engine.specs.Server.{Answering, Serving, Treats, GoesOn, AnswersAll, IsLast, Serves}
+use Rattle.kernel_engine.specs.Server.{Answering, Serving, Treats, GoesOn, AnswersAll, BreaksIn, IsLast, Serves}
 use Rattle.kernel_engine.specs.Server.{ServesPeer, Converses, begins, marked, told}
 
 -- what the heartbeat answers
@@ -75,14 +75,16 @@ last_kept old new (traffic.Message message) reply (Err end) before after step ma
 last_kept old new (traffic.Command name rest) reply answered before after (none, stays, done) mark =
     mark ∙ ap (marked before) done
 
--- how the last traffic was cut short
-cut_how : (opening all replies written reply more lost : List ℕ) (last : Traffic) → replies ≡ all
-    → echo_of last ≡ reply ++ more → replies ++ reply ≡ written ++ lost
-    → opening ++ (all ++ echo_of last) ≡ (opening ++ written) ++ (lost ++ more)
-cut_how opening all replies written reply more lost last same back split =
-    ap (λ o. opening ++ o) (ap (λ o. o ++ echo_of last) (sym same) ∙ ap (λ o. replies ++ o) back
-    ∙ sym (append_assoc replies reply more) ∙ ap (λ o. o ++ more) split ∙ append_assoc written lost more)
-    ∙ sym (append_assoc opening written (lost ++ more))
+-- a write that failed in a beginning of what is due failed in that
+breaks_in : (opening all replies written reply more due : List ℕ) → replies ≡ all → due ≡ reply ++ more
+    → BreaksIn replies reply written → BreaksIn (opening ++ all) due (opening ++ written)
+breaks_in opening all replies written reply more due same back (front, lost, split, some, wrote) = (
+  front,
+  lost ++ more,
+  back ∙ ap (λ o. o ++ more) split ∙ append_assoc front lost more,
+  omega (arith, some, length-append lost more),
+  ap (λ o. opening ++ o) (wrote ∙ ap (λ o. o ++ front) same) ∙ sym (append_assoc opening all front),
+)
 
 cut_short : {Server : Type 0} (now new : Serving Server) (opening : List ℕ) (items : List Traffic)
     (rest replies written : List ℕ) (end : SessionEnd) → replies ≡ flat_map echo_of items
@@ -99,14 +101,12 @@ cut_short now new opening items rest replies written end same last = record {
           ap (λ o. opening ++ o)
               (wrote ∙ ap (λ o. replies ++ o) none ∙ append-nil replies ∙ same),
         )
-    | inr (is, some, (lost, split)) ↦
+    | inr (is, breaks) ↦
         let (more, back) = back_front now.server new.server last.last last.reply last.answered last.step in
         inr (
           is,
-          (
-            lost ++ more,
-            cut_how opening (flat_map echo_of items) replies written last.reply more lost last.last same back split,
-          ),
+          breaks_in opening (flat_map echo_of items) replies written last.reply more (echo_of last.last) same back
+              breaks,
         )
   ];
 }

@@ -1,8 +1,8 @@
 -- Reads and writes in turn.
-use Rattle.std.proofs.Common.{◌≡◌, ℕ, zero, suc, ◌+◌, List, [], ◌++◌, Option, Some, None, refl, sym, ◌∙◌, ap, arith}
-use Rattle.std.proofs.Common.{append_assoc, add-zero, add-suc, length-append, ◌≢◌, subst}
+use Rattle.std.proofs.Common.{◌≡◌, ℕ, zero, suc, ◌+◌, List, [], ◌++◌, refl, sym, ◌∙◌, ap, arith}
+use Rattle.std.proofs.Common.{add-zero, add-suc, length-append, ◌≢◌, subst}
 use Rattle.std.proofs.lemmas.List.{append-nil}
-use Rattle.std.specs.Io.KnownBytes.{Appends, Consumes}
+use Rattle.std.proofs.KnownBytes.{Appends-nil, Appends-trans, Consumes-nil, Consumes-trans}
 use Rattle.zmtp_wire.specs.Device.{Inflow, Outflow, Draws, Puts, risen, risen_by}
 use Rattle.zmtp_wire.specs.declared.fault.WireFault.{WireFault}
 use Rattle.kernel_engine.specs.declared.end.SessionEnd.{SessionEnd}
@@ -17,33 +17,11 @@ risen_on many zero count = ap (λ n. risen_by n count) (sym (add-zero many))
 risen_on many (suc more) count = ap risen (risen_on many more count)
     ∙ ap (λ n. risen_by n count) (sym (add-suc many more))
 
-consumes_none : (known : Option (List ℕ)) → Consumes known known []
-consumes_none None = tt
-consumes_none (Some octets) = refl
-
-consumes_on : (one two three : Option (List ℕ)) (first second : List ℕ) → Consumes one two first
-    → Consumes two three second → Consumes one three (first ++ second)
-consumes_on None two three first second a b = tt
-consumes_on (Some x) None three first second a b = absurd a
-consumes_on (Some x) (Some y) None first second a b = absurd b
-consumes_on (Some x) (Some y) (Some z) first second a b = a ∙ ap (λ o. first ++ o) b ∙ sym (append_assoc first second z)
-
-appends_none : (known : Option (List ℕ)) → Appends known known []
-appends_none None = tt
-appends_none (Some octets) = sym (append-nil octets)
-
-appends_on : (one two three : Option (List ℕ)) (first second : List ℕ) → Appends one two first
-    → Appends two three second → Appends one three (first ++ second)
-appends_on None two three first second a b = tt
-appends_on (Some x) None three first second a b = absurd a
-appends_on (Some x) (Some y) None first second a b = absurd b
-appends_on (Some x) (Some y) (Some z) first second a b = b ∙ ap (λ o. o ++ second) a ∙ append_assoc x first second
-
 draws_on : (one two three : Inflow) (first second : List ℕ) (turns more fails : ℕ) → Draws one two first turns 0
     → Draws two three second more fails
     → Draws one three (first ++ second) (turns + more) fails
 draws_on one two three first second turns more fails a b = record {
-  taken = consumes_on one.left two.left three.left first second a.taken b.taken;
+  taken = Consumes-trans one.left two.left three.left first second a.taken b.taken;
   reads = b.reads ∙ ap (risen_by more) a.reads ∙ risen_on turns more one.reads;
   fails = b.fails ∙ ap (risen_by fails) a.fails;
 }
@@ -52,7 +30,7 @@ draws_on one two three first second turns more fails a b = record {
 pub leg_none : (old : Inflow) (turns : ℕ) → Leg old old turns turns []
 leg_none old turns = record {
   taken = 0;
-  draws = record { taken = consumes_none old.left; reads = refl; fails = refl };
+  draws = record { taken = Consumes-nil old.left; reads = refl; fails = refl };
   counted = sym (add-zero turns);
   few = omega arith;
 }
@@ -116,12 +94,12 @@ decided inflow inflow' turns left octets end is leg = record {
 
 -- nothing was written
 pub puts_none : (old : Outflow) → Puts old old [] 0
-puts_none old = record { added = appends_none old.written; fails = refl }
+puts_none old = record { added = Appends-nil old.written; fails = refl }
 
 -- what is written behind what was written
 pub puts_on : (one two three : Outflow) (first second : List ℕ) (fails : ℕ) → Puts one two first 0
     → Puts two three second fails → Puts one three (first ++ second) fails
 puts_on one two three first second fails a b = record {
-  added = appends_on one.written two.written three.written first second a.added b.added;
+  added = Appends-trans one.written two.written three.written first second a.added b.added;
   fails = b.fails ∙ ap (risen_by fails) a.fails;
 }

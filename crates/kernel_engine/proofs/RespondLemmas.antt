@@ -1,6 +1,6 @@
 -- A server that hears a peer at its writer.
-use Rattle.std.proofs.Common.{◌≡◌, ◌⊎◌, inl, inr, ℕ, ◌<◌, length, List, [], ◌∷◌, ◌++◌, Option, Result, Ok, Err, IfErr}
-use Rattle.std.proofs.Common.{refl, sym, ◌∙◌, ap, subst, append_assoc, arith, length-append}
+use Rattle.std.proofs.Common.{◌≡◌, ◌⊎◌, inl, inr, ℕ, List, [], ◌∷◌, ◌++◌, Option, Result, Ok, Err, IfErr}
+use Rattle.std.proofs.Common.{refl, sym, ◌∙◌, ap, subst}
 use Rattle.zmtp_wire.specs.declared.traffic.Traffic.{Traffic}
 use Rattle.zmtp_wire.specs.Device.{Inflow, Outflow, Puts}
 use Rattle.kernel_engine.specs.declared.server.Answered.{Answered}
@@ -12,7 +12,7 @@ use Rattle.kernel_engine.specs.Exchange.{failed_writes}
 use Rattle.kernel_engine.specs.Fault.{IsServerEnd}
 use Rattle.kernel_engine.specs.Listen.{HearsAll, Listens, RunsOut, IsHeardOut, IsBrokenOff}
 use Rattle.kernel_engine.specs.Respond.{Seen, Responds, Writes, ConversesOn}
-use Rattle.kernel_engine.specs.Server.{Answering, Treats, GoesOn, AnswersAll, begins, marked}
+use Rattle.kernel_engine.specs.Server.{Answering, Treats, GoesOn, AnswersAll, BreaksIn, begins, marked}
 use Rattle.kernel_engine.specs.Steps.{Leg, IsPrompt}
 use Rattle.kernel_engine.proofs.Legs.{IsDecided, decided, write_decided, puts_none, puts_on}
 use Rattle.kernel_engine.proofs.SeenLemmas.{listens_seen}
@@ -73,7 +73,7 @@ record Ended {Server : Type 0} (answers : Answering Server) (now : Seen Server) 
   step : Treats answers now.serving.server last reply new.serving.server answered
   mark : new.serving.dropped ≡ marked now.serving.dropped answered
   how : ((answered ≡ Err end) × IsServerEnd end × (more ≡ reply))
-      ⊎ ((end ≡ Failed Write) × (0 < length reply) × ((lost : List ℕ) × (reply ≡ more ++ lost)))
+      ⊎ ((end ≡ Failed Write) × BreaksIn [] reply more)
   puts : Puts now.outflow new.outflow more (failed_writes end)
   is : IsDecided end
 
@@ -104,7 +104,7 @@ ended answers now last new end reply answered step mark ends (inr (is, (front, l
       answered = answered;
       step = step;
       mark = mark;
-      how = inr (same, omega (arith, some, ap length split, length-append front lost), (lost, split));
+      how = inr (same, (front, lost, split, some, refl));
       puts = subst (Puts now.outflow new.outflow front) (sym (ap failed_writes same)) puts;
       is = subst IsDecided (sym same) write_decided;
     }
@@ -113,12 +113,11 @@ ended answers now last new end reply answered step mark ends (inr (is, (front, l
 how_behind : {Server : Type 0} (answers : Answering Server) (now : Seen Server) (last : Traffic) (new : Seen Server)
     (end : SessionEnd) (replies : List ℕ) (e : Ended answers now last new end)
     → ((e.answered ≡ Err end) × IsServerEnd end × (replies ++ e.more ≡ replies ++ e.reply))
-    ⊎ ((end ≡ Failed Write) × (0 < length e.reply)
-    × ((lost : List ℕ) × (replies ++ e.reply ≡ (replies ++ e.more) ++ lost)))
+    ⊎ ((end ≡ Failed Write) × BreaksIn replies e.reply (replies ++ e.more))
 how_behind answers now last new end replies e = elim e.how [
   | inl (is, ends, same) ↦ inl (is, ends, ap (λ o. replies ++ o) same)
-  | inr (is, some, (lost, split)) ↦
-      inr (is, some, (lost, ap (λ o. replies ++ o) split ∙ sym (append_assoc replies e.more lost)))
+  | inr (is, (front, lost, split, some, wrote)) ↦
+      inr (is, (front, lost, split, some, ap (λ o. replies ++ o) wrote))
 ]
 
 -- no write failed where listening ended with what was heard

@@ -108,7 +108,7 @@ left : {Server : Type 0} (answers : Answering Server) (now new : Serving Server)
     → (last.answered ≡ Err end) × (written ≡ replies ++ last.reply)
 left answers now new rest replies written end settled last = elim last.how [
   | inl (is, ends, wrote) ↦ (is, wrote)
-  | inr (is, some, lost) ↦ absurd (subst IsSettled is settled)
+  | inr (is, breaks) ↦ absurd (subst IsSettled is settled)
 ]
 
 -- nothing was dropped by then

@@ -7,14 +7,13 @@ use Rattle.jmsg_envelope.specs.declared.envelope.Envelope.{Envelope}
 use Rattle.jmsg_types.specs.Request.{message_type}
 use Rattle.jmsg_types.specs.declared.publication.Publication.{Publication}
 use Rattle.kernel_block.specs.Answer.{Answer, AnswersAsked, asked_by_message}
-use Rattle.kernel_block.specs.Block.{block, reply_message}
+use Rattle.kernel_block.specs.Block.{Message, block, reply_message}
 use Rattle.kernel_block.specs.Laws.{AnswersOnce, PublishesOnce}
 use Rattle.kernel_block.specs.Opens.{ids_of_reply}
 use Rattle.kernel_block.specs.Publications.{PublishesAsked}
 use Rattle.kernel_engine.specs.declared.end.SessionEnd.TheVariants.{Shutdown}
 use Rattle.kernel_engine.specs.declared.server.Answered.TheVariants.{Done, Dropped}
 use Rattle.kernel_engine.specs.Laws.{IsFunction}
-use Rattle.kernel_engine.specs.Peer.{Message}
 use Rattle.kernel_engine.specs.Session.{DoesMessage, DoesRequest, DropsMessage, Performs, Run, Setting, Standing}
 use Rattle.kernel_engine.specs.Session.{heading_by, number_behind, reply_text}
 

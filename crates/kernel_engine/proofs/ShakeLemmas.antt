@@ -57,6 +57,7 @@ greeting_unsent ours inflow before after turns octets end same
       puts = puts;
       outcome = (
         lost,
+        some,
         record {
           front = [];
           behind = [];
@@ -158,6 +159,7 @@ ready_unsent ours inflow inflow' before middle after turns left opening octets e
       puts = puts_on before middle after greeting_octets front 1 puts put;
       outcome = (
         lost,
+        some,
         record {
           front = opening ++ [];
           behind = [];

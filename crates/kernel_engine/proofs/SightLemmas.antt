@@ -5,9 +5,9 @@ use Rattle.zmtp_wire.specs.declared.handshake.socket_type.SocketType.{SocketType
 use Rattle.zmtp_wire.specs.declared.traffic.Traffic.{Traffic}
 use Rattle.zmtp_wire.specs.declared.traffic.Traffic.TheVariants as traffic
 use Rattle.zmtp_wire.specs.Device.{Inflow, Outflow}
+use Rattle.kernel_block.specs.Block.{Message}
 use Rattle.kernel_engine.specs.declared.end.SessionEnd.{SessionEnd}
 use Rattle.kernel_engine.specs.declared.server.Answered.{Answered}
-use Rattle.kernel_engine.specs.Peer.{Message}
 use Rattle.kernel_engine.specs.Listen.{RunsOut}
 use Rattle.kernel_engine.specs.Server.{Answering, Serving, Treats, GoesOn, AnswersAll, IsLast, IsServed}
 use Rattle.kernel_engine.specs.Server.{Serves, ServesPeer, told}

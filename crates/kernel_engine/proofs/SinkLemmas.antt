@@ -11,12 +11,12 @@ use Rattle.jmsg_envelope.specs.declared.envelope.Envelope.{Envelope}
 use Rattle.kernel_block.specs.declared.fault.EngineFault.{EngineFault}
 use Rattle.kernel_block.specs.declared.fault.EngineFault.TheVariants.{OwedIdle, Memory, Read, Write, Turns, Worn}
 use Rattle.kernel_block.specs.declared.parts.Parts.{Parts}
+use Rattle.kernel_block.specs.Block.{Message}
 use Rattle.kernel_block.specs.Handles.{HandlesErr}
 use Rattle.kernel_engine.specs.declared.end.SessionEnd.{SessionEnd}
 use Rattle.kernel_engine.specs.declared.end.SessionEnd.TheVariants.{Eof, Shutdown, Wire, Failed}
 use Rattle.kernel_engine.specs.declared.server.Answered.{Answered}
 use Rattle.kernel_engine.specs.declared.server.Answered.TheVariants.{Done, Dropped}
-use Rattle.kernel_engine.specs.Peer.{Message}
 use Rattle.kernel_engine.specs.Server.{Serving, Treats, GoesOn, AnswersAll, Serves, ServesPeer, begins, told}
 use Rattle.kernel_engine.specs.Work.{WorksOne}
 

@@ -1,7 +1,8 @@
 -- A session of an engine, as its definition tells it: each step of the engine is one of the session, for some course
 -- and date.
-use Rattle.std.proofs.Common.{◌≡◌, ◌⊎◌, inl, inr, ℕ, ◌+◌, ◌<◌, List, [], ◌∷◌, ◌++◌, length, Bool, true, false}
-use Rattle.std.proofs.Common.{Option, Some, None, Result, Ok, Err, refl, sym, ◌∙◌, ap, subst, append_assoc, map, arith}
+use Rattle.std.proofs.Common.{◌≡◌, ◌⊎◌, inl, inr, ℕ, ◌+◌, List, [], ◌∷◌, ◌++◌, length, Bool, true, false, Option}
+use Rattle.std.proofs.Common.{Some, None, Result, Ok, Err, refl, sym, ◌∙◌, ap, subst, append_assoc, map, arith}
+use Rattle.std.proofs.Common.{length-append}
 use Rattle.std.proofs.lemmas.List.{append-nil, map-append}
 use Rattle.zmtp_wire.specs.declared.handshake.socket_type.SocketType.TheVariants.{Router}
 use Rattle.zmtp_wire.specs.declared.traffic.Traffic.{Traffic}
@@ -15,7 +16,7 @@ use Rattle.kernel_block.specs.declared.fault.EngineFault.TheVariants.{OwedIdle, 
 use Rattle.kernel_block.specs.declared.handled.Handled.{Handled}
 use Rattle.kernel_block.specs.declared.parts.Parts.{Parts}
 use Rattle.kernel_block.specs.declared.side.Side.{Side}
-use Rattle.kernel_block.specs.Block.{block, idle, opened, reply_message}
+use Rattle.kernel_block.specs.Block.{Message, block, idle, opened, reply_message}
 use Rattle.kernel_block.specs.Growth.{item_of, sealing_of}
 use Rattle.kernel_block.specs.Handles.{answer_with, owed_items}
 use Rattle.kernel_block.specs.Opens.{ids_of_reply}
@@ -26,11 +27,10 @@ use Rattle.kernel_engine.specs.declared.server.Answered.{Answered}
 use Rattle.kernel_engine.specs.declared.server.Answered.TheVariants.{Done, Dropped}
 use Rattle.kernel_engine.specs.Exchange.{Exchange}
 use Rattle.kernel_engine.specs.Fault.{IsServerEnd}
-use Rattle.kernel_engine.specs.Laws.{IsDone as IsSettledAnswer}
+use Rattle.kernel_engine.specs.Laws.{IsDone}
 use Rattle.kernel_engine.specs.Listen.{RunsOut}
-use Rattle.kernel_engine.specs.Peer.{Message}
 use Rattle.kernel_engine.specs.Server.{Serving, Treats, GoesOn, AnswersAll, IsLast, IsServed, Serves, ServesPeer}
-use Rattle.kernel_engine.specs.Server.{begins, marked, told}
+use Rattle.kernel_engine.specs.Server.{BreaksIn, begins, marked, told}
 use Rattle.kernel_engine.specs.Session.{DoesMessage, IsTold, Performs, Run, Setting, Standing}
 use Rattle.kernel_engine.specs.Session.{heading_by, number_behind, reply_text}
 use Rattle.kernel_engine.specs.Work.{TellsSession, Works, WorksOne, all_items, setting_of}
@@ -72,12 +72,13 @@ same_setting id_text is_date side other key also stamp same a b c =
     ap (λ s. setting_by id_text is_date s key stamp) a ∙ ap (λ k. setting_by id_text is_date other k stamp) b
     ∙ ap (λ t. setting_by id_text is_date other also t) c
 
--- octets that are some aren't none
-no_octet : (octets : List ℕ) → 0 < length octets → octets ≡ [] → ⊥
-no_octet octets some none = omega (arith, some, ap length none)
+-- a write doesn't fail in nothing
+no_break : (before reply written : List ℕ) → BreaksIn before reply written → reply ≡ [] → ⊥
+no_break before reply written (front, lost, split, some, wrote) none =
+    omega (arith, some, ap length (sym split ∙ none), length-append front lost)
 
 -- a message that wasn't dropped was done
-answered_done : (answered : Answered) → IsSettledAnswer (Ok answered) → answered ≡ Done
+answered_done : (answered : Answered) → IsDone (Ok answered) → answered ≡ Done
 answered_done Done done = refl
 answered_done Dropped done = absurd done
 
@@ -85,7 +86,7 @@ module _ {I P S W Cell : Type 0} (m : Meaning I Cell) (items_of : P → List (Op
     (may_refuse : P → Type 0) (is_same : P → P → Type 0) (meaning : S → StampMeaning)
     (id_text : StampMeaning → ℕ → List ℕ) (is_date : StampMeaning → List ℕ → Bool) (may : Type 0) where
   -- a message was done as a request by a run, and what was published is this
-  record IsDone (old : Parts I P S W) (message : Message) (handled : Handled) (reply : List ℕ) (new : Parts I P S W)
+  record WasRun (old : Parts I P S W) (message : Message) (handled : Handled) (reply : List ℕ) (new : Parts I P S W)
       : Type 0 where
     run : Run I
     messages : List Message
@@ -98,7 +99,7 @@ module _ {I P S W Cell : Type 0} (m : Meaning I Cell) (items_of : P → List (Op
 
   is_done : (old : Parts I P S W) (message : Message) (handled : Handled) (reply : List ℕ) (new : Parts I P S W)
       → Works m items_of may_refuse is_same meaning id_text is_date may old message handled new
-      → reply ≡ reply_text handled.reply → IsDone old message handled reply new
+      → reply ≡ reply_text handled.reply → WasRun old message handled reply new
   is_done old message handled reply new works is =
       let ok = works.does in
       let request = works.request in
@@ -211,7 +212,7 @@ module _ {I P S W Cell : Type 0} (m : Meaning I Cell) (items_of : P → List (Op
 
   -- the first was done as a request, and the others were treated
   treated_on : (old middle new : Parts I P S W) (message : Message) (items : List Traffic)
-      (reply later replies : List ℕ) (handled : Handled) → IsDone old message handled reply middle
+      (reply later replies : List ℕ) (handled : Handled) → WasRun old message handled reply middle
       → handled.end ≡ false → IsTreated middle items later new → replies ≡ reply ++ later
       → IsTreated old (traffic.Message message ∷ items) replies new
   treated_on old middle new message items reply later replies handled one ends rest is = record {
@@ -334,8 +335,7 @@ module _ {I P S W Cell : Type 0} (m : Meaning I Cell) (items_of : P → List (Op
       answered)
       → false ≡ marked false answered
       → ((answered ≡ Err end) × IsServerEnd end × (served.replies ≡ served.converses.replies ++ last.reply))
-      ⊎ ((end ≡ Failed Write) × (0 < length last.reply)
-      × ((lost : List ℕ) × (served.converses.replies ++ last.reply ≡ served.replies ++ lost)))
+      ⊎ ((end ≡ Failed Write) × BreaksIn served.converses.replies last.reply served.replies)
       → TellsSession m items_of meaning id_text is_date may old octets written new end
   told_at old new octets written end served last message named kept handled works replied answered performs mark how =
       let talk = served.converses in
@@ -391,40 +391,39 @@ module _ {I P S W Cell : Type 0} (m : Meaning I Cell) (items_of : P → List (Op
       served.converses.rest served.converses.replies served.replies (record { server = new; dropped = false }) end)
       → (item : Traffic) → last.last ≡ item → (answered : Result Answered SessionEnd)
       → Treats (WorksOne m items_of may_refuse is_same meaning id_text is_date may) served.converses.now.server item
-      last.reply new answered → false ≡ marked served.converses.now.dropped answered → 0 < length last.reply
-      → (lost : List ℕ) × (served.converses.replies ++ last.reply ≡ served.replies ++ lost)
+      last.reply new answered → false ≡ marked served.converses.now.dropped answered
+      → BreaksIn served.converses.replies last.reply served.replies
       → TellsSession m items_of meaning id_text is_date may old octets written new end
   told_cut old new octets written end is served last (traffic.Command name rest) named answered (none, same, goes) mark
-      some lost =
-      absurd (no_octet last.reply some none)
-  told_cut old new octets written end is served last (traffic.Message message) named (Ok Done) (inl ignores) mark some
-      lost =
-      absurd (no_octet last.reply some ignores.silent)
-  told_cut old new octets written end is served last (traffic.Message message) named (Ok Done) (inr through) mark some
-      lost =
+      breaks =
+      absurd (no_break served.converses.replies last.reply served.replies breaks none)
+  told_cut old new octets written end is served last (traffic.Message message) named (Ok Done) (inl ignores) mark
+      breaks =
+      absurd (no_break served.converses.replies last.reply served.replies breaks ignores.silent)
+  told_cut old new octets written end is served last (traffic.Message message) named (Ok Done) (inr through) mark
+      breaks =
       told_at old new octets written end served last message named (sym mark) through.handled through.works
       through.replied (Ok Done) (λ one two done end_is restart_is. inr (done, end_is ∙ through.end)) refl
-      (inr (is, some, lost))
-  told_cut old new octets written end is served last (traffic.Message message) named (Ok Dropped) loses mark some lost
-      =
+      (inr (is, breaks))
+  told_cut old new octets written end is served last (traffic.Message message) named (Ok Dropped) loses mark breaks =
       absurd (let e = mark in cc)
-  told_cut old new octets written end is served last (traffic.Message message) named (Err Eof) step mark some lost =
+  told_cut old new octets written end is served last (traffic.Message message) named (Err Eof) step mark breaks =
       absurd step
-  told_cut old new octets written end is served last (traffic.Message message) named (Err (Wire fault)) step mark some
-      lost =
+  told_cut old new octets written end is served last (traffic.Message message) named (Err (Wire fault)) step mark
+      breaks =
       absurd step
   told_cut old new octets written end is served last (traffic.Message message) named (Err (Shutdown restart))
-      (through, again) mark some lost =
+      (through, again) mark breaks =
       told_at old new octets written end served last message named (sym mark) through.handled through.works
       through.replied (Err (Shutdown restart))
       (λ one two done end_is restart_is. (done, end_is ∙ through.end, ap Shutdown (again ∙ sym restart_is))) refl
-      (inr (is, some, lost))
+      (inr (is, breaks))
   told_cut old new octets written end is served last (traffic.Message message) named (Err (Failed fault)) (inl refuses)
-      mark some lost =
-      absurd (no_octet last.reply some refuses.silent)
+      mark breaks =
+      absurd (no_break served.converses.replies last.reply served.replies breaks refuses.silent)
   told_cut old new octets written end is served last (traffic.Message message) named (Err (Failed fault)) (inr vain)
-      mark some lost =
-      absurd (no_octet last.reply some vain.silent)
+      mark breaks =
+      absurd (no_break served.converses.replies last.reply served.replies breaks vain.silent)
 
   -- a session that the engine ended at one traffic
   told_last : (old new : Parts I P S W) (octets written : List ℕ) (end : SessionEnd) → IsTold end
@@ -469,8 +468,8 @@ module _ {I P S W Cell : Type 0} (m : Meaning I Cell) (items_of : P → List (Op
           told_last old new octets written end settled served last last.last refl is ends
           (subst (λ a. Treats (WorksOne m items_of may_refuse is_same meaning id_text is_date may)
           served.converses.now.server last.last last.reply new a) is last.step) wrote
-      | inr (is, some, lost) ↦
-          told_cut old new octets written end is served last last.last refl last.answered last.step last.mark some lost
+      | inr (is, breaks) ↦
+          told_cut old new octets written end is served last last.last refl last.answered last.step last.mark breaks
     ]
   ]
 

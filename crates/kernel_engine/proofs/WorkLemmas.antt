@@ -12,7 +12,7 @@ use Rattle.jmsg_types.specs.declared.reply.Reply.{Reply}
 use Rattle.kernel_block.specs.declared.handled.Handled.{Handled}
 use Rattle.kernel_block.specs.declared.heading.Heading.{Heading}
 use Rattle.kernel_block.specs.declared.parts.Parts.{Parts}
-use Rattle.kernel_block.specs.Block.{Sealing, message, reply_message}
+use Rattle.kernel_block.specs.Block.{Message, Sealing, message, reply_message}
 use Rattle.kernel_block.specs.Growth.{sealing_of}
 use Rattle.kernel_block.specs.Handles.{HandlesOk}
 use Rattle.kernel_block.specs.WellBlocked.{heading_of, past}
@@ -20,7 +20,6 @@ use Rattle.kernel_engine.specs.declared.end.SessionEnd.{SessionEnd}
 use Rattle.kernel_engine.specs.declared.end.SessionEnd.TheVariants.{Eof, Shutdown, Wire, Failed}
 use Rattle.kernel_engine.specs.declared.server.Answered.{Answered}
 use Rattle.kernel_engine.specs.declared.server.Answered.TheVariants.{Done, Dropped}
-use Rattle.kernel_engine.specs.Peer.{Message}
 use Rattle.kernel_engine.specs.Session.{IsNoRequest}
 use Rattle.kernel_engine.specs.Work.{Finishes, Works, WorksOne}
 

@@ -12,10 +12,12 @@ use Rattle.zmtp_wire.specs.Traffic.{is_error}
 use Rattle.kernel_engine.specs.declared.server.Answered.{Answered}
 use Rattle.kernel_engine.specs.declared.server.Answered.TheVariants.{Done, Dropped}
 use Rattle.kernel_block.specs.declared.fault.EngineFault.TheVariants.{Memory, Write}
+use Rattle.kernel_block.specs.Block.{Message}
 use Rattle.kernel_engine.specs.declared.end.SessionEnd.{SessionEnd}
 use Rattle.kernel_engine.specs.declared.end.SessionEnd.TheVariants.{Failed}
-use Rattle.kernel_engine.specs.Peer.{Message, IsCalm, BeginsWith, IsMet}
+use Rattle.kernel_engine.specs.Peer.{IsCalm, BeginsWith, IsMet}
 use Rattle.kernel_engine.specs.Listen.{RunsOut}
+use Rattle.kernel_engine.specs.Server.{BreaksIn}
 use Rattle.kernel_engine.specs.Steps.{TurnsAway}
 
 -- a message is answered by its own text, or by nothing for want of memory, which ends it
@@ -30,15 +32,14 @@ echo_of (traffic.Message message) = text message
 echo_of (traffic.Command name rest) = []
 
 -- The heartbeat ended at one traffic, which isn't the command ERROR, behind traffic that came back: there was no
--- memory for it, or a write failed, and a beginning of what is due was written.
+-- memory for it, or a write failed in it.
 pub record IsCutShort (opening : List ℕ) (traffic : List Traffic) (rest written : List ℕ) (end : SessionEnd)
     : Type 0 where
   pub last : Traffic
   pub comes : BeginsWith rest last
   pub harmless : is_error last ≡ false
   pub how : ((end ≡ Failed Memory) × (written ≡ opening ++ flat_map echo_of traffic))
-      ⊎ ((end ≡ Failed Write)
-      × ((lost : List ℕ) × (opening ++ (flat_map echo_of traffic ++ echo_of last) ≡ written ++ lost)))
+      ⊎ ((end ≡ Failed Write) × BreaksIn (opening ++ flat_map echo_of traffic) (echo_of last) written)
 
 -- A peer was met, and each of its messages came back whole, behind what opens the connection.
 pub record IsEchoed (octets written : List ℕ) (end : SessionEnd) : Type 0 where

@@ -1,6 +1,6 @@
 -- An exchange with a peer over an inlet and an outlet: what was read and written, in how many turns, and what it
 -- comes to by the way it ended.
-use Rattle.std.specs.Prelude.{◌≡◌, ◌⊎◌, ℕ, ◌+◌, ◌≤◌, List, ◌++◌, length, Option}
+use Rattle.std.specs.Prelude.{◌≡◌, ◌⊎◌, ℕ, ◌+◌, ◌<◌, ◌≤◌, List, ◌++◌, length, Option}
 use Rattle.std.specs.Io.KnownBytes.{IsAtEnd}
 use Rattle.zmtp_wire.specs.declared.fault.WireFault.TheVariants.{OutOfMemory}
 use Rattle.zmtp_wire.specs.Device.{Inflow, Outflow, Draws, Puts}
@@ -69,7 +69,8 @@ pub record IsCut (Comes : List ℕ → List ℕ → SessionEnd → Type 0) (octe
 
 -- What the octets that were read come to, by the way the exchange ended. Where the peer's octets ended it, it is
 -- what all of them come to. A read that failed and a want of turns leave it as it was so far. Where memory was
--- refused, all was written of what a beginning of the octets comes to; where a write failed, a beginning of that.
+-- refused, all was written of what a beginning of the octets comes to; where a write failed, a beginning of that, and
+-- not all.
 abbrev pub ComesToByEnd : (List ℕ → List ℕ → SessionEnd → Type 0) → List ℕ → List ℕ → SessionEnd → Type 0
 ComesToByEnd Comes octets written Eof = Comes octets written Eof
 ComesToByEnd Comes octets written (Shutdown restart) = ⊥
@@ -77,7 +78,8 @@ ComesToByEnd Comes octets written (Wire fault) =
     ((fault ≡ OutOfMemory) × IsCut Comes octets written) ⊎ Comes octets written (Wire fault)
 ComesToByEnd Comes octets written (Failed Read) = Comes octets written Eof
 ComesToByEnd Comes octets written (Failed Turns) = Comes octets written Eof
-ComesToByEnd Comes octets written (Failed Write) = (lost : List ℕ) × IsCut Comes octets (written ++ lost)
+ComesToByEnd Comes octets written (Failed Write) =
+    (lost : List ℕ) × (0 < length lost) × IsCut Comes octets (written ++ lost)
 ComesToByEnd Comes octets written (Failed Memory) = IsCut Comes octets written
 ComesToByEnd Comes octets written (Failed Worn) = ⊥
 ComesToByEnd Comes octets written (Failed (OwedIdle request)) = ⊥

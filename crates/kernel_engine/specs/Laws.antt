@@ -3,11 +3,12 @@ use Rattle.std.specs.Prelude.{◌≡◌, ◌≢◌, ⊤, ℕ, List, ◌++◌, fa
 use Rattle.zmtp_wire.specs.declared.fault.WireFault.TheVariants.{OutOfMemory}
 use Rattle.zmtp_wire.specs.declared.handshake.socket_type.SocketType.{SocketType}
 use Rattle.zmtp_wire.specs.declared.traffic.Traffic.{Traffic}
+use Rattle.kernel_block.specs.Block.{Message}
 use Rattle.kernel_engine.specs.declared.end.SessionEnd.{SessionEnd}
 use Rattle.kernel_engine.specs.declared.end.SessionEnd.TheVariants.{Eof, Shutdown, Wire, Failed}
 use Rattle.kernel_engine.specs.declared.server.Answered.{Answered}
 use Rattle.kernel_engine.specs.declared.server.Answered.TheVariants.{Done, Dropped}
-use Rattle.kernel_engine.specs.Peer.{Message, IsMet, IsTurnedAway, Hears}
+use Rattle.kernel_engine.specs.Peer.{IsMet, IsTurnedAway, Hears}
 use Rattle.interp_core.specs.Interpreter.{Meaning}
 use Rattle.kernel_engine.specs.Server.{Answering, Serves}
 use Rattle.kernel_engine.specs.Session.{IsSession, Setting, Standing}

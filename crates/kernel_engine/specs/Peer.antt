@@ -13,10 +13,6 @@ use Rattle.zmtp_wire.specs.Traffic.{is_error}
 use Rattle.kernel_engine.specs.declared.end.SessionEnd.{SessionEnd}
 use Rattle.kernel_engine.specs.declared.end.SessionEnd.TheVariants.{Eof, Shutdown, Wire, Failed}
 
--- the frames of a message
-abbrev pub Message : Type 0
-Message = List (List ℕ)
-
 -- none of the traffic is the command ERROR
 abbrev pub IsCalm : List Traffic → Type 0
 IsCalm [] = ⊤

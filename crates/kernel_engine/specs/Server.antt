@@ -12,10 +12,11 @@ use Rattle.zmtp_wire.specs.Device.{Inflow, Outflow}
 use Rattle.kernel_engine.specs.declared.server.Answered.{Answered}
 use Rattle.kernel_engine.specs.declared.server.Answered.TheVariants.{Done, Dropped}
 use Rattle.kernel_block.specs.declared.fault.EngineFault.TheVariants.{Memory, Write}
+use Rattle.kernel_block.specs.Block.{Message}
 use Rattle.kernel_engine.specs.declared.end.SessionEnd.{SessionEnd}
 use Rattle.kernel_engine.specs.declared.end.SessionEnd.TheVariants.{Failed}
 use Rattle.kernel_engine.specs.Fault.{IsServerEnd}
-use Rattle.kernel_engine.specs.Peer.{Message, IsCalm, BeginsWith, IsMet}
+use Rattle.kernel_engine.specs.Peer.{IsCalm, BeginsWith, IsMet}
 use Rattle.kernel_engine.specs.Exchange.{Exchange}
 use Rattle.kernel_engine.specs.Listen.{RunsOut}
 use Rattle.kernel_engine.specs.Steps.{TurnsAway, IsPrompt}
@@ -61,8 +62,13 @@ AnswersAll {State} answers old (first ∷ others) replies new =
     (middle : State) × (reply : List ℕ) × (later : List ℕ) × answers old first reply middle
     × AnswersAll answers middle others later new × (replies ≡ reply ++ later)
 
+-- a write failed in a reply: what comes before that was written, and a beginning of it, and not all
+abbrev pub BreaksIn : List ℕ → List ℕ → List ℕ → Type 0
+BreaksIn before reply written = (front : List ℕ) × (lost : List ℕ) × (reply ≡ front ++ lost) × (0 < length lost)
+    × (written ≡ before ++ front)
+
 -- The session ended at one traffic, which isn't the command ERROR, behind the traffic that these replies answer. The
--- server ended it, and what it replied was written too; or a write failed, and a beginning of the replies was written.
+-- server ended it, and what it replied was written too; or a write failed in that reply.
 pub record IsLast {Server : Type 0} (answers : Answering Server) (now : Serving Server)
     (rest replies written : List ℕ) (new : Serving Server) (end : SessionEnd) : Type 0 where
   pub last : Traffic
@@ -73,7 +79,7 @@ pub record IsLast {Server : Type 0} (answers : Answering Server) (now : Serving 
   pub step : Treats answers now.server last reply new.server answered
   pub mark : new.dropped ≡ marked now.dropped answered
   pub how : ((answered ≡ Err end) × IsServerEnd end × (written ≡ replies ++ reply))
-      ⊎ ((end ≡ Failed Write) × (0 < length reply) × ((lost : List ℕ) × (replies ++ reply ≡ written ++ lost)))
+      ⊎ ((end ≡ Failed Write) × BreaksIn replies reply written)
 
 -- What octets behind a peer's READY come to with a server, of which a message was dropped or none: all that they say
 -- is answered, or the session ended at one traffic.

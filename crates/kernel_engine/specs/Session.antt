@@ -15,14 +15,13 @@ use Rattle.kernel_block.specs.declared.fault.EngineFault.TheVariants.{OwedIdle, 
 use Rattle.kernel_block.specs.declared.heading.Heading.{Heading}
 use Rattle.kernel_block.specs.declared.side.Side.{Side}
 use Rattle.kernel_block.specs.Answer.{Answer, AnswersAsked, asked_by_message}
-use Rattle.kernel_block.specs.Block.{Sealing, block, reply_message}
+use Rattle.kernel_block.specs.Block.{Message, Sealing, block, reply_message}
 use Rattle.kernel_block.specs.Course.{Course, MayEnd}
 use Rattle.kernel_block.specs.Opens.{ids_of_reply}
 use Rattle.kernel_block.specs.Publications.{PublishesAsked}
 use Rattle.kernel_engine.specs.declared.end.SessionEnd.{SessionEnd}
 use Rattle.kernel_engine.specs.declared.end.SessionEnd.TheVariants.{Eof, Shutdown, Wire, Failed}
 use Rattle.kernel_engine.specs.declared.server.Answered.TheVariants.{Done, Dropped}
-use Rattle.kernel_engine.specs.Peer.{Message}
 use Rattle.kernel_engine.specs.Server.{Answering, Serves}
 
 -- What stays in a session: the channel, what messages are sealed with, and which texts may be dates.
@@ -111,8 +110,8 @@ module _ {State Cell : Type 0} (m : Meaning State Cell) (may : Type 0) (setting 
   IsSession old octets written new end = Serves false Performs Router old octets written new end
 
 -- A session that ended so came to an end by what was read, or by a read or a write: no memory and no id was wanting,
--- and no request came back for an idle that is owed. Where a write failed, it is that of the messages up to the one at
--- whose reply it did, and a beginning of its text is written.
+-- and no request came back for an idle that is owed. Where a write failed, it is that of the messages up to the one in
+-- whose reply it did: what comes before that is written, and a beginning of it.
 abbrev pub IsTold : SessionEnd → Type 0
 IsTold Eof = ⊤
 IsTold (Shutdown restart) = ⊤

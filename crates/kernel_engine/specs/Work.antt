@@ -9,13 +9,13 @@ use Rattle.kernel_block.specs.declared.fault.EngineFault.{EngineFault}
 use Rattle.kernel_block.specs.declared.fault.EngineFault.TheVariants.{Memory}
 use Rattle.kernel_block.specs.declared.handled.Handled.{Handled}
 use Rattle.kernel_block.specs.declared.parts.Parts.{Parts}
+use Rattle.kernel_block.specs.Block.{Message}
 use Rattle.kernel_block.specs.Growth.{item_of, sealing_of}
 use Rattle.kernel_block.specs.Handles.{HandlesOk, HandlesErr, owed_items}
 use Rattle.kernel_engine.specs.declared.end.SessionEnd.{SessionEnd}
 use Rattle.kernel_engine.specs.declared.end.SessionEnd.TheVariants.{Eof, Shutdown, Wire, Failed}
 use Rattle.kernel_engine.specs.declared.server.Answered.{Answered}
 use Rattle.kernel_engine.specs.declared.server.Answered.TheVariants.{Done, Dropped}
-use Rattle.kernel_engine.specs.Peer.{Message}
 use Rattle.kernel_engine.specs.Server.{Answering}
 use Rattle.kernel_engine.specs.Session.{IsNoRequest, IsSession, Run, Setting, Standing, reply_text}
 

@@ -23,7 +23,8 @@ pub fn one_hearing()
 }
 
 /// What a peer comes to has one value with a server that is a function, where what the peer sent ended it: what is
-/// written, what the server is then and how it ended. And it stays so, whatever the peer sends then.
+/// written, what the server is then and how it ended. Unless its octets merely ended, it stays so, whatever the peer
+/// sends then.
 pub fn one_serving<S: Server>()
     ensures once { ServesOnce S.answers }
     ensures stays { ServesOn S.answers }
@@ -34,7 +35,7 @@ pub fn one_serving<S: Server>()
 }
 
 /// A session has one value for given courses and dates, where what the peer sent ended it: what is written, what is
-/// published and how it ended. And it stays so, whatever the peer sends then.
+/// published and how it ended. Unless its octets merely ended, it stays so, whatever the peer sends then.
 pub fn one_session<I: Interpreter, T: Stop>()
     ensures once { SessionOnce I.meaning T.may_ask }
     ensures stays { SessionStays I.meaning T.may_ask }

@@ -1,12 +1,11 @@
 -- Writes in turn.
-use Rattle.std.proofs.Common.{◌≡◌, ℕ, zero, suc, List, [], ◌++◌, length, take, drop, Option, Some, None}
+use Rattle.std.proofs.Common.{◌≡◌, ℕ, zero, suc, List, [], ◌++◌, length, take, drop}
 use Rattle.std.proofs.Common.{Result, Ok, Err}
 use Rattle.std.proofs.Common.{refl, sym, ◌∙◌, ap, subst, append_assoc, length-append, arith}
 use Rattle.std.proofs.lemmas.List.{take-append-drop, append-nil}
 use Rattle.std.proofs.lemmas.Bool.{false≢true}
 use Rattle.std.specs.Result.{IsErr}
-use Rattle.std.specs.Io.KnownBytes.{Appends}
-use Rattle.std.proofs.KnownBytes.{Appends-nil}
+use Rattle.std.proofs.KnownBytes.{Appends-nil, Appends-trans}
 use Rattle.zmtp_wire.specs.declared.device.WriteFailed.{WriteFailed}
 use Rattle.zmtp_wire.specs.Device.{Outflow, Puts, WriteAdds, AddsAll, risen, risen_by, idle_writes}
 
@@ -15,14 +14,6 @@ pub record PutSoFar (old now : Outflow) (all rest : List ℕ) : Type 0 where
   pub front : List ℕ
   pub split : all ≡ front ++ rest
   pub puts : Puts old now front 0
-
--- what is added in turn
-pub appends_on : (one two three : Option (List ℕ)) (first second : List ℕ) → Appends one two first
-    → Appends two three second → Appends one three (first ++ second)
-appends_on None two three first second a b = tt
-appends_on (Some x) None three first second a b = absurd a
-appends_on (Some x) (Some y) None first second a b = absurd b
-appends_on (Some x) (Some y) (Some z) first second a b = b ∙ ap (λ o. o ++ second) a ∙ append_assoc x first second
 
 -- a write that took some is no failure
 some_taken : (count : ℕ) (rest : List ℕ) → ¬ (count ≡ 0) → idle_writes count (length rest) ≡ 0
@@ -39,7 +30,7 @@ put_more old now new all rest after count so_far (added, fails) after_is some = 
       ∙ ap (λ o. take count rest ++ o) (sym after_is))
       ∙ sym (append_assoc so_far.front (take count rest) after);
   puts = record {
-    added = appends_on old.written now.written new.written so_far.front (take count rest) so_far.puts.added added;
+    added = Appends-trans old.written now.written new.written so_far.front (take count rest) so_far.puts.added added;
     fails = fails ∙ ap (λ n. risen_by n now.failures) (some_taken count rest some) ∙ so_far.puts.fails;
   };
 }
@@ -48,7 +39,7 @@ put_more old now new all rest after count so_far (added, fails) after_is some = 
 pub adds_on : (old middle new : Outflow) (result : Result Unit WriteFailed) (first second : List ℕ)
     → Puts old middle first 0 → AddsAll middle new result second → AddsAll old new result (first ++ second)
 adds_on old middle new (Ok done) first second puts adds = record {
-  added = appends_on old.written middle.written new.written first second puts.added adds.added;
+  added = Appends-trans old.written middle.written new.written first second puts.added adds.added;
   fails = adds.fails ∙ puts.fails;
 }
 adds_on old middle new (Err failed) first second puts (front, lost, split, some, adds) = (
@@ -57,7 +48,7 @@ adds_on old middle new (Err failed) first second puts (front, lost, split, some,
   ap (λ o. first ++ o) split ∙ sym (append_assoc first front lost),
   some,
   record {
-    added = appends_on old.written middle.written new.written first front puts.added adds.added;
+    added = Appends-trans old.written middle.written new.written first front puts.added adds.added;
     fails = adds.fails ∙ ap risen puts.fails;
   },
 )

@@ -25,6 +25,7 @@ const PRINTED: usize = 2490;
 /// Gives its octets in pieces, interrupts reads now and then, and fails at one of them.
 #[derive(Clone, Copy)]
 struct Pieces<'a> {
+    /// What it hasn't given yet.
     rest: &'a [u8],
     /// How many octets come before the cut.
     front: usize,

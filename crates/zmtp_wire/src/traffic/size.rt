@@ -16,7 +16,7 @@ pub(crate) struct SizeOctets {
 }
 
 impl Model for SizeOctets {
-    ghost use Rattle.std.specs.Prelude.{◌≡◌, ◌≤◌, ℕ, List, length, take};
+    ghost use Rattle.std.specs.Prelude.{◌≤◌, ℕ, List, take};
 
     ghost Value = { List ℕ };
 
