@@ -1,0 +1,103 @@
+"""The repository whose wrong bodies are tried: its crates, and the words by which the prover checks one of them."""
+
+import functools
+import os
+import re
+import subprocess
+
+TOP = os.path.dirname(os.path.dirname(os.path.dirname(os.path.abspath(__file__))))
+# What a check reads of a crate.
+PARTS = ("src", "specs", "proofs")
+# The folders of a crate's wrong bodies.
+FOLDERS = ("must-fail", "wrong")
+
+
+def stand_at(top):
+    """Takes another repository in place of the one that this script is of, before anything is asked of it."""
+    global TOP
+    TOP = os.path.abspath(top)
+
+
+@functools.cache
+def crates():
+    """The crates, each with the libraries that crates.txt names."""
+    named = {}
+    with open(os.path.join(TOP, "crates.txt"), encoding="utf-8") as file:
+        for line in file:
+            name, found, libraries = line.partition("#")[0].partition(":")
+            if found:
+                named[name.split()[0]] = libraries.split()
+    return named
+
+
+@functools.cache
+def below(crate):
+    """The libraries of this repository that a crate stands on, itself aside."""
+    return {it for dep in crates()[crate] if dep in crates() for it in (dep, *below(dep))}
+
+
+def folder_of(crate):
+    """Where a crate stands."""
+    return os.path.join(TOP, "crates", crate)
+
+
+def files_of(crate):
+    """The files that a check reads of a crate."""
+    folders = [os.path.join(folder_of(crate), part) for part in PARTS]
+    return [os.path.join(at, it) for folder in folders for at, _, its in os.walk(folder) for it in its]
+
+
+def edits_of(crate):
+    """The edit files of a crate."""
+    folders = [os.path.join(folder_of(crate), it) for it in FOLDERS]
+    files = [os.path.join(at, it) for at in folders if os.path.isdir(at) for it in sorted(os.listdir(at))]
+    return [it for it in files if it.endswith(".edit")]
+
+
+def library_of(crate):
+    """Where the toolchain's commands leave a crate as a library."""
+    return os.path.join(folder_of(crate), "out", "rlib", f"{crate}.rlib")
+
+
+def kept_of(crate):
+    """Where the toolchain's commands, and this script's checks, keep what they proved of a crate."""
+    return os.path.join(folder_of(crate), "out", "incremental")
+
+
+def modules_kept(crate):
+    """The files of the proof modules that were kept of a crate, by the name of the module; none where none were."""
+    kept = kept_of(crate)
+    found = {}
+    for build in os.listdir(kept) if os.path.isdir(kept) else []:
+        folder = os.path.join(kept, build)
+        for name in os.listdir(folder) if os.path.isdir(folder) else []:
+            if name.endswith(".oantt"):
+                found[name.removesuffix(".oantt")] = os.path.join(folder, name)
+    return found
+
+
+@functools.cache
+def kit():
+    """The folder of the toolchain."""
+    said = subprocess.run(["rt", "doc"], stdout=subprocess.PIPE, stdin=subprocess.DEVNULL, text=True, check=True)
+    return os.path.dirname(said.stdout.strip())
+
+
+@functools.cache
+def version():
+    """The toolchain's name of itself, as one word."""
+    said = subprocess.run(["rt", "version"], stdout=subprocess.PIPE, stdin=subprocess.DEVNULL, text=True, check=True)
+    return re.sub(r"\s+", "-", said.stdout.strip())
+
+
+def checker(crate, jobs=1):
+    """The words by which a crate in the current folder is checked, over its libraries as they were built."""
+    program = os.path.exists(os.path.join(folder_of(crate), "src", "main.rt"))
+    words = [f"{kit()}/bin/rattle", "check", "--crate-name", crate, f"src/{'main' if program else 'lib'}.rt"]
+    for name in dict.fromkeys(["std", *crates()[crate]]):
+        built = library_of(name) if name in crates() else f"{kit()}/rlibs/{name}.rlib"
+        words += ["--extern", f"{name}={built}"]
+    for folder in (f"{kit()}/rlibs", *(os.path.dirname(library_of(it)) for it in sorted(below(crate)))):
+        words += ["-L", f"dependency={folder}"]
+    words += ["--antt-project", f"{kit()}/rattle/logic/antt-project.json", "--logic-built", f"{kit()}/logic_built"]
+    return [*words, "--jobs", str(jobs)]
