@@ -3,7 +3,9 @@
 ghost use Rattle.std.specs.Prelude.{◌≡◌, ◌+◌, ◌<◌, ◌≤◌, ◌^◌, IfOk, OnErr, MatchResult};
 ghost use Rattle.serde_json.specs.Written.{compact_text};
 ghost use Rattle.jmsg_types.specs.Reply.{reply_data};
-ghost use Rattle.kernel_block.specs.Block.{reply_message};
+ghost use Rattle.listed.specs.Bodies.{bodies};
+ghost use Rattle.jmsg_types.specs.declared.publication.Publication.TheVariants.{Status};
+ghost use Rattle.kernel_block.specs.Block.{published, reply_message};
 ghost use Rattle.kernel_block.specs.Growth.{sealing_of};
 ghost use Rattle.kernel_block.specs.Opens.{Opens, PublishesNone, Starts, ids_of_reply};
 
@@ -17,6 +19,23 @@ use listed::{Frames, Octets, Text};
 use std::alloc::{AllocError, Global};
 
 impl<P, S: Stamp> Publishing<P, S> {
+    /// What tells this state under this number, as a message behind its topic.
+    fn status(
+        &self,
+        alloc: Global,
+        heading: &Heading,
+        number: u64,
+        state: State,
+    ) -> Result<Vec<Vec<u8>>, AllocError>
+        ensures { IfOk result (λ frames. bodies frames.items
+            ≡ published (sealing_of S.meaning S.id_text self.now) heading.now number (Status state)) }
+    {
+        let publication = Publication::Status(state);
+        let message = self.publication(alloc, heading, number, &publication);
+        drop(publication);
+        message
+    }
+
     /// Opens the block of a request with this header: publishes that the kernel is busy, under a new date. What the
     /// messages of the block share, and the message that it is idle, which is made before anything is published.
     ///
@@ -36,28 +55,34 @@ impl<P, S: Stamp> Publishing<P, S> {
             self.new)
             (λ _. PublishesNone P.items_of P.is_same S.meaning self.old self.new) }
     {
+        let Ok(date) = self.stamp.date(alloc) else {
+            drop(header);
+            return Err(AllocError);
+        };
         let heading = Heading {
-            date: Text::new(self.stamp.date(alloc)?),
+            date: Text::new(date),
             parent: header,
         };
-        let busy = self.publication(
-            alloc,
-            &heading,
-            self.next,
-            &Publication::Status(State::Busy),
-        )?;
-        let idle = self.publication(
-            alloc,
-            &heading,
-            self.next + 1,
-            &Publication::Status(State::Idle),
-        )?;
+        let Ok(busy) = self.status(alloc, &heading, self.next, State::Busy) else {
+            drop(heading);
+            return Err(AllocError);
+        };
+        let Ok(idle) = self.status(alloc, &heading, self.next + 1, State::Idle) else {
+            drop(busy);
+            drop(heading);
+            return Err(AllocError);
+        };
         match self.sink.publish(Event::Message(Frames::new(busy))) {
             Ok(()) => {
                 self.next += 2;
                 Ok((heading, Frames::new(idle)))
             }
-            Err(_) => Err(AllocError),
+            Err(refused) => {
+                drop(refused);
+                drop(idle);
+                drop(heading);
+                Err(AllocError)
+            }
         }
     }
 
@@ -74,22 +99,26 @@ impl<P, S: Stamp> Publishing<P, S> {
             (λ _. Starts P.items_of P.is_same S.meaning S.id_text S.is_date self.old self.new)
             (λ _. PublishesNone P.items_of P.is_same S.meaning self.old self.new) }
     {
-        let heading = Heading {
-            date: Text::new(self.stamp.date(alloc)?),
-            parent: Octets::new(Vec::from_slice(alloc, b"{}")?),
+        let date = Text::new(self.stamp.date(alloc)?);
+        let Ok(parent) = Vec::from_slice(alloc, b"{}") else {
+            drop(date);
+            return Err(AllocError);
         };
-        let message = self.publication(
-            alloc,
-            &heading,
-            self.next,
-            &Publication::Status(State::Starting),
-        )?;
-        match self.sink.publish(Event::Message(Frames::new(message))) {
+        let heading = Heading {
+            date,
+            parent: Octets::new(parent),
+        };
+        let message = self.status(alloc, &heading, self.next, State::Starting);
+        drop(heading);
+        match self.sink.publish(Event::Message(Frames::new(message?))) {
             Ok(()) => {
                 self.next += 1;
                 Ok(())
             }
-            Err(_) => Err(AllocError),
+            Err(refused) => {
+                drop(refused);
+                Err(AllocError)
+            }
         }
     }
 
@@ -131,7 +160,9 @@ impl<P, S: Stamp> Publishing<P, S> {
 fn content_octets(alloc: Global, reply: Reply) -> Result<Vec<u8>, AllocError>
     ensures { IfOk result (λ content. content.items ≡ compact_text (reply_data reply)) }
 {
-    match content_text(alloc, &reply) {
+    let content = content_text(alloc, &reply);
+    drop(reply);
+    match content {
         Ok(content) => Ok(content),
         Err(_) => Err(AllocError),
     }

@@ -156,6 +156,7 @@ where
         ensures counted { self.new.count ≤ self.new.publishing.next }
     {
         if self.publishing.next > LAST_BEGIN {
+            drop(request);
             return Err(EngineFault::Worn);
         }
         if !self.pay() {
@@ -166,8 +167,15 @@ where
             header,
             msg_type,
             content,
-            ..
+            msg_id,
+            parent,
+            metadata,
+            buffers,
         } = request;
+        drop(msg_id);
+        drop(parent);
+        drop(metadata);
+        drop(buffers);
         let (heading, idle) = self.publishing.open(alloc, header)?;
         let msg_type = msg_type.as_str();
         let content = content.as_slice();

@@ -2,7 +2,8 @@
 
 ghost use Rattle.std.specs.Prelude.{◌≡◌, [], ◌∷◌, IfOk, MatchResult, map};
 ghost use Rattle.listed.specs.Bodies.{bodies};
-ghost use Rattle.kernel_block.specs.Block.{message, published};
+ghost use Rattle.jmsg_envelope.specs.Header.{header_octets};
+ghost use Rattle.kernel_block.specs.Block.{empty_object, message, published};
 ghost use Rattle.kernel_block.specs.Growth.{InFront, Puts, sealing_of, unless_silent};
 ghost use Rattle.kernel_block.specs.Publications.{publication_of};
 
@@ -50,19 +51,40 @@ impl<P, S: Stamp> Publishing<P, S> {
         ensures { let grew = Puts P.items_of P.is_same S.meaning S.id_text heading.now self.old self.new in
             MatchResult result (λ _. grew (unless_silent silent (publication ∷ []))) (λ _. grew []) }
     {
-        if silent {
-            return Ok(());
-        }
+        let put = if silent {
+            Ok(())
+        } else {
+            self.put_one(alloc, heading, &publication)
+        };
+        drop(publication);
+        put
+    }
+
+    /// Publishes a publication with the next number.
+    fn put_one<W: Drop>(
+        &mut self,
+        alloc: Global,
+        heading: &Heading,
+        publication: &Publication,
+    ) -> Result<(), AllocError>
+    where
+        P: Publish<Item = Event<W>>,
+        ensures { let grew = Puts P.items_of P.is_same S.meaning S.id_text heading.now self.old self.new in
+            MatchResult result (λ _. grew (publication.now ∷ [])) (λ _. grew []) }
+    {
         if self.next > LAST_NUMBER {
             return Err(AllocError);
         }
-        let message = self.publication(alloc, heading, self.next, &publication)?;
+        let message = self.publication(alloc, heading, self.next, publication)?;
         match self.sink.publish(Event::Message(Frames::new(message))) {
             Ok(()) => {
                 self.next += 1;
                 Ok(())
             }
-            Err(_) => Err(AllocError),
+            Err(refused) => {
+                drop(refused);
+                Err(AllocError)
+            }
         }
     }
 
@@ -134,20 +156,66 @@ impl<P, S: Stamp> Publishing<P, S> {
             ≡ message (sealing_of S.meaning S.id_text self.now) heading.now (bodies prefix.items) number msg_type.now
             content.items) }
     {
-        let id = self.stamp.id(alloc, number)?;
-        let session = self.stamp.session();
-        let date = heading.date.as_str();
-        let Ok(header) = header_text(alloc, session, id.as_str(), date, msg_type) else {
+        let Ok((header, parent, metadata)) = self.parts(alloc, heading, number, msg_type) else {
+            drop(content);
+            drop(prefix);
             return Err(AllocError);
         };
-        let parent = Vec::from_slice(alloc, heading.parent.as_slice())?;
-        let metadata = Vec::from_slice(alloc, b"{}")?;
         let buffers = Vec::new(alloc);
         let signer = &self.signer;
         match seal(
             alloc, signer, prefix, header, parent, metadata, content, buffers,
         ) {
             Ok(frames) => Ok(frames),
+            Err(_) => Err(AllocError),
+        }
+    }
+
+    /// The header, the parent header and the metadata of the message of this number and type.
+    fn parts(
+        &self,
+        alloc: Global,
+        heading: &Heading,
+        number: u64,
+        msg_type: &str,
+    ) -> Result<(Vec<u8>, Vec<u8>, Vec<u8>), AllocError>
+        ensures { let sealing = sealing_of S.meaning S.id_text self.now in
+            IfOk result (λ parts. (parts.0.items
+            ≡ header_octets sealing.session (sealing.id number) heading.now.date msg_type.now)
+            × (parts.1.items ≡ heading.now.parent) × (parts.2.items ≡ empty_object)) }
+    {
+        let header = self.header(alloc, heading, number, msg_type)?;
+        let Ok(parent) = Vec::from_slice(alloc, heading.parent.as_slice()) else {
+            drop(header);
+            return Err(AllocError);
+        };
+        let Ok(metadata) = Vec::from_slice(alloc, b"{}") else {
+            drop(parent);
+            drop(header);
+            return Err(AllocError);
+        };
+        Ok((header, parent, metadata))
+    }
+
+    /// The header of the message of this number and type.
+    fn header(
+        &self,
+        alloc: Global,
+        heading: &Heading,
+        number: u64,
+        msg_type: &str,
+    ) -> Result<Vec<u8>, AllocError>
+        ensures { let sealing = sealing_of S.meaning S.id_text self.now in
+            IfOk result (λ header. header.items
+            ≡ header_octets sealing.session (sealing.id number) heading.now.date msg_type.now) }
+    {
+        let id = self.stamp.id(alloc, number)?;
+        let session = self.stamp.session();
+        let date = heading.date.as_str();
+        let header = header_text(alloc, session, id.as_str(), date, msg_type);
+        drop(id);
+        match header {
+            Ok(header) => Ok(header),
             Err(_) => Err(AllocError),
         }
     }

@@ -223,7 +223,8 @@ where
             silent,
             store_history,
             user_expressions,
-            ..
+            allow_stdin: _,
+            stop_on_error: _,
         } => {
             grow(count, store_history);
             let reply = execute(
@@ -236,24 +237,28 @@ where
                 code.as_str(),
                 user_expressions,
                 *count,
-            )?;
-            Ok(Answered::plain(Some(reply)))
+            );
+            drop(code);
+            Ok(Answered::plain(Some(reply?)))
         }
         Request::Complete { code, cursor_pos } => {
-            let reply = tell_completion(alloc, interp, code.as_str(), cursor_pos)?;
-            Ok(Answered::plain(Some(reply)))
+            let reply = tell_completion(alloc, interp, code.as_str(), cursor_pos);
+            drop(code);
+            Ok(Answered::plain(Some(reply?)))
         }
         Request::Inspect {
             code,
             cursor_pos,
-            ..
+            detail_level: _,
         } => {
-            let reply = tell_inspection(alloc, interp, code.as_str(), cursor_pos)?;
-            Ok(Answered::plain(Some(reply)))
+            let reply = tell_inspection(alloc, interp, code.as_str(), cursor_pos);
+            drop(code);
+            Ok(Answered::plain(Some(reply?)))
         }
         Request::IsComplete { code } => {
-            let reply = tell_completeness(alloc, interp, code.as_str())?;
-            Ok(Answered::plain(Some(reply)))
+            let reply = tell_completeness(alloc, interp, code.as_str());
+            drop(code);
+            Ok(Answered::plain(Some(reply?)))
         }
         Request::History => Ok(Answered::plain(Some(Reply::History))),
         Request::CommInfo => Ok(Answered::plain(Some(Reply::CommInfo))),

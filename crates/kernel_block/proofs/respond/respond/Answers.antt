@@ -40,7 +40,7 @@ returns-in_ok-reply-in-Complete g c =
     (let (answer, is, reply) = rw (c.as_str-in-Complete.ensures) at (c.in_ok-reply-in-Complete.ensures) in (
       answer,
       is,
-      plain_is c.args.interp.now c.args.count.now c.plain-in-Complete.result c.in_ok-reply-in-Complete.reply
+      plain_is c.args.interp.now c.args.count.now c.plain-in-Complete.result c.in_ok-reply-in-Complete.field-0
           (reply_by completion_reply answer) c.plain-in-Complete.ensures reply,
     ))
     (puts_none g.P.Publish.items_of g.P.Publish.is_same g.S.Stamp.meaning g.S.Stamp.id_text c.args.heading.now
@@ -59,7 +59,7 @@ returns-in_ok-reply-in-Inspect g c =
     (let (answer, is, reply) = rw (c.as_str-in-Inspect.ensures) at (c.in_ok-reply-in-Inspect.ensures) in (
       answer,
       is,
-      plain_is c.args.interp.now c.args.count.now c.plain-in-Inspect.result c.in_ok-reply-in-Inspect.reply
+      plain_is c.args.interp.now c.args.count.now c.plain-in-Inspect.result c.in_ok-reply-in-Inspect.field-0
           (reply_by tells.Inspect answer) c.plain-in-Inspect.ensures reply,
     ))
     (puts_none g.P.Publish.items_of g.P.Publish.is_same g.S.Stamp.meaning g.S.Stamp.id_text c.args.heading.now
@@ -77,7 +77,7 @@ returns-in_ok-reply-in-IsComplete g c =
     (let (answer, is, reply) = rw (c.as_str-in-IsComplete.ensures) at (c.in_ok-reply-in-IsComplete.ensures) in (
       answer,
       is,
-      plain_is c.args.interp.now c.args.count.now c.plain-in-IsComplete.result c.in_ok-reply-in-IsComplete.reply
+      plain_is c.args.interp.now c.args.count.now c.plain-in-IsComplete.result c.in_ok-reply-in-IsComplete.field-0
           (reply_by completeness_reply answer) c.plain-in-IsComplete.ensures reply,
     ))
     (puts_none g.P.Publish.items_of g.P.Publish.is_same g.S.Stamp.meaning g.S.Stamp.id_text c.args.heading.now
