@@ -1,15 +1,19 @@
 -- Cells that are run and answered.
-use Rattle.std.proofs.Common.{◌≡◌, inl, inr, ℕ, List, [], Bool, true, false, Option, None, Ok, Err, refl}
-use Rattle.std.proofs.Common.{IfSome, sym, ◌∙◌, subst}
+use Rattle.std.proofs.Common.{◌≡◌, inl, inr, ℕ, List, [], Bool, true, false, Option, Some, None, Result, Ok, Err}
+use Rattle.std.proofs.Common.{IfOk, IfSome, MatchResult, refl, sym, ◌∙◌, subst}
+use Rattle.std.specs.declared.alloc.AllocError.{AllocError}
 use Rattle.std.proofs.lemmas.List.{append-nil}
 use Rattle.interp_core.specs.Interpreter.{Meaning}
 use Rattle.interp_core.specs.declared.answer.Output.{Output}
+use Rattle.interp_core.specs.Fault.{fault_name, fault_value}
 use Rattle.interp_core.specs.declared.fault.InterpFault.{InterpFault}
 use Rattle.jmsg_types.specs.declared.publication.Publication.{Publication}
-use Rattle.kernel_block.specs.Answer.{EvaluatesFront, LeavesExpressions}
+use Rattle.jmsg_types.specs.declared.reply.Reply.{Reply}
+use Rattle.jmsg_types.specs.declared.reply.Reply.TheVariants.{ExecuteError}
+use Rattle.kernel_block.specs.Answer.{EvaluatesFront, LeavesExpressions, RepliesCell, plain}
 use Rattle.kernel_block.specs.Course.{Course, Ending, own, interrupted, memory, Outcome, TextRuns}
 use Rattle.kernel_block.specs.Growth.{InFront, unless_silent}
-use Rattle.kernel_block.specs.Responds.{ExecutedCut}
+use Rattle.kernel_block.specs.Responds.{ExecutedCut, ExecutedWhole}
 use Rattle.kernel_block.specs.Runs.{MayBeCut, TellsWhole, TellsCut, failure_of, cell_publications}
 use Rattle.kernel_block.proofs.TellLemmas.{may_be_cut}
 
@@ -103,3 +107,54 @@ module _ {State Cell : Type 0} (m : Meaning State Cell) (code : List ℕ) (expre
       cut_publications silent tells.course at at tells.outputs tells.outcome tells.runs
       (all_in_front silent _ tells.grew)
       (may_be_cut may tells.course.ending _ _ tells.ending) (none_evaluated tells.outcome at)
+
+  -- what a cell is replied that failed
+  replies_fault : (outcome : Outcome) (at : State) (fault : InterpFault) (reply : Reply)
+      → Some fault ≡ failure_of outcome → reply ≡ ExecuteError (fault_name fault) (fault_value fault) count
+      → RepliesCell m expressions count outcome at (plain at count (Some reply))
+  replies_fault (Ok value) at fault reply some is = absurd (let never = some in cc)
+  replies_fault (Err found) at fault reply some is =
+      let same : fault ≡ found = cc in rw is (rw same refl)
+
+  -- the cell failed, and its fault was told, or memory was refused
+  pub executed_fault : (silent : Bool) (at : State) (fault : InterpFault) (failure : Option InterpFault)
+      (told : Result Reply AllocError) → failure ≡ Some fault
+      → IfOk told (λ reply. reply ≡ ExecuteError (fault_name fault) (fault_value fault) count)
+      → TellsWhole (TextRuns m state code) may code count failure at Grew silent
+      → MatchResult told (λ reply. ExecutedWhole m may silent code expressions count state reply at Grew)
+      (λ _. ExecutedCut m may silent code expressions count state at Grew)
+  executed_fault silent at fault failure (Err refused) some is tells = executed_words silent at failure tells
+  executed_fault true at fault failure (Ok reply) some is tells = record {
+    course = tells.course;
+    publications = [];
+    publishes = refl;
+    answers = record {
+      outputs = tells.outputs;
+      outcome = tells.outcome;
+      after = at;
+      runs = tells.runs;
+      replies = replies_fault tells.outcome at fault reply (sym some ∙ tells.failure_is) is;
+    };
+    ending = tells.ending;
+    grew = tells.grew;
+  }
+  executed_fault false at fault failure (Ok reply) some is tells = record {
+    course = tells.course;
+    publications = cell_publications code count tells.outputs tells.outcome;
+    publishes = record {
+      outputs = tells.outputs;
+      outcome = tells.outcome;
+      after = at;
+      runs = tells.runs;
+      all = refl;
+    };
+    answers = record {
+      outputs = tells.outputs;
+      outcome = tells.outcome;
+      after = at;
+      runs = tells.runs;
+      replies = replies_fault tells.outcome at fault reply (sym some ∙ tells.failure_is) is;
+    };
+    ending = tells.ending;
+    grew = tells.grew;
+  }

@@ -50,6 +50,17 @@ module _ {State Cell : Type 0} (m : Meaning State Cell) where
         (sym is) (evaluates_on state taken values at expression answer after so_far.evaluates one);
   }
 
+  -- one more was evaluated, and what it came to stands behind the others
+  pub evaluated_behind : (state at after : State) (all taken before rest : List (List ℕ × List ℕ))
+      (values more : List (List ℕ × Shown)) (expression : List ℕ × List ℕ)
+      → EvaluatedSoFar state at all taken before values → before ≡ expression ∷ rest
+      → ((answer : Result (List ℕ) InterpFault) × m.evaluates at expression.1 answer after
+      × (more ≡ values ++ (expression.0, shown_of answer) ∷ []))
+      → EvaluatedSoFar state after all (taken ++ expression ∷ []) rest more
+  evaluated_behind state at after all taken before rest values more expression so_far next (answer, one, is) =
+      rw is (evaluated_on state at after all taken before rest values expression (shown_of answer) so_far next
+      (answer, one, refl))
+
   -- only a front part was evaluated
   pub evaluated_front : (state at after : State) (all taken before rest : List (List ℕ × List ℕ))
       (values : List (List ℕ × Shown)) (expression : List ℕ × List ℕ)

@@ -1,6 +1,7 @@
 -- A request that is handled, step by step: the idle that is owed, busy, what is published of it, and its idle.
 use Rattle.std.proofs.Common.{arith, ◌≡◌, ◌⊎◌, inl, inr, ℕ, ◌+◌, ◌≤◌, ◌^◌, List, [], ◌∷◌, ◌++◌, length, map, Bool}
-use Rattle.std.proofs.Common.{true, false, Option, Some, None, refl, sym, ◌∙◌, ap, subst, append_assoc}
+use Rattle.std.proofs.Common.{true, false, Option, Some, None, Result, Ok, Err, MatchResult, refl, sym, ◌∙◌, ap, subst}
+use Rattle.std.proofs.Common.{append_assoc}
 use Rattle.std.proofs.lemmas.List.{append-nil, map-append}
 use Rattle.interp_core.specs.Interpreter.{Meaning}
 use Rattle.iopub_event.specs.declared.event.Event.{Event}
@@ -8,6 +9,8 @@ use Rattle.iopub_event.specs.declared.event.Event.TheVariants as events
 use Rattle.jmsg_envelope.specs.Stamp.{StampMeaning}
 use Rattle.jmsg_envelope.specs.declared.envelope.Envelope.{Envelope}
 use Rattle.jmsg_types.specs.declared.publication.Publication.{Publication}
+use Rattle.kernel_block.specs.declared.fault.EngineFault.{EngineFault}
+use Rattle.kernel_block.specs.declared.fault.EngineFault.TheVariants.{Memory}
 use Rattle.kernel_block.specs.declared.handled.Handled.{Handled}
 use Rattle.kernel_block.specs.declared.heading.Heading.{Heading}
 use Rattle.kernel_block.specs.declared.parts.Parts.{Parts}
@@ -17,11 +20,11 @@ use Rattle.jmsg_types.specs.Request.{message_type}
 use Rattle.kernel_block.specs.Answer.{Answer, AnswersAsked, asked_of}
 use Rattle.kernel_block.specs.Block.{Message, busy, idle, opened, published_all, reply_message}
 use Rattle.kernel_block.specs.Growth.{Puts, item_of, sealing_of}
-use Rattle.kernel_block.specs.Handles.{Adds, AnswersInBlock, AnswersNot, Closes, HandlesCut, HandlesOk, IsLeft}
+use Rattle.kernel_block.specs.Handles.{Adds, AnswersInBlock, AnswersNot, Closes, HandlesCut, HandlesErr, HandlesOk, IsLeft}
 use Rattle.kernel_block.specs.Handles.{LeavesOpen, Pays, answer_with, owed_items}
 use Rattle.kernel_block.specs.Opens.{Opens, ids_of_reply}
 use Rattle.kernel_block.specs.Publications.{PublishesAsked}
-use Rattle.kernel_block.specs.Responds.{RespondsWhole, answer_of}
+use Rattle.kernel_block.specs.Responds.{RespondsCut, RespondsWhole, answer_of}
 use Rattle.kernel_block.specs.WellBlocked.{Block, past}
 use Rattle.kernel_block.proofs.AnswerLemmas.{asked_once, leaves_asked}
 use Rattle.kernel_block.proofs.TellLemmas.{may_be_cut}
@@ -212,6 +215,21 @@ module _ {I P S W Cell : Type 0} (m : Meaning I Cell) (items_of : P → List (Op
     },
   )
 
+  -- a request was handled, or cut for want of memory
+  abbrev pub HandledOrCut : Type 0 → Envelope → Parts I P S W → Parts I P S W → Result Handled EngineFault → Type 0
+  HandledOrCut may request old new result = MatchResult result
+      (λ handled. HandlesOk m items_of may_refuse is_same meaning id_text is_date may request old handled new)
+      (λ fault. (fault ≡ Memory) × HandlesCut m items_of may_refuse is_same meaning id_text is_date may request old new)
+
+  -- what is told of such a request
+  pub handled_told : (may : Type 0) (request : Envelope) (old new : Parts I P S W)
+      (result : Result Handled EngineFault) → HandledOrCut may request old new result
+      → MatchResult result
+      (λ handled. HandlesOk m items_of may_refuse is_same meaning id_text is_date may request old handled new)
+      (λ fault. HandlesErr m items_of may_refuse is_same meaning id_text is_date may request old fault new)
+  handled_told may request old new (Ok handled) handles = handles
+  handled_told may request old new (Err fault) (is, cut) = rw is (inr cut)
+
   module _ (request : Envelope) (heading : Heading) (idling : Message) (old paid : Parts I P S W)
       (opens : Publishing P S) (at new : Parts I P S W) (back : (a b : P) → is_same a b → may_refuse b → may_refuse a)
       (few : old.publishing.next ≤ 2 ^ 62) (pays : Pays items_of may_refuse is_same old paid)
@@ -290,6 +308,17 @@ module _ {I P S W Cell : Type 0} (m : Meaning I Cell) (items_of : P → List (Op
                 let reached = answers.grew.few before in let next = added.next in omega (arith, reached, next);
           }
 
+      -- a request was answered, or memory was refused meanwhile
+      pub handled_by : (may : Type 0) (result : Result Handled EngineFault)
+          → MatchResult result
+          (λ handled. AnswersInBlock m items_of may_refuse is_same meaning id_text is_date may heading
+          request.identities request.msg_type request.content (record paid { publishing = opens }) handled at)
+          (λ fault. (fault ≡ Memory) × AnswersNot m items_of may_refuse is_same meaning id_text is_date may heading
+          request.msg_type request.content (record paid { publishing = opens }) at)
+          → HandledOrCut may request old new result
+      handled_by may (Ok handled) answers = handled_ok may handled answers
+      handled_by may (Err fault) (is, answers) = (is, handled_cut may answers)
+
   -- a request was answered, and its reply was made
   pub answers_whole : (may : Type 0) (heading : Heading) (identities : List (List ℕ)) (msg_type content : List ℕ)
       (old : Parts I P S W) (interp : I) (count : ℕ) (mid made : Publishing P S) (answered : Answered)
@@ -345,6 +374,30 @@ module _ {I P S W Cell : Type 0} (m : Meaning I Cell) (items_of : P → List (Op
     );
   }
 
+  -- memory was refused while a request was answered
+  pub answers_cut : (may : Type 0) (heading : Heading) (msg_type content : List ℕ) (old : Parts I P S W)
+      (interp : I) (count : ℕ) (mid : Publishing P S)
+      → RespondsCut m (asked_of old.side (message_type msg_type) content) may old.interp old.count interp count
+      (Puts items_of is_same meaning id_text heading old.publishing mid)
+      → AnswersNot m items_of may_refuse is_same meaning id_text is_date may heading msg_type content old
+      (record old { interp = interp; count = count; publishing = mid })
+  answers_cut may heading msg_type content old interp count mid (inl not) =
+      record { publications = []; grew = not.grew; rest = refl; left = inl (not.same, not.counted, refl) }
+  answers_cut may heading msg_type content old interp count mid (inr part) = record {
+    publications = part.front;
+    grew = part.grew;
+    rest = refl;
+    left = inr (
+      part.course,
+      part.publications,
+      part.rest,
+      part.publishes,
+      part.whole,
+      part.leaves,
+      part.ending,
+    );
+  }
+
   -- what is left of a request counts at most once
   left_once : (may : Type 0) (old new : Parts I P S W) (msg_type content : List ℕ) (publications : List Publication)
       → IsLeft m items_of may_refuse is_same meaning id_text is_date may msg_type content old new publications
@@ -374,3 +427,10 @@ module _ {I P S W Cell : Type 0} (m : Meaning I Cell) (items_of : P → List (Op
       let number = cut.adds.number in
       let next = cut.next in
       omega (arith, fewer, once, number, next)
+
+  -- and so does one that was handled, or cut
+  pub counted_by : (may : Type 0) (request : Envelope) (old new : Parts I P S W)
+      (result : Result Handled EngineFault) → old.count ≤ old.publishing.next
+      → HandledOrCut may request old new result → new.count ≤ new.publishing.next
+  counted_by may request old new (Ok handled) fewer handles = handled_count may request old new handled fewer handles
+  counted_by may request old new (Err fault) fewer (is, cut) = cut_count may request old new fewer cut

@@ -1,19 +1,21 @@
 -- Requests that are answered at once.
-use Rattle.std.proofs.Common.{rules, ◌≡◌, ℕ, List, [], false, Option, Some, None, IfSome, IsErr, Result, Ok, Err, refl}
-use Rattle.std.proofs.Common.{◌∙◌, ap}
+use Rattle.std.proofs.Common.{rules, ◌≡◌, inl, inr, ℕ, List, [], ◌∷◌, Bool, false, Option, Some, None, IfSome, IsErr}
+use Rattle.std.proofs.Common.{Result, Ok, Err, IfOk, MatchResult, refl, ◌∙◌, ap}
 use Rattle.std.specs.declared.alloc.AllocError.{AllocError}
 use Rattle.interp_core.specs.Interpreter.{Meaning}
 use Rattle.jmsg_types.specs.Fault.{Refusal}
 use Rattle.jmsg_types.specs.declared.message_type.MessageType.{MessageType}
 use Rattle.jmsg_types.specs.declared.publication.Publication.{Publication}
+use Rattle.jmsg_types.specs.declared.publication.Publication.TheVariants.{CommClose}
 use Rattle.jmsg_types.specs.declared.reply.Reply.{Reply}
 use Rattle.jmsg_types.specs.declared.request.Request.{Request}
+use Rattle.jmsg_types.specs.declared.request.Request.TheVariants as asks
 use Rattle.kernel_block.specs.declared.respond.Answered.{Answered}
 use Rattle.kernel_block.specs.declared.side.Side.{Side}
 use Rattle.kernel_block.specs.Answer.{Answer, AnswersAsked, plain, refused_reply}
 use Rattle.kernel_block.specs.Course.{Course, own}
-use Rattle.kernel_block.specs.Publications.{PublishesAsked}
-use Rattle.kernel_block.specs.Responds.{RespondsWhole, answer_of}
+use Rattle.kernel_block.specs.Publications.{PublishesAsked, grown}
+use Rattle.kernel_block.specs.Responds.{ExecutedCut, ExecutedWhole, RespondsCut, RespondsWhole, answer_of}
 
 -- the course of a request that runs no cell
 abbrev pub no_course : {State : Type 0} → Course State
@@ -35,12 +37,89 @@ responds_at_once m side kind asked may state count answer Grew publications publ
   grew = grew;
 }
 
--- a reply that is what is due, and nothing that the kernel is to do
-pub plain_is : {State : Type 0} (state : State) (count : ℕ) (answered : Answered) (reply due : Reply)
-    → answered ≡ record { reply = Some reply; end = false; restart = false; interrupt = false } → reply ≡ due
-    → answer_of answered state count ≡ plain state count (Some due)
-plain_is state count answered reply due answers is =
-    ap (λ (a : Answered). answer_of a state count) answers ∙ ap (λ (r : Reply). plain state count (Some r)) is
+-- what comes of a reply that was made, where there is nothing that the kernel is to do, or of want of memory
+abbrev pub IsPlainly : Result Reply AllocError → Result Answered AllocError → Type 0
+IsPlainly told result = MatchResult told
+    (λ reply. result ≡ Ok (record { reply = Some reply; end = false; restart = false; interrupt = false }))
+    (λ _. IsErr result)
+
+-- a request that runs no cell gets a reply, or memory was refused
+pub told_at_once : {State Cell : Type 0} (m : Meaning State Cell) (side : Side) (kind : Option MessageType)
+    (request : Request) (may : Type 0) (state : State) (count : ℕ) (told : Result Reply AllocError)
+    (result : Result Answered AllocError) (Due : Reply → Type 0) (Grew : List Publication → Type 0)
+    → IsPlainly told result → IfOk told Due
+    → ((reply : Reply) → Due reply
+    → AnswersAsked m side kind (Ok request) state count no_course (plain state count (Some reply)))
+    → PublishesAsked m (Ok request) state count no_course [] → Grew []
+    → MatchResult result
+    (λ answered. RespondsWhole m side kind (Ok request) may state count (answer_of answered state count) Grew)
+    (λ _. RespondsCut m (Ok request) may state count state count Grew)
+told_at_once m side kind request may state count (Ok reply) result Due Grew made due answers publishes grew =
+    rw made (responds_at_once m side kind (Ok request) may state count (plain state count (Some reply)) Grew []
+    publishes (answers reply due) grew)
+told_at_once m side kind request may state count (Err refused) (Ok answered) Due Grew made due answers publishes grew =
+    absurd (let never = made in search rules)
+told_at_once m side kind request may state count (Err refused) (Err fault) Due Grew made due answers publishes grew =
+    inl (record { same = refl; counted = refl; grew = grew })
+
+-- a cell is answered, or memory was refused
+pub executed_told : {State Cell : Type 0} (m : Meaning State Cell) (side : Side) (kind : Option MessageType)
+    (code : List ℕ) (silent store_history : Bool) (expressions : List (List ℕ × List ℕ)) (stdin stop : Bool)
+    (may : Type 0) (state after : State) (count left : ℕ) (told : Result Reply AllocError)
+    (result : Result Answered AllocError) (Grew : List Publication → Type 0)
+    → IsPlainly told result → left ≡ grown store_history count
+    → MatchResult told (λ reply. ExecutedWhole m may silent code expressions left state reply after Grew)
+    (λ _. ExecutedCut m may silent code expressions left state after Grew)
+    → MatchResult result
+    (λ answered. RespondsWhole m side kind
+    (Ok (asks.Execute code silent store_history expressions stdin stop)) may state count
+    (answer_of answered after left) Grew)
+    (λ _. RespondsCut m (Ok (asks.Execute code silent store_history expressions stdin stop)) may state count after
+    left Grew)
+executed_told m side kind code silent store_history expressions stdin stop may state after count left (Ok reply) result
+    Grew made counted whole =
+    let e = rw counted at whole in
+    rw (made, counted) (record {
+      course = e.course;
+      publications = e.publications;
+      publishes = e.publishes;
+      answers = e.answers;
+      ending = e.ending;
+      grew = e.grew;
+    })
+executed_told m side kind code silent store_history expressions stdin stop may state after count left (Err refused)
+    (Ok answered) Grew made counted cut = absurd (let never = made in search rules)
+executed_told m side kind code silent store_history expressions stdin stop may state after count left (Err refused)
+    (Err fault) Grew made counted cut =
+    let e = rw counted at cut in
+    inr (record {
+      course = e.course;
+      publications = e.publications;
+      front = e.front;
+      rest = e.rest;
+      publishes = e.publishes;
+      whole = e.whole;
+      leaves = (counted, e.leaves);
+      ending = e.ending;
+      grew = e.grew;
+    })
+
+-- a comm that is opened is closed, or memory was refused
+pub closed_at_once : {State Cell : Type 0} (m : Meaning State Cell) (side : Side) (kind : Option MessageType)
+    (comm_id : List ℕ) (may : Type 0) (state : State) (count : ℕ) (result : Result Answered AllocError)
+    (Grew : List Publication → Type 0)
+    → MatchResult result
+    (λ answered. (answered ≡ record { reply = None; end = false; restart = false; interrupt = false })
+    × Grew (CommClose comm_id ∷ [])) (λ _. Grew [])
+    → MatchResult result
+    (λ answered. RespondsWhole m side kind (Ok (asks.CommOpen comm_id)) may state count
+    (answer_of answered state count) Grew)
+    (λ _. RespondsCut m (Ok (asks.CommOpen comm_id)) may state count state count Grew)
+closed_at_once m side kind comm_id may state count (Ok answered) Grew (is, grew) =
+    responds_at_once m side kind (Ok (asks.CommOpen comm_id)) may state count (answer_of answered state count) Grew
+    (CommClose comm_id ∷ []) refl (ap (λ (a : Answered). answer_of a state count) is) grew
+closed_at_once m side kind comm_id may state count (Err refused) Grew grew =
+    inl (record { same = refl; counted = refl; grew = grew })
 
 -- a refused content gets its error
 pub refused_at_once : {State Cell : Type 0} (m : Meaning State Cell) (side : Side) (kind : Option MessageType)

@@ -1,11 +1,10 @@
 //! The ends of a block: busy and idle, and the reply.
 
-ghost use Rattle.std.specs.Prelude.{◌≡◌, ◌+◌, ◌<◌, ◌≤◌, ◌^◌, IfOk, OnErr, MatchResult};
+ghost use Rattle.std.specs.Prelude.{◌≡◌, ◌+◌, ◌<◌, ◌≤◌, ◌^◌, true, IfOk, OnErr, MatchResult};
 ghost use Rattle.serde_json.specs.Written.{compact_text};
 ghost use Rattle.jmsg_types.specs.Reply.{reply_data};
-ghost use Rattle.listed.specs.Bodies.{bodies};
 ghost use Rattle.jmsg_types.specs.declared.publication.Publication.TheVariants.{Status};
-ghost use Rattle.kernel_block.specs.Block.{published, reply_message};
+ghost use Rattle.kernel_block.specs.Block.{busy, idle, published, reply_message};
 ghost use Rattle.kernel_block.specs.Growth.{sealing_of};
 ghost use Rattle.kernel_block.specs.Opens.{Opens, PublishesNone, Starts, ids_of_reply};
 
@@ -26,14 +25,50 @@ impl<P, S: Stamp> Publishing<P, S> {
         heading: &Heading,
         number: u64,
         state: State,
-    ) -> Result<Vec<Vec<u8>>, AllocError>
-        ensures { IfOk result (λ frames. bodies frames.items
+    ) -> Result<Frames, AllocError>
+        ensures { IfOk result (λ message. message
             ≡ published (sealing_of S.meaning S.id_text self.now) heading.now number (Status state)) }
     {
         let publication = Publication::Status(state);
         let message = self.publication(alloc, heading, number, &publication);
         drop(publication);
-        message
+        Ok(Frames::new(message?))
+    }
+
+    /// The ends of a block, under the next two numbers: that the kernel is busy, and that it is idle.
+    fn ends(&self, alloc: Global, heading: &Heading) -> Result<(Frames, Frames), AllocError>
+        requires { self.now.next < 2 ^ 63 }
+        ensures { let sealing = sealing_of S.meaning S.id_text self.now in
+            IfOk result (λ ends. (ends.0 ≡ busy sealing heading.now self.now.next)
+            × (ends.1 ≡ idle sealing heading.now self.now.next)) }
+    {
+        let busy = self.status(alloc, heading, self.next, State::Busy)?;
+        match self.status(alloc, heading, self.next + 1, State::Idle) {
+            Ok(idle) => Ok((busy, idle)),
+            Err(AllocError) => {
+                drop(busy);
+                Err(AllocError)
+            }
+        }
+    }
+
+    /// The heading of messages with this parent header, under a new date.
+    fn heading(&mut self, alloc: Global, parent: Octets) -> Result<Heading, AllocError>
+        ensures heading { IfOk result (λ heading. (S.is_date (S.meaning self.old.stamp) heading.date ≡ true)
+            × (heading.parent ≡ parent)) }
+        ensures same { (self.new ≡ record self.old { stamp = self.new.stamp })
+            × (S.meaning self.new.stamp ≡ S.meaning self.old.stamp) }
+    {
+        match self.stamp.date(alloc) {
+            Ok(date) => Ok(Heading {
+                date: Text::new(date),
+                parent,
+            }),
+            Err(AllocError) => {
+                drop(parent);
+                Err(AllocError)
+            }
+        }
     }
 
     /// Opens the block of a request with this header: publishes that the kernel is busy, under a new date. What the
@@ -55,27 +90,15 @@ impl<P, S: Stamp> Publishing<P, S> {
             self.new)
             (λ _. PublishesNone P.items_of P.is_same S.meaning self.old self.new) }
     {
-        let Ok(date) = self.stamp.date(alloc) else {
-            drop(header);
-            return Err(AllocError);
-        };
-        let heading = Heading {
-            date: Text::new(date),
-            parent: header,
-        };
-        let Ok(busy) = self.status(alloc, &heading, self.next, State::Busy) else {
+        let heading = self.heading(alloc, header)?;
+        let Ok((busy, idle)) = self.ends(alloc, &heading) else {
             drop(heading);
             return Err(AllocError);
         };
-        let Ok(idle) = self.status(alloc, &heading, self.next + 1, State::Idle) else {
-            drop(busy);
-            drop(heading);
-            return Err(AllocError);
-        };
-        match self.sink.publish(Event::Message(Frames::new(busy))) {
+        match self.sink.publish(Event::Message(busy)) {
             Ok(()) => {
                 self.next += 2;
-                Ok((heading, Frames::new(idle)))
+                Ok((heading, idle))
             }
             Err(refused) => {
                 drop(refused);
@@ -99,27 +122,12 @@ impl<P, S: Stamp> Publishing<P, S> {
             (λ _. Starts P.items_of P.is_same S.meaning S.id_text S.is_date self.old self.new)
             (λ _. PublishesNone P.items_of P.is_same S.meaning self.old self.new) }
     {
-        let date = Text::new(self.stamp.date(alloc)?);
-        let Ok(parent) = Vec::from_slice(alloc, b"{}") else {
-            drop(date);
-            return Err(AllocError);
-        };
-        let heading = Heading {
-            date,
-            parent: Octets::new(parent),
-        };
-        let message = self.status(alloc, &heading, self.next, State::Starting);
+        let parent = Octets::new(Vec::from_slice(alloc, b"{}")?);
+        let heading = self.heading(alloc, parent)?;
+        let starting = Publication::Status(State::Starting);
+        let told = self.put(alloc, &heading, false, starting);
         drop(heading);
-        match self.sink.publish(Event::Message(Frames::new(message?))) {
-            Ok(()) => {
-                self.next += 1;
-                Ok(())
-            }
-            Err(refused) => {
-                drop(refused);
-                Err(AllocError)
-            }
-        }
+        told
     }
 
     /// The reply to a message of this type, behind the identities of who sent it, with the next number.
@@ -142,10 +150,16 @@ impl<P, S: Stamp> Publishing<P, S> {
         ensures few { self.old.next ≤ 2 ^ 63 + 1 → self.new.next ≤ 2 ^ 63 + 1 }
     {
         let Some(reply) = reply else {
+            drop(identities);
             return Ok(None);
         };
-        let content = content_octets(alloc, reply)?;
+        let Ok(content) = content_octets(alloc, reply) else {
+            drop(identities);
+            return Err(AllocError);
+        };
         if self.next > LAST_NUMBER {
+            drop(content);
+            drop(identities);
             return Err(AllocError);
         }
         let msg_type = reply_type(msg_type).unwrap_or("");

@@ -1,6 +1,6 @@
 //! User expressions, which are evaluated behind a cell.
 
-ghost use Rattle.std.specs.Prelude.{◌≡◌, ℕ, List, Result, MatchResult};
+ghost use Rattle.std.specs.Prelude.{◌≡◌, ℕ, List, [], ◌∷◌, ◌++◌, Result, MatchResult};
 ghost use Rattle.interp_core.specs.declared.fault.InterpFault.{InterpFault};
 ghost use Rattle.kernel_block.specs.Answer.{Evaluates, EvaluatesFront, LeavesExpression, shown_of};
 
@@ -21,11 +21,41 @@ pub(crate) fn evaluate_all<I: Interpreter>(
 {
     let mut values = Vec::new(alloc);
     for expression in expressions.into_vec() {
-        let (name, text) = expression;
-        let shown = evaluate(alloc, interp, text.as_str())?;
-        values.push((name, shown))?;
+        if let Err(AllocError) = evaluate_next(alloc, interp, expression, &mut values) {
+            drop(values);
+            return Err(AllocError);
+        }
     }
     Ok(Row::new(values))
+}
+
+/// Evaluates the next expression, and puts what it came to behind the others.
+fn evaluate_next<I: Interpreter>(
+    alloc: Global,
+    interp: &mut I,
+    expression: (Text, Text),
+    values: &mut Vec<(Text, Shown)>,
+) -> Result<(), AllocError>
+    ensures { MatchResult result
+        (λ _. (answer : Result (List ℕ) InterpFault)
+        × I.meaning.evaluates interp.old expression.1 answer interp.new
+        × (values.new.items ≡ values.old.items ++ (expression.0, shown_of answer) ∷ []))
+        (λ _. LeavesExpression I.meaning interp.old expression.1 interp.new) }
+{
+    let (name, text) = expression;
+    let shown = evaluate(alloc, interp, text.as_str());
+    drop(text);
+    let Ok(shown) = shown else {
+        drop(name);
+        return Err(AllocError);
+    };
+    match values.push((name, shown)) {
+        Ok(()) => Ok(()),
+        Err(refused) => {
+            drop(refused);
+            Err(AllocError)
+        }
+    }
 }
 
 /// What an expression came to.

@@ -1,6 +1,7 @@
 //! The parts of an engine, and the steps by which it handles a request.
 
 ghost use Rattle.std.specs.Prelude.{◌≡◌, ◌⊎◌, ◌≤◌, ◌<◌, ◌^◌, None, MatchBool, MatchResult};
+ghost use Rattle.kernel_block.specs.declared.fault.EngineFault.TheVariants.{Memory};
 ghost use Rattle.kernel_block.specs.Handles.{AnswersInBlock, AnswersNot, Closes, HandlesErr};
 ghost use Rattle.kernel_block.specs.Handles.{HandlesOk, LeavesOpen, Pays, PaysNot};
 ghost use Rattle.kernel_block.specs.Starts.{StartsFirst, StartsLater, StartsRefused};
@@ -17,7 +18,7 @@ use iopub_event::Event;
 use iopub_queue::Publish;
 use jmsg_envelope::{Envelope, Stamp};
 use jmsg_types::MessageType;
-use listed::Frames;
+use listed::{Frames, Octets, Text};
 use std::alloc::{AllocError, Global};
 
 /// The greatest next number with which a request is begun: then 2^62 ids were not given yet.
@@ -81,19 +82,21 @@ where
         alloc: Global,
         heading: &Heading,
         identities: Frames,
-        msg_type: &str,
-        content: &[u8],
+        msg_type: &Text,
+        content: &Octets,
         stop: &T,
-    ) -> Result<Handled, AllocError>
+    ) -> Result<Handled, EngineFault>
         requires { self.old.count < 2 ^ 63 }
         ensures { MatchResult result
             (λ handled. AnswersInBlock I.meaning P.items_of P.may_refuse P.is_same S.meaning S.id_text S.is_date
             (T.may_ask stop.now) heading.now identities msg_type.now content.now self.old handled self.new)
-            (λ _. AnswersNot I.meaning P.items_of P.may_refuse P.is_same S.meaning S.id_text S.is_date
+            (λ fault. (fault ≡ Memory)
+            × AnswersNot I.meaning P.items_of P.may_refuse P.is_same S.meaning S.id_text S.is_date
             (T.may_ask stop.now) heading.now msg_type.now content.now self.old self.new) }
     {
+        let msg_type = msg_type.as_str();
         let kind = MessageType::from_name(msg_type);
-        let answered = respond_to(
+        let Ok(answered) = respond_to(
             alloc,
             self.side,
             &mut self.interp,
@@ -102,11 +105,16 @@ where
             heading,
             stop,
             kind,
-            content,
-        )?;
-        let reply = self
-            .publishing
-            .reply(alloc, heading, identities, msg_type, answered.reply)?;
+            content.as_slice(),
+        ) else {
+            drop(identities);
+            return Err(EngineFault::Memory);
+        };
+        let publishing = &mut self.publishing;
+        let Ok(reply) = publishing.reply(alloc, heading, identities, msg_type, answered.reply)
+        else {
+            return Err(EngineFault::Memory);
+        };
         Ok(Handled {
             reply,
             end: answered.end,
@@ -162,28 +170,40 @@ where
         if !self.pay() {
             return Err(EngineFault::OwedIdle(request));
         }
-        let Envelope {
-            identities,
-            header,
-            msg_type,
-            content,
-            msg_id,
-            parent,
-            metadata,
-            buffers,
-        } = request;
-        drop(msg_id);
-        drop(parent);
-        drop(metadata);
-        drop(buffers);
-        let (heading, idle) = self.publishing.open(alloc, header)?;
-        let msg_type = msg_type.as_str();
-        let content = content.as_slice();
-        let handled = self.answer(alloc, &heading, identities, msg_type, content, stop);
+        let (identities, header, msg_type, content) = needed(request);
+        let Ok((heading, idle)) = self.publishing.open(alloc, header) else {
+            drop(content);
+            drop(msg_type);
+            drop(identities);
+            return Err(EngineFault::Memory);
+        };
+        let handled = self.answer(alloc, &heading, identities, &msg_type, &content, stop);
+        drop(content);
+        drop(msg_type);
+        drop(heading);
         self.close_block(idle);
-        match handled {
-            Ok(handled) => Ok(handled),
-            Err(AllocError) => Err(EngineFault::Memory),
-        }
+        handled
     }
+}
+
+/// What is needed of a request: its identities, its header, its type and its content.
+fn needed(request: Envelope) -> (Frames, Octets, Text, Octets)
+    ensures { (result.0 ≡ request.identities) × (result.1 ≡ request.header) × (result.2 ≡ request.msg_type)
+        × (result.3 ≡ request.content) }
+{
+    let Envelope {
+        identities,
+        header,
+        msg_id,
+        msg_type,
+        parent,
+        metadata,
+        content,
+        buffers,
+    } = request;
+    drop(msg_id);
+    drop(parent);
+    drop(metadata);
+    drop(buffers);
+    (identities, header, msg_type, content)
 }

@@ -1,12 +1,13 @@
 //! Requests that are answered.
 
-ghost use Rattle.std.specs.Prelude.{◌≡◌, ◌<◌, ◌^◌, Some, None, Ok, false, IfOk, IfSome, IsErr, MatchResult};
+ghost use Rattle.std.specs.Prelude.{◌≡◌, ◌<◌, ◌^◌, [], ◌∷◌, Some, None, Ok, false, IfOk, IfSome, IsErr, MatchResult};
 ghost use Rattle.std.specs.Prelude.{Result, Option, List, ℕ};
 ghost use Rattle.interp_core.specs.Fault.{fault_name, fault_value};
 ghost use Rattle.interp_core.specs.declared.answer.Completeness.{Completeness};
 ghost use Rattle.interp_core.specs.declared.answer.Completion.{Completion};
 ghost use Rattle.interp_core.specs.declared.answer.Info.{Info};
 ghost use Rattle.interp_core.specs.declared.fault.InterpFault.{InterpFault};
+ghost use Rattle.jmsg_types.specs.declared.publication.Publication.TheVariants.{CommClose};
 ghost use Rattle.jmsg_types.specs.declared.reply.Reply.TheVariants as tells;
 ghost use Rattle.jmsg_types.specs.Fault.{IsAnswerOrMemory, refusal_of};
 ghost use Rattle.kernel_block.specs.Answer.{asked_of, completeness_reply, completion_reply, error_reply_to};
@@ -214,10 +215,7 @@ where
         (λ _. RespondsCut I.meaning (Ok request) (T.may_ask stop.now) interp.old count.old interp.new count.new grew) }
 {
     match request {
-        Request::KernelInfo => {
-            let reply = tell_info(alloc, interp)?;
-            Ok(Answered::plain(Some(reply)))
-        }
+        Request::KernelInfo => plainly(tell_info(alloc, interp)),
         Request::Execute {
             code,
             silent,
@@ -227,46 +225,30 @@ where
             stop_on_error: _,
         } => {
             grow(count, store_history);
-            let reply = execute(
+            plainly(execute(
                 alloc,
                 interp,
                 publishing,
                 heading,
                 silent,
                 stop,
-                code.as_str(),
+                code,
                 user_expressions,
                 *count,
-            );
-            drop(code);
-            Ok(Answered::plain(Some(reply?)))
+            ))
         }
         Request::Complete { code, cursor_pos } => {
-            let reply = tell_completion(alloc, interp, code.as_str(), cursor_pos);
-            drop(code);
-            Ok(Answered::plain(Some(reply?)))
+            plainly(tell_completion(alloc, interp, code, cursor_pos))
         }
         Request::Inspect {
             code,
             cursor_pos,
             detail_level: _,
-        } => {
-            let reply = tell_inspection(alloc, interp, code.as_str(), cursor_pos);
-            drop(code);
-            Ok(Answered::plain(Some(reply?)))
-        }
-        Request::IsComplete { code } => {
-            let reply = tell_completeness(alloc, interp, code.as_str());
-            drop(code);
-            Ok(Answered::plain(Some(reply?)))
-        }
+        } => plainly(tell_inspection(alloc, interp, code, cursor_pos)),
+        Request::IsComplete { code } => plainly(tell_completeness(alloc, interp, code)),
         Request::History => Ok(Answered::plain(Some(Reply::History))),
         Request::CommInfo => Ok(Answered::plain(Some(Reply::CommInfo))),
-        Request::CommOpen { comm_id } => {
-            let closed = Publication::CommClose { comm_id };
-            publishing.put(alloc, heading, false, closed)?;
-            Ok(Answered::plain(None))
-        }
+        Request::CommOpen { comm_id } => close_comm(alloc, publishing, heading, comm_id),
         Request::Shutdown { restart } => Ok(Answered {
             reply: Some(Reply::Shutdown { restart }),
             end: true,
@@ -281,6 +263,38 @@ where
         }),
         Request::CommMsg | Request::CommClose | Request::Unknown => Ok(Answered::plain(None)),
     }
+}
+
+/// A reply that was made, and nothing that the kernel is to do.
+fn plainly(reply: Result<Reply, AllocError>) -> Result<Answered, AllocError>
+    ensures { MatchResult reply
+        (λ reply. result ≡ Ok (record { reply = Some reply; end = false; restart = false; interrupt = false }))
+        (λ _. IsErr result) }
+{
+    match reply {
+        Ok(reply) => Ok(Answered::plain(Some(reply))),
+        Err(AllocError) => Err(AllocError),
+    }
+}
+
+/// Closes a comm that is opened, since none is known: publishes that it is closed. It has no reply.
+fn close_comm<P, S: Stamp, W: Drop>(
+    alloc: Global,
+    publishing: &mut Publishing<P, S>,
+    heading: &Heading,
+    comm_id: Text,
+) -> Result<Answered, AllocError>
+where
+    P: Publish<Item = Event<W>>,
+    ensures { let grew = Puts P.items_of P.is_same S.meaning S.id_text heading.now publishing.old publishing.new in
+        MatchResult result
+        (λ answered. (answered ≡ record { reply = None; end = false; restart = false; interrupt = false })
+        × grew (CommClose comm_id ∷ []))
+        (λ _. grew []) }
+{
+    let closed = Publication::CommClose { comm_id };
+    publishing.put(alloc, heading, false, closed)?;
+    Ok(Answered::plain(None))
 }
 
 /// Whether an interruption that is asked for on a channel is carried out.
@@ -340,13 +354,15 @@ fn info_reply(info: Info) -> Reply
 fn tell_completion<I: Interpreter>(
     alloc: Global,
     interp: &I,
-    code: &str,
+    code: Text,
     cursor: u64,
 ) -> Result<Reply, AllocError>
     ensures { IfOk result (λ reply. (completion : Result Completion InterpFault)
-        × I.meaning.completes interp.now code.now cursor completion × (reply ≡ reply_by completion_reply completion)) }
+        × I.meaning.completes interp.now code cursor completion × (reply ≡ reply_by completion_reply completion)) }
 {
-    match interp.complete(alloc, code, cursor) {
+    let completion = interp.complete(alloc, code.as_str(), cursor);
+    drop(code);
+    match completion {
         Ok(completion) => Ok(completion_reply(completion)),
         Err(fault) => fault_reply(alloc, fault),
     }
@@ -367,13 +383,15 @@ fn completion_reply(completion: Completion) -> Reply
 fn tell_inspection<I: Interpreter>(
     alloc: Global,
     interp: &I,
-    code: &str,
+    code: Text,
     cursor: u64,
 ) -> Result<Reply, AllocError>
     ensures { IfOk result (λ reply. (text : Result (Option (List ℕ)) InterpFault)
-        × I.meaning.inspects interp.now code.now cursor text × (reply ≡ reply_by tells.Inspect text)) }
+        × I.meaning.inspects interp.now code cursor text × (reply ≡ reply_by tells.Inspect text)) }
 {
-    match interp.inspect(alloc, code, cursor) {
+    let text = interp.inspect(alloc, code.as_str(), cursor);
+    drop(code);
+    match text {
         Ok(text) => Ok(Reply::Inspect(text)),
         Err(fault) => fault_reply(alloc, fault),
     }
@@ -383,12 +401,14 @@ fn tell_inspection<I: Interpreter>(
 fn tell_completeness<I: Interpreter>(
     alloc: Global,
     interp: &I,
-    code: &str,
+    code: Text,
 ) -> Result<Reply, AllocError>
     ensures { IfOk result (λ reply. (completeness : Result Completeness InterpFault)
-        × I.meaning.judges interp.now code.now completeness × (reply ≡ reply_by completeness_reply completeness)) }
+        × I.meaning.judges interp.now code completeness × (reply ≡ reply_by completeness_reply completeness)) }
 {
-    match interp.is_complete(alloc, code) {
+    let completeness = interp.is_complete(alloc, code.as_str());
+    drop(code);
+    match completeness {
         Ok(completeness) => Ok(Reply::IsComplete(verdict_of(completeness))),
         Err(fault) => fault_reply(alloc, fault),
     }

@@ -1,85 +1,101 @@
-use Rattle.std.proofs.Common.{inl, inr, [], ◌∷◌, Some, Ok, true, false, refl, ap}
-use Rattle.jmsg_types.specs.declared.publication.Publication.TheVariants.{CommClose}
+use Rattle.std.proofs.Common.{◌≡◌, inl, inr, ℕ, List, [], Option, Some, Result, Ok, true, false, refl, ap}
+use Rattle.interp_core.specs.declared.answer.Completeness.{Completeness}
+use Rattle.interp_core.specs.declared.answer.Completion.{Completion}
+use Rattle.interp_core.specs.declared.answer.Info.{Info}
+use Rattle.interp_core.specs.declared.fault.InterpFault.{InterpFault}
+use Rattle.jmsg_types.specs.declared.reply.Reply.{Reply}
 use Rattle.jmsg_types.specs.declared.reply.Reply.TheVariants as tells
 use Rattle.jmsg_types.specs.declared.request.Request.TheVariants as asks
 use Rattle.kernel_block.specs.declared.respond.Answered.{Answered}
-use Rattle.kernel_block.specs.Answer.{completeness_reply, completion_reply, info_reply, reply_by}
+use Rattle.kernel_block.specs.Answer.{completeness_reply, completion_reply, info_reply, plain, reply_by}
 use Rattle.kernel_block.specs.Growth.{Puts}
 use Rattle.kernel_block.specs.Responds.{answer_of}
 use Rattle.kernel_block.proofs.GrowthLemmas.{puts_none}
-use Rattle.kernel_block.proofs.RespondLemmas.{responds_at_once, plain_is}
+use Rattle.kernel_block.proofs.RespondLemmas.{closed_at_once, executed_told, responds_at_once, told_at_once}
 use Rattle.kernel_block.proofs.respond.respond.Goals as goal
 
-pub returns-in_ok-reply-in-KernelInfo : goal.returns-in_ok-reply-in-KernelInfo
-returns-in_ok-reply-in-KernelInfo g c =
-    rw (c.in-KernelInfo.is) (responds_at_once g.I.Interpreter.meaning c.args.side c.args.kind (Ok (asks.KernelInfo))
-    (g.T.Stop.may_ask c.args.stop.now) c.args.interp.now c.args.count.now
-    (answer_of c.plain.result c.args.interp.now c.args.count.now)
+pub returns-in-KernelInfo : goal.returns-in-KernelInfo
+returns-in-KernelInfo g c =
+    rw (c.in-KernelInfo.is) (told_at_once g.I.Interpreter.meaning c.args.side c.args.kind asks.KernelInfo
+    (g.T.Stop.may_ask c.args.stop.now) c.args.interp.now c.args.count.now c.tell_info.result c.plainly.result
+    (λ reply. (info : Result Info InterpFault) × g.I.Interpreter.meaning.tells c.args.interp.now info
+    × (reply ≡ reply_by info_reply info))
     (Puts g.P.Publish.items_of g.P.Publish.is_same g.S.Stamp.meaning g.S.Stamp.id_text c.args.heading.now
     c.args.publishing.now c.args.publishing.now)
-    ([]) refl
-    (let (answer, is, reply) = c.in_ok-reply-in-KernelInfo.ensures in (
+    c.plainly.ensures c.tell_info.ensures
+    (λ reply due. let (answer, is, same) = due in (
       answer,
       is,
-      plain_is c.args.interp.now c.args.count.now c.plain.result c.in_ok-reply-in-KernelInfo.reply
-          (reply_by info_reply answer) c.plain.ensures reply,
+      ap (λ (r : Reply). plain c.args.interp.now c.args.count.now (Some r)) same,
     ))
+    refl
     (puts_none g.P.Publish.items_of g.P.Publish.is_same g.S.Stamp.meaning g.S.Stamp.id_text c.args.heading.now
     g.met.P.Publish.same_itself c.args.publishing.now))
 
-pub returns-in_ok-reply-in-Complete : goal.returns-in_ok-reply-in-Complete
-returns-in_ok-reply-in-Complete g c =
-    rw (c.in-Complete.is)
-    (responds_at_once g.I.Interpreter.meaning c.args.side c.args.kind
-    (Ok (asks.Complete c.in-Complete.code c.in-Complete.cursor_pos))
-    (g.T.Stop.may_ask c.args.stop.now) c.args.interp.now c.args.count.now
-    (answer_of c.plain-in-Complete.result c.args.interp.now c.args.count.now)
+pub returns-in-Execute : goal.returns-in-Execute
+returns-in-Execute g c =
+    rw (c.in-Execute.is) (executed_told g.I.Interpreter.meaning c.args.side c.args.kind c.in-Execute.code
+    c.in-Execute.silent c.in-Execute.store_history c.in-Execute.user_expressions c.in-Execute.allow_stdin
+    c.in-Execute.stop_on_error (g.T.Stop.may_ask c.args.stop.now) c.args.interp.now c.execute.new.interp
+    c.args.count.now c.grow.new.count c.execute.result c.plainly-in-Execute.result
+    (Puts g.P.Publish.items_of g.P.Publish.is_same g.S.Stamp.meaning g.S.Stamp.id_text c.args.heading.now
+    c.args.publishing.now c.execute.new.publishing)
+    c.plainly-in-Execute.ensures c.grow.ensures c.execute.ensures)
+
+pub returns-in-Complete : goal.returns-in-Complete
+returns-in-Complete g c =
+    rw (c.in-Complete.is) (told_at_once g.I.Interpreter.meaning c.args.side c.args.kind (asks.Complete c.in-Complete.code c.in-Complete.cursor_pos)
+    (g.T.Stop.may_ask c.args.stop.now) c.args.interp.now c.args.count.now c.tell_completion.result c.plainly-in-Complete.result
+    (λ reply. (completion : Result Completion InterpFault)
+    × g.I.Interpreter.meaning.completes c.args.interp.now c.in-Complete.code c.in-Complete.cursor_pos completion
+    × (reply ≡ reply_by completion_reply completion))
     (Puts g.P.Publish.items_of g.P.Publish.is_same g.S.Stamp.meaning g.S.Stamp.id_text c.args.heading.now
     c.args.publishing.now c.args.publishing.now)
-    ([]) refl
-    (let (answer, is, reply) = rw (c.as_str-in-Complete.ensures) at (c.in_ok-reply-in-Complete.ensures) in (
+    c.plainly-in-Complete.ensures c.tell_completion.ensures
+    (λ reply due. let (answer, is, same) = due in (
       answer,
       is,
-      plain_is c.args.interp.now c.args.count.now c.plain-in-Complete.result c.in_ok-reply-in-Complete.field-0
-          (reply_by completion_reply answer) c.plain-in-Complete.ensures reply,
+      ap (λ (r : Reply). plain c.args.interp.now c.args.count.now (Some r)) same,
     ))
+    refl
     (puts_none g.P.Publish.items_of g.P.Publish.is_same g.S.Stamp.meaning g.S.Stamp.id_text c.args.heading.now
     g.met.P.Publish.same_itself c.args.publishing.now))
 
-pub returns-in_ok-reply-in-Inspect : goal.returns-in_ok-reply-in-Inspect
-returns-in_ok-reply-in-Inspect g c =
-    rw (c.in-Inspect.is)
-    (responds_at_once g.I.Interpreter.meaning c.args.side c.args.kind
-    (Ok (asks.Inspect c.in-Inspect.code c.in-Inspect.cursor_pos c.in-Inspect.detail_level))
-    (g.T.Stop.may_ask c.args.stop.now) c.args.interp.now c.args.count.now
-    (answer_of c.plain-in-Inspect.result c.args.interp.now c.args.count.now)
+pub returns-in-Inspect : goal.returns-in-Inspect
+returns-in-Inspect g c =
+    rw (c.in-Inspect.is) (told_at_once g.I.Interpreter.meaning c.args.side c.args.kind (asks.Inspect c.in-Inspect.code c.in-Inspect.cursor_pos c.in-Inspect.detail_level)
+    (g.T.Stop.may_ask c.args.stop.now) c.args.interp.now c.args.count.now c.tell_inspection.result c.plainly-in-Inspect.result
+    (λ reply. (text : Result (Option (List ℕ)) InterpFault)
+    × g.I.Interpreter.meaning.inspects c.args.interp.now c.in-Inspect.code c.in-Inspect.cursor_pos text
+    × (reply ≡ reply_by tells.Inspect text))
     (Puts g.P.Publish.items_of g.P.Publish.is_same g.S.Stamp.meaning g.S.Stamp.id_text c.args.heading.now
     c.args.publishing.now c.args.publishing.now)
-    ([]) refl
-    (let (answer, is, reply) = rw (c.as_str-in-Inspect.ensures) at (c.in_ok-reply-in-Inspect.ensures) in (
+    c.plainly-in-Inspect.ensures c.tell_inspection.ensures
+    (λ reply due. let (answer, is, same) = due in (
       answer,
       is,
-      plain_is c.args.interp.now c.args.count.now c.plain-in-Inspect.result c.in_ok-reply-in-Inspect.field-0
-          (reply_by tells.Inspect answer) c.plain-in-Inspect.ensures reply,
+      ap (λ (r : Reply). plain c.args.interp.now c.args.count.now (Some r)) same,
     ))
+    refl
     (puts_none g.P.Publish.items_of g.P.Publish.is_same g.S.Stamp.meaning g.S.Stamp.id_text c.args.heading.now
     g.met.P.Publish.same_itself c.args.publishing.now))
 
-pub returns-in_ok-reply-in-IsComplete : goal.returns-in_ok-reply-in-IsComplete
-returns-in_ok-reply-in-IsComplete g c =
-    rw (c.in-IsComplete.is)
-    (responds_at_once g.I.Interpreter.meaning c.args.side c.args.kind (Ok (asks.IsComplete c.in-IsComplete.code))
-    (g.T.Stop.may_ask c.args.stop.now) c.args.interp.now c.args.count.now
-    (answer_of c.plain-in-IsComplete.result c.args.interp.now c.args.count.now)
+pub returns-in-IsComplete : goal.returns-in-IsComplete
+returns-in-IsComplete g c =
+    rw (c.in-IsComplete.is) (told_at_once g.I.Interpreter.meaning c.args.side c.args.kind (asks.IsComplete c.in-IsComplete.code)
+    (g.T.Stop.may_ask c.args.stop.now) c.args.interp.now c.args.count.now c.tell_completeness.result c.plainly-in-IsComplete.result
+    (λ reply. (completeness : Result Completeness InterpFault)
+    × g.I.Interpreter.meaning.judges c.args.interp.now c.in-IsComplete.code completeness
+    × (reply ≡ reply_by completeness_reply completeness))
     (Puts g.P.Publish.items_of g.P.Publish.is_same g.S.Stamp.meaning g.S.Stamp.id_text c.args.heading.now
     c.args.publishing.now c.args.publishing.now)
-    ([]) refl
-    (let (answer, is, reply) = rw (c.as_str-in-IsComplete.ensures) at (c.in_ok-reply-in-IsComplete.ensures) in (
+    c.plainly-in-IsComplete.ensures c.tell_completeness.ensures
+    (λ reply due. let (answer, is, same) = due in (
       answer,
       is,
-      plain_is c.args.interp.now c.args.count.now c.plain-in-IsComplete.result c.in_ok-reply-in-IsComplete.field-0
-          (reply_by completeness_reply answer) c.plain-in-IsComplete.ensures reply,
+      ap (λ (r : Reply). plain c.args.interp.now c.args.count.now (Some r)) same,
     ))
+    refl
     (puts_none g.P.Publish.items_of g.P.Publish.is_same g.S.Stamp.meaning g.S.Stamp.id_text c.args.heading.now
     g.met.P.Publish.same_itself c.args.publishing.now))
 
@@ -87,11 +103,11 @@ pub returns-in-History : goal.returns-in-History
 returns-in-History g c =
     rw (c.in-History.is) (responds_at_once g.I.Interpreter.meaning c.args.side c.args.kind (Ok (asks.History))
     (g.T.Stop.may_ask c.args.stop.now) c.args.interp.now c.args.count.now
-    (answer_of c.plain-in-History.result c.args.interp.now c.args.count.now)
+    (answer_of c.plain.result c.args.interp.now c.args.count.now)
     (Puts g.P.Publish.items_of g.P.Publish.is_same g.S.Stamp.meaning g.S.Stamp.id_text c.args.heading.now
     c.args.publishing.now c.args.publishing.now)
     ([]) refl
-    (ap (λ (a : Answered). answer_of a c.args.interp.now c.args.count.now) c.plain-in-History.ensures)
+    (ap (λ (a : Answered). answer_of a c.args.interp.now c.args.count.now) c.plain.ensures)
     (puts_none g.P.Publish.items_of g.P.Publish.is_same g.S.Stamp.meaning g.S.Stamp.id_text c.args.heading.now
     g.met.P.Publish.same_itself c.args.publishing.now))
 
@@ -107,17 +123,13 @@ returns-in-CommInfo g c =
     (puts_none g.P.Publish.items_of g.P.Publish.is_same g.S.Stamp.meaning g.S.Stamp.id_text c.args.heading.now
     g.met.P.Publish.same_itself c.args.publishing.now))
 
-pub returns-in_ok-put-in-CommOpen : goal.returns-in_ok-put-in-CommOpen
-returns-in_ok-put-in-CommOpen g c =
-    rw (c.in-CommOpen.is)
-    (responds_at_once g.I.Interpreter.meaning c.args.side c.args.kind (Ok (asks.CommOpen c.in-CommOpen.comm_id))
-    (g.T.Stop.may_ask c.args.stop.now) c.args.interp.now c.args.count.now
-    (answer_of c.plain-in-CommOpen.result c.args.interp.now c.args.count.now)
+pub returns-in-CommOpen : goal.returns-in-CommOpen
+returns-in-CommOpen g c =
+    rw (c.in-CommOpen.is) (closed_at_once g.I.Interpreter.meaning c.args.side c.args.kind c.in-CommOpen.comm_id
+    (g.T.Stop.may_ask c.args.stop.now) c.args.interp.now c.args.count.now c.close_comm.result
     (Puts g.P.Publish.items_of g.P.Publish.is_same g.S.Stamp.meaning g.S.Stamp.id_text c.args.heading.now
-    c.args.publishing.now c.put.new.self)
-    (CommClose c.in-CommOpen.comm_id ∷ []) refl
-    (ap (λ (a : Answered). answer_of a c.args.interp.now c.args.count.now) c.plain-in-CommOpen.ensures)
-    c.in_ok-put-in-CommOpen.ensures)
+    c.args.publishing.now c.close_comm.new.publishing)
+    c.close_comm.ensures)
 
 pub returns-in-Shutdown : goal.returns-in-Shutdown
 returns-in-Shutdown g c =
