@@ -20,8 +20,8 @@ use Rattle.jmsg_types.specs.Request.{message_type}
 use Rattle.kernel_block.specs.Answer.{Answer, AnswersAsked, asked_of}
 use Rattle.kernel_block.specs.Block.{Message, busy, idle, opened, published_all, reply_message}
 use Rattle.kernel_block.specs.Growth.{Puts, item_of, sealing_of}
-use Rattle.kernel_block.specs.Handles.{Adds, AnswersInBlock, AnswersNot, Closes, HandlesCut, HandlesErr, HandlesOk, IsLeft}
-use Rattle.kernel_block.specs.Handles.{LeavesOpen, Pays, answer_with, owed_items}
+use Rattle.kernel_block.specs.Handles.{Adds, AnswersInBlock, AnswersNot, Closes, HandlesCut, HandlesErr, HandlesOk}
+use Rattle.kernel_block.specs.Handles.{IsLeft, LeavesOpen, Pays, answer_with, owed_items}
 use Rattle.kernel_block.specs.Opens.{Opens, ids_of_reply}
 use Rattle.kernel_block.specs.Publications.{PublishesAsked}
 use Rattle.kernel_block.specs.Responds.{RespondsCut, RespondsWhole, answer_of}

@@ -44,8 +44,9 @@ returns-in-Execute g c =
 
 pub returns-in-Complete : goal.returns-in-Complete
 returns-in-Complete g c =
-    rw (c.in-Complete.is) (told_at_once g.I.Interpreter.meaning c.args.side c.args.kind (asks.Complete c.in-Complete.code c.in-Complete.cursor_pos)
-    (g.T.Stop.may_ask c.args.stop.now) c.args.interp.now c.args.count.now c.tell_completion.result c.plainly-in-Complete.result
+    rw (c.in-Complete.is) (told_at_once g.I.Interpreter.meaning c.args.side c.args.kind
+    (asks.Complete c.in-Complete.code c.in-Complete.cursor_pos) (g.T.Stop.may_ask c.args.stop.now)
+    c.args.interp.now c.args.count.now c.tell_completion.result c.plainly-in-Complete.result
     (λ reply. (completion : Result Completion InterpFault)
     × g.I.Interpreter.meaning.completes c.args.interp.now c.in-Complete.code c.in-Complete.cursor_pos completion
     × (reply ≡ reply_by completion_reply completion))
@@ -63,7 +64,8 @@ returns-in-Complete g c =
 
 pub returns-in-Inspect : goal.returns-in-Inspect
 returns-in-Inspect g c =
-    rw (c.in-Inspect.is) (told_at_once g.I.Interpreter.meaning c.args.side c.args.kind (asks.Inspect c.in-Inspect.code c.in-Inspect.cursor_pos c.in-Inspect.detail_level)
+    rw (c.in-Inspect.is) (told_at_once g.I.Interpreter.meaning c.args.side c.args.kind
+    (asks.Inspect c.in-Inspect.code c.in-Inspect.cursor_pos c.in-Inspect.detail_level)
     (g.T.Stop.may_ask c.args.stop.now) c.args.interp.now c.args.count.now c.tell_inspection.result c.plainly-in-Inspect.result
     (λ reply. (text : Result (Option (List ℕ)) InterpFault)
     × g.I.Interpreter.meaning.inspects c.args.interp.now c.in-Inspect.code c.in-Inspect.cursor_pos text
@@ -82,8 +84,9 @@ returns-in-Inspect g c =
 
 pub returns-in-IsComplete : goal.returns-in-IsComplete
 returns-in-IsComplete g c =
-    rw (c.in-IsComplete.is) (told_at_once g.I.Interpreter.meaning c.args.side c.args.kind (asks.IsComplete c.in-IsComplete.code)
-    (g.T.Stop.may_ask c.args.stop.now) c.args.interp.now c.args.count.now c.tell_completeness.result c.plainly-in-IsComplete.result
+    rw (c.in-IsComplete.is) (told_at_once g.I.Interpreter.meaning c.args.side c.args.kind
+    (asks.IsComplete c.in-IsComplete.code) (g.T.Stop.may_ask c.args.stop.now)
+    c.args.interp.now c.args.count.now c.tell_completeness.result c.plainly-in-IsComplete.result
     (λ reply. (completeness : Result Completeness InterpFault)
     × g.I.Interpreter.meaning.judges c.args.interp.now c.in-IsComplete.code completeness
     × (reply ≡ reply_by completeness_reply completeness))
