@@ -145,13 +145,16 @@ not_ready ours opening octets written whole accepted is unfinished = inr (inr (i
   ends = subst (IsUnfinished usual_limits) (sym (behind_64 opening octets whole)) unfinished;
 })))
 
--- our READY couldn't be written
-pub ready_unsent : (ours : SocketType) (inflow inflow' : Inflow) (before middle after : Outflow) (turns left : ℕ)
-    (opening octets : List ℕ) (end : SessionEnd) → octets ≡ ready_octets ours → Puts before middle greeting_octets 0
+-- our READY was written, or it couldn't be
+pub ready_unsent : (result : Result Unit SessionEnd) (ours : SocketType) (inflow inflow' : Inflow)
+    (before middle after : Outflow) (turns left : ℕ)
+    (opening octets : List ℕ) → octets ≡ ready_octets ours → Puts before middle greeting_octets 0
     → length opening ≡ 64 → Leg inflow inflow' turns left opening → IsGreeting opening
-    → PutsAll middle after octets (Err end)
-    → Exchange (TurnsAway ours) inflow inflow' before after turns left tt end
-ready_unsent ours inflow inflow' before middle after turns left opening octets end same puts whole leg accepted
+    → PutsAll middle after octets result
+    → IfErr result (λ end. Exchange (TurnsAway ours) inflow inflow' before after turns left tt end)
+ready_unsent (Ok done) ours inflow inflow' before middle after turns left opening octets same puts whole leg accepted
+    put = tt
+ready_unsent (Err end) ours inflow inflow' before middle after turns left opening octets same puts whole leg accepted
     (failed, (front, lost, is, some, put)) = rw failed (record {
       read = opening;
       written = greeting_octets ++ front;
@@ -179,16 +182,36 @@ pub record Opened (ours : SocketType) (inflow inflow' : Inflow) (before after : 
   pub accepted : IsGreeting opening
   pub puts : Puts before after (greeting_octets ++ ready_octets ours) 0
 
-pub opened : (ours : SocketType) (inflow inflow' : Inflow) (before middle after : Outflow) (turns left : ℕ)
+pub opened : (ours : SocketType) (inflow inflow' : Inflow) (before after : Outflow) (turns left : ℕ)
     (opening : List ℕ) → length opening ≡ 64 → Leg inflow inflow' turns left opening
-    → IsGreeting opening → Puts before middle greeting_octets 0 → Puts middle after (ready_octets ours) 0
+    → IsGreeting opening → Puts before after (greeting_octets ++ ready_octets ours) 0
     → Opened ours inflow inflow' before after turns left opening
-opened ours inflow inflow' before middle after turns left opening whole leg accepted first second = record {
+opened ours inflow inflow' before after turns left opening whole leg accepted puts = record {
   whole = whole;
   leg = leg;
   accepted = accepted;
-  puts = puts_on before middle after greeting_octets (ready_octets ours) 0 first second;
+  puts = puts;
 }
+
+-- our READY was written behind our greeting
+pub ready_sent : (result : Result Unit SessionEnd) (ours : SocketType) (inflow inflow' : Inflow)
+    (before middle after : Outflow) (turns left : ℕ)
+    (opening octets : List ℕ) → octets ≡ ready_octets ours → Puts before middle greeting_octets 0
+    → length opening ≡ 64 → Leg inflow inflow' turns left opening → IsGreeting opening
+    → PutsAll middle after octets result
+    → IfOk result (λ _. (o : List ℕ) × (length o ≡ 64) × IsGreeting o × Leg inflow inflow' turns left o
+    × Puts before after (greeting_octets ++ ready_octets ours) 0)
+ready_sent (Err end) ours inflow inflow' before middle after turns left opening octets same puts whole leg accepted
+    failed = tt
+ready_sent (Ok done) ours inflow inflow' before middle after turns left opening octets same puts whole leg accepted
+    put = (
+      opening,
+      whole,
+      accepted,
+      leg,
+      puts_on before middle after greeting_octets (ready_octets ours) 0 puts
+          (subst (λ o. Puts middle after o 0) same put),
+    )
 
 brings_puts : (before after : Outflow) (written octets : List ℕ) (end : SessionEnd) → BringsNothing octets end
     → Puts before after written 0 → Puts before after written (failed_writes end)

@@ -79,6 +79,7 @@ fn listen_on<R: Inlet, L: Listener>(
 {
     let Unheard { fed, mut decoder } = unheard;
     if let Err(end) = hand_fed(alloc, listener, fed) {
+        drop(decoder);
         return (end, None);
     }
     let Ok(mut piece) = vec![in alloc; 0u8; PIECE] else {
@@ -89,10 +90,16 @@ fn listen_on<R: Inlet, L: Listener>(
     loop {
         let count = match read_turn(reader, &mut piece, &mut left) {
             Ok(count) => count,
-            Err(end) => return (end, Some(Unheard::kept(alloc, decoder))),
+            Err(end) => {
+                drop(piece);
+                let kept = Unheard::kept(alloc, decoder);
+                return (end, Some(kept));
+            }
         };
         let (octets, _) = piece.split_at(count);
         if let Err(end) = hand_fed(alloc, listener, decoder.feed(octets)) {
+            drop(piece);
+            drop(decoder);
             return (end, None);
         }
     }
@@ -122,6 +129,7 @@ fn hand_traffic<L: Listener>(
 {
     for item in traffic.into_vec() {
         if item.is_error() {
+            drop(item);
             return Err(SessionEnd::Wire(WireFault::PeerError));
         }
         listener.hear(alloc, item)?;

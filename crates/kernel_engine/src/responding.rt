@@ -1,6 +1,6 @@
 //! Responding to a peer: a server hears what it says, and what the server answers is written.
 
-ghost use Rattle.std.specs.Prelude.{◌≡◌, ℕ};
+ghost use Rattle.std.specs.Prelude.{◌≡◌, ℕ, Err, MatchResult};
 ghost use Rattle.kernel_engine.specs.Server.{marked};
 ghost use Rattle.kernel_engine.specs.Met.{OfUnheard};
 ghost use Rattle.kernel_engine.specs.Respond.{ConversesOn, Responds, went};
@@ -45,8 +45,8 @@ impl<W: Outlet, S: Server> Desk<'_, '_, '_, W, S> {
         self.reply.clear();
         let answered = self.server.answer(alloc, message, self.reply);
         self.dropped = mark(self.dropped, &answered);
-        put(self.writer, self.reply)?;
-        go(answered)
+        let written = put(self.writer, self.reply);
+        go(answered, written)
     }
 
     /// Ignores a command.
@@ -77,10 +77,17 @@ fn mark(dropped: bool, answered: &Result<Answered, SessionEnd>) -> bool
     }
 }
 
-/// Goes on behind an answer, or ends as it says.
-fn go(answered: Result<Answered, SessionEnd>) -> Result<(), SessionEnd>
-    ensures { result ≡ went answered }
+/// Goes on behind an answer that was written, or ends as it says; where the write failed, ends as that did.
+fn go(
+    answered: Result<Answered, SessionEnd>,
+    written: Result<(), SessionEnd>,
+) -> Result<(), SessionEnd>
+    ensures { MatchResult written (λ _. result ≡ went answered) (λ end. result ≡ Err end) }
 {
+    if let Err(end) = written {
+        drop(answered);
+        return Err(end);
+    }
     match answered {
         Ok(_) => Ok(()),
         Err(end) => Err(end),

@@ -36,7 +36,16 @@ pub fn serve<R: Inlet, W: Outlet, S: Server>(
         Err(end) => return end,
     };
     let (end, dropped) = respond(alloc, reader, writer, server, &mut shaken, left);
+    drop(shaken);
+    tell(dropped, end)
+}
+
+/// The end that is told of a session: want of memory where a message was dropped, and else the end itself.
+fn tell(dropped: bool, end: SessionEnd) -> SessionEnd
+    ensures { result ≡ told dropped end }
+{
     if dropped {
+        drop(end);
         return SessionEnd::Failed(EngineFault::Memory);
     }
     end

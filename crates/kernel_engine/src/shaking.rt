@@ -1,9 +1,11 @@
 //! Shaking hands with a peer: greetings, and then READY (ZMTP 3.0, "Greeting" and "The NULL Security Mechanism").
 
-ghost use Rattle.std.specs.Prelude.{◌≡◌, ◌≢◌, ◌<◌, ℕ, List, [], ◌∷◌, length, Some, None, IfOk, IfErr};
+ghost use Rattle.std.specs.Prelude.{◌≡◌, ◌≢◌, ◌<◌, ℕ, List, [], ◌∷◌, ◌++◌, length, Some, None, IfOk, IfErr};
 ghost use Rattle.zmtp_wire.specs.declared.fault.WireFault.{WireFault};
 ghost use Rattle.zmtp_wire.specs.declared.traffic.Traffic.{Traffic};
-ghost use Rattle.zmtp_wire.specs.Ready.{IsReady};
+ghost use Rattle.zmtp_wire.specs.Device.{Puts};
+ghost use Rattle.zmtp_wire.specs.Greeting.{IsGreeting, greeting_octets};
+ghost use Rattle.zmtp_wire.specs.Ready.{IsReady, ready_octets};
 ghost use Rattle.kernel_engine.specs.Exchange.{Reading, Exchange};
 ghost use Rattle.kernel_engine.specs.declared.shaking.Unheard.{Unheard};
 ghost use Rattle.kernel_engine.specs.Met.{IsLeft, Meets};
@@ -129,6 +131,31 @@ pub(crate) fn shake_within<R: Inlet, W: Outlet>(
     ensures turned_away { IfErr result (λ end. Exchange (TurnsAway ours) (R.inflow reader.old)
         (R.inflow reader.new) (W.outflow writer.old) (W.outflow writer.new) turns.old turns.new tt end) }
 {
+    greet(alloc, reader, writer, ours, turns)?;
+    let mut decoder = Decoder::new(alloc, Limits::usual());
+    match read_first(reader, &mut decoder, turns) {
+        Ok(fed) => meet(fed, decoder, ours),
+        Err(end) => {
+            drop(decoder);
+            Err(end)
+        }
+    }
+}
+
+/// Writes our greeting, reads the peer's, and writes our READY where that is accepted.
+fn greet<R: Inlet, W: Outlet>(
+    alloc: Global,
+    reader: &mut R,
+    writer: &mut W,
+    ours: SocketType,
+    turns: &mut u64,
+) -> Result<(), SessionEnd>
+    ensures greeted { IfOk result (λ _. (opening : List ℕ) × (length opening ≡ 64) × IsGreeting opening
+        × Leg (R.inflow reader.old) (R.inflow reader.new) turns.old turns.new opening
+        × Puts (W.outflow writer.old) (W.outflow writer.new) (greeting_octets ++ ready_octets ours) 0) }
+    ensures turned_away { IfErr result (λ end. Exchange (TurnsAway ours) (R.inflow reader.old)
+        (R.inflow reader.new) (W.outflow writer.old) (W.outflow writer.new) turns.old turns.new tt end) }
+{
     put(writer, &greeting())?;
     let opening = read_opening(reader, turns)?;
     if let Err(fault) = read_greeting(&opening) {
@@ -137,10 +164,9 @@ pub(crate) fn shake_within<R: Inlet, W: Outlet>(
     let Ok(ready) = ready_text(alloc, ours) else {
         return Err(SessionEnd::Failed(EngineFault::Memory));
     };
-    put(writer, &ready)?;
-    let mut decoder = Decoder::new(alloc, Limits::usual());
-    let fed = read_first(reader, &mut decoder, turns)?;
-    meet(fed, decoder, ours)
+    let written = put(writer, &ready);
+    drop(ready);
+    written
 }
 
 /// Reads the peer's greeting, and no octet behind it.

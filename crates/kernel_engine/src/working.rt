@@ -82,6 +82,18 @@ fn finish(alloc: Global, handled: Handled, reply: &mut Vec<u8>) -> Result<Answer
         × Finishes handled octets result }
     ensures end { IfErr result IsServerEnd }
 {
+    let finished = tell(alloc, &handled, reply);
+    drop(handled);
+    finished
+}
+
+/// Adds the text of the reply to a request that was handled, and ends the session where it asked for a shutdown.
+fn tell(alloc: Global, handled: &Handled, reply: &mut Vec<u8>) -> Result<Answered, SessionEnd>
+    requires { IfSome handled.now.reply (λ frames. 0 < length frames) }
+    ensures finishes { (octets : List ℕ) × (reply.new.items ≡ reply.old.items ++ octets)
+        × Finishes handled.now octets result }
+    ensures end { IfErr result IsServerEnd }
+{
     if let Some(frames) = &handled.reply {
         if write_message(alloc, frames.as_slice(), reply).is_err() {
             return Err(SessionEnd::Failed(EngineFault::Memory));

@@ -38,8 +38,8 @@ returns-in-Err-read_turn-clause-listens g c before came =
       listening_stops g.L.Listener.hears c.args.listener.now c.loop-count.listener c.loop-count.decoder
           (g.R.Inlet.inflow c.args.reader.now) (g.R.Inlet.inflow c.loop-count.reader)
           (g.R.Inlet.inflow c.read_turn.new.reader) c.args.turns c.loop-count.left c.read_turn.new.turns before
-          c.kept-in-Err-read_turn.result c.in-Err-read_turn.end (c.loop-count.invariant.so_far before came) stop
-          reading c.kept-in-Err-read_turn.ensures,
+          c.kept-kept.result c.in-Err-read_turn.end (c.loop-count.invariant.so_far before came) stop
+          reading c.kept-kept.ensures,
     )
 
 pub returns-in-Err-hand_fed-clause-listens : goal.returns-in-Err-hand_fed-clause-listens

@@ -1,5 +1,4 @@
-use Rattle.std.proofs.Common.{false, refl, sym, ap}
-use Rattle.kernel_engine.specs.Server.{told}
+use Rattle.std.proofs.Common.{false, refl}
 use Rattle.kernel_engine.proofs.ServeLemmas.{serve_met, serve_away}
 use Rattle.kernel_engine.proofs.UnheardLemmas.{said_of}
 use Rattle.kernel_engine.proofs.serving.serve.Goals as goal
@@ -16,23 +15,6 @@ returns-in-Err-clause-serves g c = (
   refl,
 )
 
-pub returns-then-dropped-clause-serves : goal.returns-then-dropped-clause-serves
-returns-then-dropped-clause-serves g c =
-    let meets = c.in-Ok.ensures.met in
-    let (left, said) = said_of c.in-Ok.shaken.unheard meets.unheard meets.waits meets.behind meets.keeps _
-    c.respond-end.ensures.responds in (
-      left,
-      c.respond-end.result.1,
-      c.respond-end.result.0,
-      serve_met c.respond-end.result.1 g.S.Server.answers c.args.ours c.args.server.now c.respond-end.new.server
-          c.in-Ok.shaken (g.R.Inlet.inflow c.args.reader.now)
-          (g.R.Inlet.inflow c.shake_within.new.reader) (g.R.Inlet.inflow c.respond-end.new.reader)
-          (g.W.Outlet.outflow c.args.writer.now) (g.W.Outlet.outflow c.shake_within.new.writer)
-          (g.W.Outlet.outflow c.respond-end.new.writer) c.args.turns c.shake_within.new.turns left
-          c.respond-end.result.0 meets said,
-      ap (λ dropped. told dropped c.respond-end.result.0) (sym c.if-dropped.true),
-    )
-
 pub returns-clause-serves : goal.returns-clause-serves
 returns-clause-serves g c =
     let meets = c.in-Ok.ensures.met in
@@ -47,5 +29,5 @@ returns-clause-serves g c =
           (g.W.Outlet.outflow c.args.writer.now) (g.W.Outlet.outflow c.shake_within.new.writer)
           (g.W.Outlet.outflow c.respond-end.new.writer) c.args.turns c.shake_within.new.turns left
           c.respond-end.result.0 meets said,
-      ap (λ dropped. told dropped c.respond-end.result.0) (sym c.if-dropped.false),
+      c.tell.ensures,
     )
