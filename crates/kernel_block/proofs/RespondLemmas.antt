@@ -37,38 +37,34 @@ responds_at_once m side kind asked may state count answer Grew publications publ
   grew = grew;
 }
 
--- what comes of a reply that was made, where there is nothing that the kernel is to do, or of want of memory
-abbrev pub IsPlainly : Result Reply AllocError → Result Answered AllocError → Type 0
-IsPlainly told result = MatchResult told
-    (λ reply. result ≡ Ok (record { reply = Some reply; end = false; restart = false; interrupt = false }))
-    (λ _. IsErr result)
+-- a reply, and nothing that the kernel is to do
+abbrev pub just : Reply → Answered
+just reply = record { reply = Some reply; end = false; restart = false; interrupt = false }
 
--- a request that runs no cell gets a reply, or memory was refused
+-- a request that runs no cell is answered, or memory was refused
 pub told_at_once : {State Cell : Type 0} (m : Meaning State Cell) (side : Side) (kind : Option MessageType)
-    (request : Request) (may : Type 0) (state : State) (count : ℕ) (told : Result Reply AllocError)
-    (result : Result Answered AllocError) (Due : Reply → Type 0) (Grew : List Publication → Type 0)
-    → IsPlainly told result → IfOk told Due
-    → ((reply : Reply) → Due reply
-    → AnswersAsked m side kind (Ok request) state count no_course (plain state count (Some reply)))
+    (request : Request) (may : Type 0) (state : State) (count : ℕ) (result : Result Answered AllocError)
+    (Due : Answered → Type 0) (Grew : List Publication → Type 0) → IfOk result Due
+    → ((answered : Answered) → Due answered
+    → AnswersAsked m side kind (Ok request) state count no_course (answer_of answered state count))
     → PublishesAsked m (Ok request) state count no_course [] → Grew []
     → MatchResult result
     (λ answered. RespondsWhole m side kind (Ok request) may state count (answer_of answered state count) Grew)
     (λ _. RespondsCut m (Ok request) may state count state count Grew)
-told_at_once m side kind request may state count (Ok reply) result Due Grew made due answers publishes grew =
-    rw made (responds_at_once m side kind (Ok request) may state count (plain state count (Some reply)) Grew []
-    publishes (answers reply due) grew)
-told_at_once m side kind request may state count (Err refused) (Ok answered) Due Grew made due answers publishes grew =
-    absurd (let never = made in search rules)
-told_at_once m side kind request may state count (Err refused) (Err fault) Due Grew made due answers publishes grew =
+told_at_once m side kind request may state count (Ok answered) Due Grew due answers publishes grew =
+    responds_at_once m side kind (Ok request) may state count (answer_of answered state count) Grew [] publishes
+    (answers answered due) grew
+told_at_once m side kind request may state count (Err refused) Due Grew due answers publishes grew =
     inl (record { same = refl; counted = refl; grew = grew })
 
 -- a cell is answered, or memory was refused
 pub executed_told : {State Cell : Type 0} (m : Meaning State Cell) (side : Side) (kind : Option MessageType)
     (code : List ℕ) (silent store_history : Bool) (expressions : List (List ℕ × List ℕ)) (stdin stop : Bool)
-    (may : Type 0) (state after : State) (count left : ℕ) (told : Result Reply AllocError)
-    (result : Result Answered AllocError) (Grew : List Publication → Type 0)
-    → IsPlainly told result → left ≡ grown store_history count
-    → MatchResult told (λ reply. ExecutedWhole m may silent code expressions left state reply after Grew)
+    (may : Type 0) (state after : State) (count left : ℕ) (result : Result Answered AllocError)
+    (Grew : List Publication → Type 0) → left ≡ grown store_history count
+    → MatchResult result
+    (λ answered. (reply : Reply) × (answered ≡ just reply)
+    × ExecutedWhole m may silent code expressions left state reply after Grew)
     (λ _. ExecutedCut m may silent code expressions left state after Grew)
     → MatchResult result
     (λ answered. RespondsWhole m side kind
@@ -76,10 +72,10 @@ pub executed_told : {State Cell : Type 0} (m : Meaning State Cell) (side : Side)
     (answer_of answered after left) Grew)
     (λ _. RespondsCut m (Ok (asks.Execute code silent store_history expressions stdin stop)) may state count after
     left Grew)
-executed_told m side kind code silent store_history expressions stdin stop may state after count left (Ok reply) result
-    Grew made counted whole =
+executed_told m side kind code silent store_history expressions stdin stop may state after count left (Ok answered)
+    Grew counted (reply, is, whole) =
     let e = rw counted at whole in
-    rw (made, counted) (record {
+    rw (is, counted) (record {
       course = e.course;
       publications = e.publications;
       publishes = e.publishes;
@@ -88,9 +84,7 @@ executed_told m side kind code silent store_history expressions stdin stop may s
       grew = e.grew;
     })
 executed_told m side kind code silent store_history expressions stdin stop may state after count left (Err refused)
-    (Ok answered) Grew made counted cut = absurd (let never = made in search rules)
-executed_told m side kind code silent store_history expressions stdin stop may state after count left (Err refused)
-    (Err fault) Grew made counted cut =
+    Grew counted cut =
     let e = rw counted at cut in
     inr (record {
       course = e.course;

@@ -82,21 +82,20 @@ where
         alloc: Global,
         heading: &Heading,
         identities: Frames,
-        msg_type: &Text,
-        content: &Octets,
+        msg_type: Text,
+        content: Octets,
         stop: &T,
     ) -> Result<Handled, EngineFault>
         requires { self.old.count < 2 ^ 63 }
         ensures { MatchResult result
             (λ handled. AnswersInBlock I.meaning P.items_of P.may_refuse P.is_same S.meaning S.id_text S.is_date
-            (T.may_ask stop.now) heading.now identities msg_type.now content.now self.old handled self.new)
+            (T.may_ask stop.now) heading.now identities msg_type content self.old handled self.new)
             (λ fault. (fault ≡ Memory)
             × AnswersNot I.meaning P.items_of P.may_refuse P.is_same S.meaning S.id_text S.is_date
-            (T.may_ask stop.now) heading.now msg_type.now content.now self.old self.new) }
+            (T.may_ask stop.now) heading.now msg_type content self.old self.new) }
     {
-        let msg_type = msg_type.as_str();
-        let kind = MessageType::from_name(msg_type);
-        let Ok(answered) = respond_to(
+        let kind = MessageType::from_name(msg_type.as_str());
+        let answered = respond_to(
             alloc,
             self.side,
             &mut self.interp,
@@ -106,13 +105,18 @@ where
             stop,
             kind,
             content.as_slice(),
-        ) else {
+        );
+        drop(content);
+        let Ok(answered) = answered else {
+            drop(msg_type);
             drop(identities);
             return Err(EngineFault::Memory);
         };
         let publishing = &mut self.publishing;
-        let Ok(reply) = publishing.reply(alloc, heading, identities, msg_type, answered.reply)
-        else {
+        let named = msg_type.as_str();
+        let reply = publishing.reply(alloc, heading, identities, named, answered.reply);
+        drop(msg_type);
+        let Ok(reply) = reply else {
             return Err(EngineFault::Memory);
         };
         Ok(Handled {
@@ -177,9 +181,7 @@ where
             drop(identities);
             return Err(EngineFault::Memory);
         };
-        let handled = self.answer(alloc, &heading, identities, &msg_type, &content, stop);
-        drop(content);
-        drop(msg_type);
+        let handled = self.answer(alloc, &heading, identities, msg_type, content, stop);
         drop(heading);
         self.close_block(idle);
         handled

@@ -1,6 +1,6 @@
 //! Requests that are answered.
 
-ghost use Rattle.std.specs.Prelude.{◌≡◌, ◌<◌, ◌^◌, [], ◌∷◌, Some, None, Ok, false, IfOk, IfSome, IsErr, MatchResult};
+ghost use Rattle.std.specs.Prelude.{◌≡◌, ◌<◌, ◌^◌, [], ◌∷◌, Some, None, Ok, true, false, IfOk, IfSome, IsErr, MatchResult};
 ghost use Rattle.std.specs.Prelude.{Result, Option, List, ℕ};
 ghost use Rattle.interp_core.specs.Fault.{fault_name, fault_value};
 ghost use Rattle.interp_core.specs.declared.answer.Completeness.{Completeness};
@@ -8,12 +8,14 @@ ghost use Rattle.interp_core.specs.declared.answer.Completion.{Completion};
 ghost use Rattle.interp_core.specs.declared.answer.Info.{Info};
 ghost use Rattle.interp_core.specs.declared.fault.InterpFault.{InterpFault};
 ghost use Rattle.jmsg_types.specs.declared.publication.Publication.TheVariants.{CommClose};
+ghost use Rattle.jmsg_types.specs.declared.reply.Reply.{Reply};
 ghost use Rattle.jmsg_types.specs.declared.reply.Reply.TheVariants as tells;
 ghost use Rattle.jmsg_types.specs.Fault.{IsAnswerOrMemory, refusal_of};
 ghost use Rattle.kernel_block.specs.Answer.{asked_of, completeness_reply, completion_reply, error_reply_to};
 ghost use Rattle.kernel_block.specs.Answer.{has_meaning, info_reply, interrupts, refused_reply, reply_by, verdict_of};
 ghost use Rattle.kernel_block.specs.Growth.{Puts};
 ghost use Rattle.kernel_block.specs.Publications.{grown};
+ghost use Rattle.kernel_block.specs.Responds.{ExecutedCut, ExecutedWhole};
 ghost use Rattle.kernel_block.specs.Responds.{RespondsCut, RespondsWhole, answer_of};
 
 use crate::execute::execute;
@@ -29,7 +31,7 @@ use jmsg_envelope::Stamp;
 use jmsg_types::{
     ContentFault, MessageType, Publication, Reply, Request, Verdict, content_words, read_known,
 };
-use listed::Text;
+use listed::{Row, Text};
 use std::alloc::{AllocError, Global};
 
 /// What a request is answered.
@@ -55,6 +57,40 @@ impl Answered {
             end: false,
             restart: false,
             interrupt: false,
+        }
+    }
+
+    /// The kernel is to end, and to begin anew then or not, and the reply says so.
+    fn ending(restart: bool) -> Answered
+        ensures { result ≡ record {
+          reply = Some (tells.Shutdown restart);
+          end = true;
+          restart = restart;
+          interrupt = false;
+        } }
+    {
+        Answered {
+            reply: Some(Reply::Shutdown { restart }),
+            end: true,
+            restart,
+            interrupt: false,
+        }
+    }
+
+    /// The cell that runs is to be interrupted, where that is carried out on the channel, and the reply says so.
+    fn interrupting(side: Side) -> Answered
+        ensures { result ≡ record {
+          reply = Some tells.Interrupt;
+          end = false;
+          restart = false;
+          interrupt = interrupts side;
+        } }
+    {
+        Answered {
+            reply: Some(Reply::Interrupt),
+            end: false,
+            restart: false,
+            interrupt: interrupts(side),
         }
     }
 }
@@ -215,7 +251,7 @@ where
         (λ _. RespondsCut I.meaning (Ok request) (T.may_ask stop.now) interp.old count.old interp.new count.new grew) }
 {
     match request {
-        Request::KernelInfo => plainly(tell_info(alloc, interp)),
+        Request::KernelInfo => tell_info(alloc, interp),
         Request::Execute {
             code,
             silent,
@@ -223,55 +259,72 @@ where
             user_expressions,
             allow_stdin: _,
             stop_on_error: _,
-        } => {
-            grow(count, store_history);
-            plainly(execute(
-                alloc,
-                interp,
-                publishing,
-                heading,
-                silent,
-                stop,
-                code,
-                user_expressions,
-                *count,
-            ))
-        }
-        Request::Complete { code, cursor_pos } => {
-            plainly(tell_completion(alloc, interp, code, cursor_pos))
-        }
+        } => run(
+            alloc,
+            interp,
+            count,
+            publishing,
+            heading,
+            stop,
+            silent,
+            store_history,
+            code,
+            user_expressions,
+        ),
+        Request::Complete { code, cursor_pos } => tell_completion(alloc, interp, code, cursor_pos),
         Request::Inspect {
             code,
             cursor_pos,
             detail_level: _,
-        } => plainly(tell_inspection(alloc, interp, code, cursor_pos)),
-        Request::IsComplete { code } => plainly(tell_completeness(alloc, interp, code)),
+        } => tell_inspection(alloc, interp, code, cursor_pos),
+        Request::IsComplete { code } => tell_completeness(alloc, interp, code),
         Request::History => Ok(Answered::plain(Some(Reply::History))),
         Request::CommInfo => Ok(Answered::plain(Some(Reply::CommInfo))),
         Request::CommOpen { comm_id } => close_comm(alloc, publishing, heading, comm_id),
-        Request::Shutdown { restart } => Ok(Answered {
-            reply: Some(Reply::Shutdown { restart }),
-            end: true,
-            restart,
-            interrupt: false,
-        }),
-        Request::Interrupt => Ok(Answered {
-            reply: Some(Reply::Interrupt),
-            end: false,
-            restart: false,
-            interrupt: interrupts(side),
-        }),
+        Request::Shutdown { restart } => Ok(Answered::ending(restart)),
+        Request::Interrupt => Ok(Answered::interrupting(side)),
         Request::CommMsg | Request::CommClose | Request::Unknown => Ok(Answered::plain(None)),
     }
 }
 
-/// A reply that was made, and nothing that the kernel is to do.
-fn plainly(reply: Result<Reply, AllocError>) -> Result<Answered, AllocError>
-    ensures { MatchResult reply
-        (λ reply. result ≡ Ok (record { reply = Some reply; end = false; restart = false; interrupt = false }))
-        (λ _. IsErr result) }
+/// Counts a cell that is stored, runs it and publishes it unless it is silent, and replies to it.
+fn run<I: Interpreter, P, S: Stamp, T: Stop, W: Drop>(
+    alloc: Global,
+    interp: &mut I,
+    count: &mut u64,
+    publishing: &mut Publishing<P, S>,
+    heading: &Heading,
+    stop: &T,
+    silent: bool,
+    store_history: bool,
+    code: Text,
+    expressions: Row<(Text, Text)>,
+) -> Result<Answered, AllocError>
+where
+    P: Publish<Item = Event<W>>,
+    requires { count.old < 2 ^ 63 }
+    ensures counted { count.new ≡ grown store_history count.old }
+    ensures ran { let grew = Puts P.items_of P.is_same S.meaning S.id_text heading.now publishing.old publishing.new in
+        MatchResult result
+        (λ answered. (reply : Reply)
+        × (answered ≡ record { reply = Some reply; end = false; restart = false; interrupt = false })
+        × ExecutedWhole I.meaning (T.may_ask stop.now) silent code expressions count.new interp.old reply interp.new
+        grew)
+        (λ _. ExecutedCut I.meaning (T.may_ask stop.now) silent code expressions count.new interp.old interp.new
+        grew) }
 {
-    match reply {
+    grow(count, store_history);
+    match execute(
+        alloc,
+        interp,
+        publishing,
+        heading,
+        silent,
+        stop,
+        code,
+        expressions,
+        *count,
+    ) {
         Ok(reply) => Ok(Answered::plain(Some(reply))),
         Err(AllocError) => Err(AllocError),
     }
@@ -318,22 +371,32 @@ fn grow(count: &mut u64, store_history: bool)
 }
 
 /// The error that replies with a fault that isn't want of memory.
-fn fault_reply(alloc: Global, fault: InterpFault) -> Result<Reply, AllocError>
-    ensures reply { IfOk result (λ reply. reply ≡ tells.Error (fault_name fault) (fault_value fault)) }
+fn tell_fault(alloc: Global, fault: InterpFault) -> Result<Answered, AllocError>
+    ensures told { IfOk result (λ answered. answered ≡ record {
+      reply = Some (tells.Error (fault_name fault) (fault_value fault));
+      end = false;
+      restart = false;
+      interrupt = false;
+    }) }
     ensures memory { fault ≡ InterpFault.OutOfMemory → IsErr result }
 {
     let (ename, evalue) = own_words(alloc, fault)?;
-    Ok(Reply::Error { ename, evalue })
+    Ok(Answered::plain(Some(Reply::Error { ename, evalue })))
 }
 
-/// What the language says of itself, as a reply.
-fn tell_info<I: Interpreter>(alloc: Global, interp: &I) -> Result<Reply, AllocError>
-    ensures { IfOk result (λ reply. (info : Result Info InterpFault) × I.meaning.tells interp.now info
-        × (reply ≡ reply_by info_reply info)) }
+/// Tells what the language says of itself.
+fn tell_info<I: Interpreter>(alloc: Global, interp: &I) -> Result<Answered, AllocError>
+    ensures { IfOk result (λ answered. (info : Result Info InterpFault) × I.meaning.tells interp.now info
+        × (answered ≡ record {
+          reply = Some (reply_by info_reply info);
+          end = false;
+          restart = false;
+          interrupt = false;
+        })) }
 {
     match interp.info(alloc) {
-        Ok(info) => Ok(info_reply(info)),
-        Err(fault) => fault_reply(alloc, fault),
+        Ok(info) => Ok(Answered::plain(Some(info_reply(info)))),
+        Err(fault) => tell_fault(alloc, fault),
     }
 }
 
@@ -350,21 +413,26 @@ fn info_reply(info: Info) -> Reply
     }
 }
 
-/// How the word at a cursor may go on, as a reply.
+/// Tells how the word at a cursor may go on.
 fn tell_completion<I: Interpreter>(
     alloc: Global,
     interp: &I,
     code: Text,
     cursor: u64,
-) -> Result<Reply, AllocError>
-    ensures { IfOk result (λ reply. (completion : Result Completion InterpFault)
-        × I.meaning.completes interp.now code cursor completion × (reply ≡ reply_by completion_reply completion)) }
+) -> Result<Answered, AllocError>
+    ensures { IfOk result (λ answered. (completion : Result Completion InterpFault)
+        × I.meaning.completes interp.now code cursor completion × (answered ≡ record {
+          reply = Some (reply_by completion_reply completion);
+          end = false;
+          restart = false;
+          interrupt = false;
+        })) }
 {
     let completion = interp.complete(alloc, code.as_str(), cursor);
     drop(code);
     match completion {
-        Ok(completion) => Ok(completion_reply(completion)),
-        Err(fault) => fault_reply(alloc, fault),
+        Ok(completion) => Ok(Answered::plain(Some(completion_reply(completion)))),
+        Err(fault) => tell_fault(alloc, fault),
     }
 }
 
@@ -379,38 +447,51 @@ fn completion_reply(completion: Completion) -> Reply
     }
 }
 
-/// What is known of the word at a cursor, as a reply.
+/// Tells what is known of the word at a cursor.
 fn tell_inspection<I: Interpreter>(
     alloc: Global,
     interp: &I,
     code: Text,
     cursor: u64,
-) -> Result<Reply, AllocError>
-    ensures { IfOk result (λ reply. (text : Result (Option (List ℕ)) InterpFault)
-        × I.meaning.inspects interp.now code cursor text × (reply ≡ reply_by tells.Inspect text)) }
+) -> Result<Answered, AllocError>
+    ensures { IfOk result (λ answered. (text : Result (Option (List ℕ)) InterpFault)
+        × I.meaning.inspects interp.now code cursor text × (answered ≡ record {
+          reply = Some (reply_by tells.Inspect text);
+          end = false;
+          restart = false;
+          interrupt = false;
+        })) }
 {
     let text = interp.inspect(alloc, code.as_str(), cursor);
     drop(code);
     match text {
-        Ok(text) => Ok(Reply::Inspect(text)),
-        Err(fault) => fault_reply(alloc, fault),
+        Ok(text) => Ok(Answered::plain(Some(Reply::Inspect(text)))),
+        Err(fault) => tell_fault(alloc, fault),
     }
 }
 
-/// Whether a text is a whole cell, as a reply.
+/// Tells whether a text is a whole cell.
 fn tell_completeness<I: Interpreter>(
     alloc: Global,
     interp: &I,
     code: Text,
-) -> Result<Reply, AllocError>
-    ensures { IfOk result (λ reply. (completeness : Result Completeness InterpFault)
-        × I.meaning.judges interp.now code completeness × (reply ≡ reply_by completeness_reply completeness)) }
+) -> Result<Answered, AllocError>
+    ensures { IfOk result (λ answered. (completeness : Result Completeness InterpFault)
+        × I.meaning.judges interp.now code completeness × (answered ≡ record {
+          reply = Some (reply_by completeness_reply completeness);
+          end = false;
+          restart = false;
+          interrupt = false;
+        })) }
 {
     let completeness = interp.is_complete(alloc, code.as_str());
     drop(code);
     match completeness {
-        Ok(completeness) => Ok(Reply::IsComplete(verdict_of(completeness))),
-        Err(fault) => fault_reply(alloc, fault),
+        Ok(completeness) => {
+            let verdict = verdict_of(completeness);
+            Ok(Answered::plain(Some(Reply::IsComplete(verdict))))
+        }
+        Err(fault) => tell_fault(alloc, fault),
     }
 }
 

@@ -11,22 +11,22 @@ use Rattle.kernel_block.specs.Answer.{completeness_reply, completion_reply, info
 use Rattle.kernel_block.specs.Growth.{Puts}
 use Rattle.kernel_block.specs.Responds.{answer_of}
 use Rattle.kernel_block.proofs.GrowthLemmas.{puts_none}
-use Rattle.kernel_block.proofs.RespondLemmas.{closed_at_once, executed_told, responds_at_once, told_at_once}
+use Rattle.kernel_block.proofs.RespondLemmas.{closed_at_once, executed_told, just, responds_at_once, told_at_once}
 use Rattle.kernel_block.proofs.respond.respond.Goals as goal
 
 pub returns-in-KernelInfo : goal.returns-in-KernelInfo
 returns-in-KernelInfo g c =
     rw (c.in-KernelInfo.is) (told_at_once g.I.Interpreter.meaning c.args.side c.args.kind asks.KernelInfo
-    (g.T.Stop.may_ask c.args.stop.now) c.args.interp.now c.args.count.now c.tell_info.result c.plainly.result
-    (λ reply. (info : Result Info InterpFault) × g.I.Interpreter.meaning.tells c.args.interp.now info
-    × (reply ≡ reply_by info_reply info))
+    (g.T.Stop.may_ask c.args.stop.now) c.args.interp.now c.args.count.now c.tell_info.result
+    (λ answered. (info : Result Info InterpFault) × g.I.Interpreter.meaning.tells c.args.interp.now info
+    × (answered ≡ just (reply_by info_reply info)))
     (Puts g.P.Publish.items_of g.P.Publish.is_same g.S.Stamp.meaning g.S.Stamp.id_text c.args.heading.now
     c.args.publishing.now c.args.publishing.now)
-    c.plainly.ensures c.tell_info.ensures
-    (λ reply due. let (answer, is, same) = due in (
+    c.tell_info.ensures
+    (λ answered due. let (answer, is, same) = due in (
       answer,
       is,
-      ap (λ (r : Reply). plain c.args.interp.now c.args.count.now (Some r)) same,
+      ap (λ (a : Answered). answer_of a c.args.interp.now c.args.count.now) same,
     ))
     refl
     (puts_none g.P.Publish.items_of g.P.Publish.is_same g.S.Stamp.meaning g.S.Stamp.id_text c.args.heading.now
@@ -36,27 +36,27 @@ pub returns-in-Execute : goal.returns-in-Execute
 returns-in-Execute g c =
     rw (c.in-Execute.is) (executed_told g.I.Interpreter.meaning c.args.side c.args.kind c.in-Execute.code
     c.in-Execute.silent c.in-Execute.store_history c.in-Execute.user_expressions c.in-Execute.allow_stdin
-    c.in-Execute.stop_on_error (g.T.Stop.may_ask c.args.stop.now) c.args.interp.now c.execute.new.interp
-    c.args.count.now c.grow.new.count c.execute.result c.plainly-in-Execute.result
+    c.in-Execute.stop_on_error (g.T.Stop.may_ask c.args.stop.now) c.args.interp.now c.run.new.interp
+    c.args.count.now c.run.new.count c.run.result
     (Puts g.P.Publish.items_of g.P.Publish.is_same g.S.Stamp.meaning g.S.Stamp.id_text c.args.heading.now
-    c.args.publishing.now c.execute.new.publishing)
-    c.plainly-in-Execute.ensures c.grow.ensures c.execute.ensures)
+    c.args.publishing.now c.run.new.publishing)
+    c.run.ensures.counted c.run.ensures.ran)
 
 pub returns-in-Complete : goal.returns-in-Complete
 returns-in-Complete g c =
     rw (c.in-Complete.is) (told_at_once g.I.Interpreter.meaning c.args.side c.args.kind
     (asks.Complete c.in-Complete.code c.in-Complete.cursor_pos) (g.T.Stop.may_ask c.args.stop.now)
-    c.args.interp.now c.args.count.now c.tell_completion.result c.plainly-in-Complete.result
-    (λ reply. (completion : Result Completion InterpFault)
+    c.args.interp.now c.args.count.now c.tell_completion.result
+    (λ answered. (completion : Result Completion InterpFault)
     × g.I.Interpreter.meaning.completes c.args.interp.now c.in-Complete.code c.in-Complete.cursor_pos completion
-    × (reply ≡ reply_by completion_reply completion))
+    × (answered ≡ just (reply_by completion_reply completion)))
     (Puts g.P.Publish.items_of g.P.Publish.is_same g.S.Stamp.meaning g.S.Stamp.id_text c.args.heading.now
     c.args.publishing.now c.args.publishing.now)
-    c.plainly-in-Complete.ensures c.tell_completion.ensures
-    (λ reply due. let (answer, is, same) = due in (
+    c.tell_completion.ensures
+    (λ answered due. let (answer, is, same) = due in (
       answer,
       is,
-      ap (λ (r : Reply). plain c.args.interp.now c.args.count.now (Some r)) same,
+      ap (λ (a : Answered). answer_of a c.args.interp.now c.args.count.now) same,
     ))
     refl
     (puts_none g.P.Publish.items_of g.P.Publish.is_same g.S.Stamp.meaning g.S.Stamp.id_text c.args.heading.now
@@ -66,17 +66,17 @@ pub returns-in-Inspect : goal.returns-in-Inspect
 returns-in-Inspect g c =
     rw (c.in-Inspect.is) (told_at_once g.I.Interpreter.meaning c.args.side c.args.kind
     (asks.Inspect c.in-Inspect.code c.in-Inspect.cursor_pos c.in-Inspect.detail_level)
-    (g.T.Stop.may_ask c.args.stop.now) c.args.interp.now c.args.count.now c.tell_inspection.result c.plainly-in-Inspect.result
-    (λ reply. (text : Result (Option (List ℕ)) InterpFault)
+    (g.T.Stop.may_ask c.args.stop.now) c.args.interp.now c.args.count.now c.tell_inspection.result
+    (λ answered. (text : Result (Option (List ℕ)) InterpFault)
     × g.I.Interpreter.meaning.inspects c.args.interp.now c.in-Inspect.code c.in-Inspect.cursor_pos text
-    × (reply ≡ reply_by tells.Inspect text))
+    × (answered ≡ just (reply_by tells.Inspect text)))
     (Puts g.P.Publish.items_of g.P.Publish.is_same g.S.Stamp.meaning g.S.Stamp.id_text c.args.heading.now
     c.args.publishing.now c.args.publishing.now)
-    c.plainly-in-Inspect.ensures c.tell_inspection.ensures
-    (λ reply due. let (answer, is, same) = due in (
+    c.tell_inspection.ensures
+    (λ answered due. let (answer, is, same) = due in (
       answer,
       is,
-      ap (λ (r : Reply). plain c.args.interp.now c.args.count.now (Some r)) same,
+      ap (λ (a : Answered). answer_of a c.args.interp.now c.args.count.now) same,
     ))
     refl
     (puts_none g.P.Publish.items_of g.P.Publish.is_same g.S.Stamp.meaning g.S.Stamp.id_text c.args.heading.now
@@ -86,17 +86,17 @@ pub returns-in-IsComplete : goal.returns-in-IsComplete
 returns-in-IsComplete g c =
     rw (c.in-IsComplete.is) (told_at_once g.I.Interpreter.meaning c.args.side c.args.kind
     (asks.IsComplete c.in-IsComplete.code) (g.T.Stop.may_ask c.args.stop.now)
-    c.args.interp.now c.args.count.now c.tell_completeness.result c.plainly-in-IsComplete.result
-    (λ reply. (completeness : Result Completeness InterpFault)
+    c.args.interp.now c.args.count.now c.tell_completeness.result
+    (λ answered. (completeness : Result Completeness InterpFault)
     × g.I.Interpreter.meaning.judges c.args.interp.now c.in-IsComplete.code completeness
-    × (reply ≡ reply_by completeness_reply completeness))
+    × (answered ≡ just (reply_by completeness_reply completeness)))
     (Puts g.P.Publish.items_of g.P.Publish.is_same g.S.Stamp.meaning g.S.Stamp.id_text c.args.heading.now
     c.args.publishing.now c.args.publishing.now)
-    c.plainly-in-IsComplete.ensures c.tell_completeness.ensures
-    (λ reply due. let (answer, is, same) = due in (
+    c.tell_completeness.ensures
+    (λ answered due. let (answer, is, same) = due in (
       answer,
       is,
-      ap (λ (r : Reply). plain c.args.interp.now c.args.count.now (Some r)) same,
+      ap (λ (a : Answered). answer_of a c.args.interp.now c.args.count.now) same,
     ))
     refl
     (puts_none g.P.Publish.items_of g.P.Publish.is_same g.S.Stamp.meaning g.S.Stamp.id_text c.args.heading.now
@@ -136,36 +136,25 @@ returns-in-CommOpen g c =
 
 pub returns-in-Shutdown : goal.returns-in-Shutdown
 returns-in-Shutdown g c =
-    rw (c.in-Shutdown.is)
-    (responds_at_once g.I.Interpreter.meaning c.args.side c.args.kind (Ok (asks.Shutdown c.in-Shutdown.restart))
+    rw (c.in-Shutdown.is) (responds_at_once g.I.Interpreter.meaning c.args.side c.args.kind (Ok (asks.Shutdown c.in-Shutdown.restart))
     (g.T.Stop.may_ask c.args.stop.now) c.args.interp.now c.args.count.now
-    (answer_of
-    (record {
-      reply = Some (tells.Shutdown c.in-Shutdown.restart);
-      end = true;
-      restart = c.in-Shutdown.restart;
-      interrupt = false;
-    }) c.args.interp.now c.args.count.now)
+    (answer_of c.ending.result c.args.interp.now c.args.count.now)
     (Puts g.P.Publish.items_of g.P.Publish.is_same g.S.Stamp.meaning g.S.Stamp.id_text c.args.heading.now
     c.args.publishing.now c.args.publishing.now)
     ([]) refl
-    refl
+    (ap (λ (a : Answered). answer_of a c.args.interp.now c.args.count.now) c.ending.ensures)
     (puts_none g.P.Publish.items_of g.P.Publish.is_same g.S.Stamp.meaning g.S.Stamp.id_text c.args.heading.now
     g.met.P.Publish.same_itself c.args.publishing.now))
 
 pub returns-in-Interrupt : goal.returns-in-Interrupt
 returns-in-Interrupt g c =
-    rw (c.in-Interrupt.is) (responds_at_once g.I.Interpreter.meaning c.args.side c.args.kind (Ok (asks.Interrupt))
+    rw (c.in-Interrupt.is) (responds_at_once g.I.Interpreter.meaning c.args.side c.args.kind (Ok asks.Interrupt)
     (g.T.Stop.may_ask c.args.stop.now) c.args.interp.now c.args.count.now
-    (answer_of
-    (record { reply = Some (tells.Interrupt); end = false; restart = false; interrupt = c.interrupts.result })
-    c.args.interp.now c.args.count.now)
+    (answer_of c.interrupting.result c.args.interp.now c.args.count.now)
     (Puts g.P.Publish.items_of g.P.Publish.is_same g.S.Stamp.meaning g.S.Stamp.id_text c.args.heading.now
     c.args.publishing.now c.args.publishing.now)
     ([]) refl
-    (ap
-    (λ b. answer_of (record { reply = Some tells.Interrupt; end = false; restart = false; interrupt = b })
-    c.args.interp.now c.args.count.now) c.interrupts.ensures)
+    (ap (λ (a : Answered). answer_of a c.args.interp.now c.args.count.now) c.interrupting.ensures)
     (puts_none g.P.Publish.items_of g.P.Publish.is_same g.S.Stamp.meaning g.S.Stamp.id_text c.args.heading.now
     g.met.P.Publish.same_itself c.args.publishing.now))
 
