@@ -18,6 +18,7 @@ use interp_core::Interpreter;
 use iopub_event::Event;
 use jmsg_envelope::Stamp;
 use kernel_block::{Engine, Side};
+use listed::Frames;
 use std::alloc::Global;
 use std::sync::Wait;
 
@@ -42,6 +43,21 @@ impl<W: Drop> ControlLines<W> {
         self.flags.end();
         tell_end(rt, &self.shell);
         let _ = self.shell_ended.recv(rt);
+    }
+
+    /// Ends shell's worker where that is due, and it didn't end before.
+    fn end_shell_where<R: Wait>(&self, rt: &R, due: bool, shell_ended: &mut bool) {
+        if due && !*shell_ended {
+            self.end_shell(rt);
+            *shell_ended = true;
+        }
+    }
+
+    /// Interrupts the cell that shell runs, where that is asked for.
+    fn interrupt_where(&self, asked: bool) {
+        if asked {
+            self.flags.interrupt();
+        }
     }
 }
 
@@ -73,11 +89,10 @@ where
     let mut engine = Engine::new(Side::Control, interp, sink, stamp, signer);
     let mut shell_ended = false;
     let cause = serve(&rt, alloc, &mut engine, &lines, &mut shell_ended);
-    if !shell_ended {
-        lines.end_shell(&rt);
-    }
+    lines.end_shell_where(&rt, true, &mut shell_ended);
     let closed = close(engine);
     tell_end(&rt, &lines.door);
+    drop(lines);
     Ended {
         closed,
         restart: cause.restart(),
@@ -100,18 +115,19 @@ where
     ensures { IsSameEngine S.meaning engine.old engine.new }
 {
     for _ in rt.forever() {
-        let Ok(Note::Job(job)) = lines.inbox.recv(rt) else {
-            return Cause::Told;
-        };
-        if let Some(cause) = do_job(rt, alloc, engine, job, lines, shell_ended) {
-            return cause;
+        match lines.inbox.recv(rt) {
+            Ok(Note::Job(job)) => {
+                if let Some(cause) = do_job(rt, alloc, engine, job, lines, shell_ended) {
+                    return cause;
+                }
+            }
+            Ok(Note::End) | Err(_) => return Cause::Told,
         }
     }
     unreachable!()
 }
 
-/// Does a job: has its request handled, and sends the reply. Where it asks for a shutdown, shell is ended first; where
-/// it asks for an interrupt, the flag is raised before the reply is sent.
+/// Does a job.
 fn do_job<I, S, W, R>(
     rt: &R,
     alloc: Global,
@@ -128,18 +144,42 @@ where
     ensures does { DoesJob I.meaning S.meaning S.id_text S.is_date ⊥ job.frames engine.old result engine.new }
     ensures same { IsSameEngine S.meaning engine.old engine.new }
 {
-    let request = open_request(alloc, engine.signer(), job.frames)?;
-    if is_shutdown(alloc, &request).ok()? && !*shell_ended {
-        lines.end_shell(rt);
-        *shell_ended = true;
-    }
+    let Job { frames, reply } = job;
+    let cause = answer(rt, alloc, engine, frames, &reply, lines, shell_ended);
+    drop(reply);
+    cause
+}
+
+/// Has the request handled that the frames of a job are, and sends the reply. Where it asks for a shutdown, shell is
+/// ended first; where it asks for an interrupt, the flag is raised before the reply is sent.
+fn answer<I, S, W, R>(
+    rt: &R,
+    alloc: Global,
+    engine: &mut Engine<I, Waking<Event<W>, R>, S, W>,
+    frames: Frames,
+    to: &Sender<Frames>,
+    lines: &ControlLines<W>,
+    shell_ended: &mut bool,
+) -> Option<Cause>
+where
+    I: Interpreter,
+    S: Stamp,
+    W: Drop,
+    R: Wait,
+    ensures does { DoesJob I.meaning S.meaning S.id_text S.is_date ⊥ frames engine.old result engine.new }
+    ensures same { IsSameEngine S.meaning engine.old engine.new }
+{
+    let request = open_request(alloc, engine.signer(), frames)?;
+    let Ok(is_last) = is_shutdown(alloc, &request) else {
+        drop(request);
+        return None;
+    };
+    lines.end_shell_where(rt, is_last, shell_ended);
     match engine.handle(alloc, request, &Never) {
         Ok(handled) => {
-            if handled.interrupt {
-                lines.flags.interrupt();
-            }
-            reply(rt, handled, &job.reply)
+            lines.interrupt_where(handled.interrupt);
+            reply(rt, handled, to)
         }
-        Err(fault) => after_fault(&fault),
+        Err(fault) => after_fault(fault),
     }
 }

@@ -1,7 +1,7 @@
 //! The door's worker.
 
-ghost use Rattle.std.specs.Prelude.{◌≡◌, []};
-ghost use Rattle.kernel_workers.specs.Ending.{EndsSilent};
+ghost use Rattle.std.specs.Prelude.{◌≡◌, [], All};
+ghost use Rattle.kernel_workers.specs.Ending.{EndsSilent, IsNoMessage};
 
 use crate::inbox::Note;
 use crate::waking::Waking;
@@ -25,12 +25,22 @@ where
 {
     for _ in rt.forever() {
         match inbox.recv(&rt) {
-            Ok(Note::Job(Event::Message(_))) => {}
-            Ok(Note::Job(event)) => {
-                let _ = sink.publish(event);
-            }
+            Ok(Note::Job(event)) => pass_on(&mut sink, event),
             Ok(Note::End) | Err(_) => break,
         }
     }
+    drop(inbox);
     sink.close()
+}
+
+/// Publishes an event, and drops each message.
+fn pass_on<W: Drop, R: Wait>(sink: &mut Waking<Event<W>, R>, event: Event<W>)
+    ensures queue { sink.new.queue ≡ sink.old.queue }
+    ensures number { sink.new.number ≡ sink.old.number }
+    ensures silent { All IsNoMessage sink.old.published → All IsNoMessage sink.new.published }
+{
+    match event {
+        Event::Message(frames) => drop(frames),
+        event => drop(sink.publish(event)),
+    }
 }

@@ -25,10 +25,25 @@ pub struct Inbox<T> {
 /// Tells a worker to end. Where memory is refused it is tried again; where the worker is gone nothing is to be done.
 pub(crate) fn tell_end<T: Drop, R: Wait>(rt: &R, to: &Sender<Note<T>>) {
     for _ in rt.forever() {
-        match to.send(rt, Note::End) {
-            Err(SendError::OutOfMemory(_)) => thread::yield_now(),
-            Ok(()) | Err(SendError::Disconnected(_)) => return,
+        if try_to_tell_end(rt, to) {
+            return;
         }
+        thread::yield_now();
     }
     unreachable!()
+}
+
+/// Tells a worker to end, where memory isn't refused; answers whether nothing is left to be done.
+fn try_to_tell_end<T: Drop, R: Wait>(rt: &R, to: &Sender<Note<T>>) -> bool {
+    match to.send(rt, Note::End) {
+        Ok(()) => true,
+        Err(SendError::Disconnected(note)) => {
+            drop(note);
+            true
+        }
+        Err(SendError::OutOfMemory(note)) => {
+            drop(note);
+            false
+        }
+    }
 }

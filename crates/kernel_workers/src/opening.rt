@@ -39,13 +39,10 @@ pub(crate) fn open_three<T: Drop, R: Copy + Drop>(
 {
     let (publishers, taker) = open_queue(rt, alloc, 3, capacity)?;
     let mut publishers = publishers.into_iter();
-    let (Some(shell), Some(control), Some(door)) = (
-        publishers.next(),
-        publishers.next(),
-        publishers.next(),
-    ) else {
-        unreachable!();
-    };
+    let shell = publishers.next().unwrap();
+    let control = publishers.next().unwrap();
+    let door = publishers.next().unwrap();
+    drop(publishers);
     Ok(Opened {
         shell,
         control,

@@ -38,12 +38,34 @@ impl RelayLines {
         let Ok(ending) = Arc::new(alloc, AtomicBool::new(false)) else {
             return Err(AllocError);
         };
-        let parker = Parker::new(alloc)?;
-        let end = RelayEnd {
-            ending: Arc::try_clone(&ending)?,
-            relay: parker.unparker().clone()?,
+        let Ok(parker) = Parker::new(alloc) else {
+            drop(ending);
+            return Err(AllocError);
         };
-        Ok((RelayLines { ending, parker }, end))
+        let lines = RelayLines { ending, parker };
+        match lines.end_of() {
+            Ok(end) => Ok((lines, end)),
+            Err(AllocError) => {
+                drop(lines);
+                Err(AllocError)
+            }
+        }
+    }
+
+    /// By which the relay's worker is told to end.
+    ///
+    /// # Errors
+    ///
+    /// Where it has too many owners.
+    fn end_of(&self) -> Result<RelayEnd, AllocError> {
+        let relay = self.unparker()?;
+        match Arc::try_clone(&self.ending) {
+            Ok(ending) => Ok(RelayEnd { ending, relay }),
+            Err(AllocError) => {
+                drop(relay);
+                Err(AllocError)
+            }
+        }
     }
 
     /// What wakes the relay's worker.
@@ -81,16 +103,26 @@ pub fn work_relay<W: Outlet + Drop, R: Wait + Drop>(
     ensures count { result.taker.count ≡ relay.taker.count }
 {
     let mut relay = relay;
+    pump_all(&rt, &mut relay, &lines);
+    drop(lines);
+    relay
+}
+
+/// Takes what is published and serves it, until the relay's worker is to end.
+fn pump_all<W: Outlet + Drop, R: Wait>(rt: &R, relay: &mut Relay<W, R>, lines: &RelayLines)
+    ensures queue { relay.new.taker.queue ≡ relay.old.taker.queue }
+    ensures count { relay.new.taker.count ≡ relay.old.taker.count }
+{
     let backoff = Backoff::new();
     for _ in rt.forever() {
         match relay.pump() {
             Pumped::Did | Pumped::Closed(_) | Pumped::NoRoom(_) => backoff.reset(),
-            Pumped::Complete => return relay,
+            Pumped::Complete => return,
             Pumped::Empty => {
                 if lines.is_ending() {
-                    return relay;
+                    return;
                 }
-                rest(&rt, &lines.parker, &backoff);
+                rest(rt, &lines.parker, &backoff);
             }
         }
     }

@@ -72,17 +72,19 @@ pub(crate) fn reply<R: Wait>(rt: &R, handled: Handled, to: &Sender<Frames>) -> O
 }
 
 /// Whether a fault of the engine ends the worker.
-pub(crate) fn after_fault(fault: &EngineFault) -> Option<Cause>
-    ensures { result ≡ cause_of_fault fault.now }
+pub(crate) fn after_fault(fault: EngineFault) -> Option<Cause>
+    ensures { result ≡ cause_of_fault fault }
 {
-    match fault {
+    let cause = match &fault {
         EngineFault::Worn => Some(Cause::Worn),
         EngineFault::OwedIdle(_)
         | EngineFault::Memory
         | EngineFault::Read
         | EngineFault::Write
         | EngineFault::Turns => None,
-    }
+    };
+    drop(fault);
+    cause
 }
 
 /// Ends an engine, and closes its publisher.

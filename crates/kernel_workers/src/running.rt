@@ -1,21 +1,23 @@
 //! A running kernel: four workers in threads of their own.
 
-ghost use Rattle.std.specs.Prelude.{◌≡◌, ◌≤◌, [], IfOk, IfErr, vec_capacity};
+ghost use Rattle.std.specs.Prelude.{◌≡◌, ◌≤◌, [], IfOk, IfErr, OnOk, vec_capacity};
+ghost use Rattle.iopub_queue.specs.Calls.{IsCapacity};
 ghost use Rattle.iopub_queue.specs.Entries.{EndsWithClose};
 ghost use Rattle.kernel_workers.specs.Running.{EndsWell, FailsBy, TookAll, restart_by};
+ghost use Rattle.kernel_workers.specs.Staging.{IsSetUp};
 
 use crate::ended::Ended;
 use crate::fault::KernelFault;
 use crate::opening::open_three;
 use crate::parts::Parts;
-use crate::staging::set_up;
+use crate::staging::{Stage, set_up};
 use crate::starting::{Workers, start};
 use interp_core::Interpreter;
 use iopub_event::Event;
 use iopub_queue::{Closed, OpenFault};
 use iopub_relay::Relay;
 use jmsg_envelope::Stamp;
-use std::alloc::Global;
+use std::alloc::{AllocError, Global};
 use std::sync::Wait;
 use std::thread::Threads;
 use zmtp_wire::Outlet;
@@ -85,7 +87,60 @@ fn settle_up<W: Outlet + Drop, R: Wait + Drop>(
             subscribers,
             no_room,
         }),
-        Err(_) => Err(KernelFault::Queue(OpenFault::OutOfMemory)),
+        Err(relay) => {
+            drop(relay);
+            Err(KernelFault::Queue(OpenFault::OutOfMemory))
+        }
+    }
+}
+
+/// Opens the queue of a kernel, and sets it up.
+///
+/// # Errors
+///
+/// `Queue` where the capacity isn't from 1 to 65,536, which is judged first, or memory is refused.
+fn stage_of<I, S, W, R>(
+    rt: &R,
+    alloc: Global,
+    parts: Parts<I, S, W>,
+) -> Result<Stage<I, S, W, R>, KernelFault>
+where
+    I: Drop,
+    S: Drop,
+    W: Outlet + Drop,
+    R: Copy + Drop,
+    ensures set { IfOk result (IsSetUp parts) }
+    ensures capacity { OnOk result (IsCapacity parts.capacity) }
+    ensures refused { IfErr result (FailsBy parts.capacity) }
+{
+    match open_three(rt, alloc, parts.capacity) {
+        Ok(opened) => match set_up(alloc, opened, parts) {
+            Ok(stage) => Ok(stage),
+            Err(AllocError) => Err(KernelFault::Queue(OpenFault::OutOfMemory)),
+        },
+        Err(fault) => {
+            drop(parts);
+            Err(fault)
+        }
+    }
+}
+
+/// Room for three tokens.
+///
+/// # Errors
+///
+/// Where memory is refused.
+fn room_for_three<T: Drop>(alloc: Global) -> Result<Vec<T>, AllocError>
+    ensures none { IfOk result (λ tokens. tokens.items ≡ []) }
+    ensures room { IfOk result (λ tokens. 3 ≤ vec_capacity tokens) }
+{
+    let mut tokens = Vec::new(alloc);
+    match tokens.reserve(3) {
+        Ok(()) => Ok(tokens),
+        Err(AllocError) => {
+            drop(tokens);
+            Err(AllocError)
+        }
     }
 }
 
@@ -113,17 +168,25 @@ where
     ensures ends { IfOk result (EndsWell I.meaning S.meaning S.id_text S.is_date W.outflow parts) }
     ensures refused { IfErr result (FailsBy parts.capacity) }
 {
-    let opened = open_three(&rt, alloc, parts.capacity)?;
-    let stage = set_up(alloc, opened, parts)?;
-    let mut tokens = Vec::new(alloc);
-    tokens.reserve(3)?;
+    let stage = stage_of(&rt, alloc, parts)?;
+    let Ok(tokens) = room_for_three(alloc) else {
+        drop(stage);
+        return Err(KernelFault::Queue(OpenFault::OutOfMemory));
+    };
+    let workers = match start(rt, alloc, stage) {
+        Ok(workers) => workers,
+        Err(fault) => {
+            drop(tokens);
+            return Err(fault);
+        }
+    };
     let Workers {
         shell,
         control,
         door,
         relay,
         relay_end,
-    } = start(rt, alloc, stage)?;
+    } = workers;
     let shell = shell.join(&rt);
     let control = control.join(&rt);
     let door = door.join(&rt);

@@ -18,6 +18,7 @@ use interp_core::Interpreter;
 use iopub_event::Event;
 use jmsg_envelope::Stamp;
 use kernel_block::{Engine, Side};
+use listed::Frames;
 use std::alloc::Global;
 use std::sync::Wait;
 
@@ -65,6 +66,7 @@ where
     let closed = close(engine);
     let _ = lines.ended.send(&rt, ());
     tell_end(&rt, &lines.control);
+    drop(lines);
     Ended {
         closed,
         restart: cause.restart(),
@@ -80,7 +82,7 @@ where
     R: Wait,
     ensures { IsSameEngine S.meaning engine.old engine.new }
 {
-    let _ = engine.start(alloc);
+    drop(engine.start(alloc));
 }
 
 /// Does the jobs of the inbox, until something ends that.
@@ -98,17 +100,19 @@ where
     ensures { IsSameEngine S.meaning engine.old engine.new }
 {
     for _ in rt.forever() {
-        let Ok(Note::Job(job)) = lines.inbox.recv(rt) else {
-            return Cause::Told;
-        };
-        if let Some(cause) = do_job(rt, alloc, engine, job, &lines.flags) {
-            return cause;
+        match lines.inbox.recv(rt) {
+            Ok(Note::Job(job)) => {
+                if let Some(cause) = do_job(rt, alloc, engine, job, &lines.flags) {
+                    return cause;
+                }
+            }
+            Ok(Note::End) | Err(_) => return Cause::Told,
         }
     }
     unreachable!()
 }
 
-/// Does a job: has its request handled, and sends the reply. A job that begins once the end was asked for is dropped.
+/// Does a job. One that begins once the end was asked for is dropped.
 fn do_job<I, S, W, R>(
     rt: &R,
     alloc: Global,
@@ -125,11 +129,35 @@ where
     ensures same { IsSameEngine S.meaning engine.old engine.new }
 {
     if !flags.may_begin() {
+        drop(job);
         return None;
     }
-    let request = open_request(alloc, engine.signer(), job.frames)?;
+    let Job { frames, reply } = job;
+    let cause = answer(rt, alloc, engine, frames, &reply, flags);
+    drop(reply);
+    cause
+}
+
+/// Has the request handled that the frames of a job are, and sends the reply.
+fn answer<I, S, W, R>(
+    rt: &R,
+    alloc: Global,
+    engine: &mut Engine<I, Waking<Event<W>, R>, S, W>,
+    frames: Frames,
+    to: &Sender<Frames>,
+    flags: &Flags,
+) -> Option<Cause>
+where
+    I: Interpreter,
+    S: Stamp,
+    W: Drop,
+    R: Wait,
+    ensures does { DoesJob I.meaning S.meaning S.id_text S.is_date Unit frames engine.old result engine.new }
+    ensures same { IsSameEngine S.meaning engine.old engine.new }
+{
+    let request = open_request(alloc, engine.signer(), frames)?;
     match engine.handle(alloc, request, flags) {
-        Ok(handled) => reply(rt, handled, &job.reply),
-        Err(fault) => after_fault(&fault),
+        Ok(handled) => reply(rt, handled, to),
+        Err(fault) => after_fault(fault),
     }
 }

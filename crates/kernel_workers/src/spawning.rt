@@ -47,7 +47,10 @@ where
     let promise = ClosesBlocked::of(Side::Shell, &parts);
     match thread::spawn_with(&rt, promise, move || work_shell(rt, alloc, parts, lines)) {
         Ok(handle) => Some(handle),
-        Err(_) => None,
+        Err(refused) => {
+            drop(refused);
+            None
+        }
     }
 }
 
@@ -70,7 +73,10 @@ where
     let promise = ClosesBlocked::of(Side::Control, &parts);
     match thread::spawn_with(&rt, promise, move || work_control(rt, alloc, parts, lines)) {
         Ok(handle) => Some(handle),
-        Err(_) => None,
+        Err(refused) => {
+            drop(refused);
+            None
+        }
     }
 }
 
@@ -91,7 +97,10 @@ where
     };
     match thread::spawn_with(&rt, promise, move || work_door(rt, sink, inbox)) {
         Ok(handle) => Some(handle),
-        Err(_) => None,
+        Err(refused) => {
+            drop(refused);
+            None
+        }
     }
 }
 
@@ -111,6 +120,9 @@ where
     };
     match thread::spawn_with(&rt, promise, move || work_relay(rt, relay, lines)) {
         Ok(handle) => Some(handle),
-        Err(_) => None,
+        Err(refused) => {
+            drop(refused);
+            None
+        }
     }
 }

@@ -73,12 +73,26 @@ where
     ensures shell { IfSome result (λ workers. Promises Shell shell workers.shell.promise) }
     ensures control { IfSome result (λ workers. Promises Control control workers.control.promise) }
 {
-    let control = spawn_control(rt, alloc, control, lines.control)?;
-    match spawn_shell(rt, alloc, shell, lines.shell) {
-        Some(shell) => Some(ChannelWorkers { shell, control }),
+    let ChannelLines {
+        shell: shell_lines,
+        control: control_lines,
+        to_control,
+    } = lines;
+    let Some(control) = spawn_control(rt, alloc, control, control_lines) else {
+        drop(shell);
+        drop(shell_lines);
+        drop(to_control);
+        return None;
+    };
+    match spawn_shell(rt, alloc, shell, shell_lines) {
+        Some(shell) => {
+            drop(to_control);
+            Some(ChannelWorkers { shell, control })
+        }
         None => {
-            tell_end(&rt, &lines.to_control);
-            control.join(&rt);
+            tell_end(&rt, &to_control);
+            drop(to_control);
+            drop(control.join(&rt));
             None
         }
     }
@@ -106,12 +120,27 @@ where
     ensures control { IfSome result (λ workers. Promises Control control workers.channels.control.promise) }
     ensures door { IfSome result (λ workers. workers.door.promise.sink.value ≡ door) }
 {
-    let door = spawn_door(rt, door, lines.door)?;
-    match start_channels(rt, alloc, shell, control, lines.channels) {
-        Some(channels) => Some(PublishingWorkers { channels, door }),
+    let Lines {
+        channels,
+        door: door_lines,
+        to_door,
+    } = lines;
+    let Some(door) = spawn_door(rt, door, door_lines) else {
+        drop(shell);
+        drop(control);
+        drop(channels);
+        drop(to_door);
+        return None;
+    };
+    match start_channels(rt, alloc, shell, control, channels) {
+        Some(channels) => {
+            drop(to_door);
+            Some(PublishingWorkers { channels, door })
+        }
         None => {
-            tell_end(&rt, &lines.to_door);
-            door.join(&rt);
+            tell_end(&rt, &to_door);
+            drop(to_door);
+            drop(door.join(&rt));
             None
         }
     }
@@ -152,6 +181,11 @@ where
         lines,
     } = stage;
     let Some(relay) = spawn_relay(rt, relay, relay_lines) else {
+        drop(shell);
+        drop(control);
+        drop(door);
+        drop(relay_end);
+        drop(lines);
         return Err(KernelFault::NoThread);
     };
     match start_publishing(rt, alloc, shell, control, door, lines) {
@@ -169,7 +203,7 @@ where
         }),
         None => {
             relay_end.end();
-            relay.join(&rt);
+            drop(relay.join(&rt));
             Err(KernelFault::NoThread)
         }
     }

@@ -1,18 +1,17 @@
 use Rattle.std.proofs.Common.{◌∙◌}
-use Rattle.std.proofs.lemmas.Result.{err_from_is_err_and}
 use Rattle.kernel_block.specs.declared.side.Side.TheVariants.{Shell, Control}
 use Rattle.kernel_workers.proofs.RunningLemmas.{blocked_by, ends_well}
 use Rattle.kernel_workers.proofs.running.run_kernel.Goals as goal
 
 pub returns-clause-ends : goal.returns-clause-ends
 returns-clause-ends g c =
-    let set = c.in_ok-stage.ensures in
-    let by_shell = c.in_ok-shell.ensures.shell in
-    let by_control = c.in_ok-shell.ensures.control in
+    let set = c.in_ok-stage.ensures.set in
+    let by_shell = c.in-Ok-start.ensures.shell in
+    let by_control = c.in-Ok-start.ensures.control in
     ends_well g.I.Interpreter.meaning g.S.Stamp.meaning g.S.Stamp.id_text g.S.Stamp.is_date g.W.Outlet.outflow
     c.args.parts
     c.join-shell.result.closed.published c.join-control.result.closed.published c.join-door.result.published
-    c.settle_up.result c.in_ok-opened.ensures.capacity
+    c.settle_up.result c.in_ok-stage.ensures.capacity
     (blocked_by g.I.Interpreter.meaning g.S.Stamp.meaning g.S.Stamp.id_text g.S.Stamp.is_date _ Shell _ _ _ _ _
     by_shell.side_is
     (by_shell.signer ∙ set.shell_signer) (by_shell.stamp ∙ set.shell_stamp) c.join-shell.ensures.blocked)
@@ -20,8 +19,3 @@ returns-clause-ends g c =
     by_control.side_is
     (by_control.signer ∙ set.control_signer) (by_control.stamp ∙ set.control_stamp) c.join-control.ensures.blocked)
     c.join-door.ensures.silent c.settle_up.ensures.took
-
-pub returns-in_err-reserve-clause-refused : goal.returns-in_err-reserve-clause-refused
-returns-in_err-reserve-clause-refused g c =
-    let fault = err_from_is_err_and c.from_residual-in_err-reserve.result c.from_residual-in_err-reserve.ensures.1 in
-    rw (fault.1, fault.2) c.in_ok-opened.ensures.capacity

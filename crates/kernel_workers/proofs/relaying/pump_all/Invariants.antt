@@ -1,5 +1,5 @@
 use Rattle.kernel_workers.proofs.RelayingLemmas.{IsSameQueue}
-use Rattle.kernel_workers.proofs.relaying.work_relay.Given as goal
+use Rattle.kernel_workers.proofs.relaying.pump_all.Given as goal
 
 abbrev pub invariant-loop : goal.invariant-loop
 invariant-loop g l = IsSameQueue l.fn.relay l.relay

@@ -1,0 +1,11 @@
+use Rattle.std.proofs.Common.{rules}
+use Rattle.kernel_workers.specs.Jobs.{handled, refused}
+use Rattle.kernel_workers.proofs.control.answer.Goals as goal
+
+pub returns-in-Ok-handle-clause-does : goal.returns-in-Ok-handle-clause-does
+returns-in-Ok-handle-clause-does g c =
+    handled c.in_ok-request.request (search rules) c.in-Ok-handle.handled c.in-Ok-handle.ensures c.reply.ensures
+
+pub returns-in-Err-clause-does : goal.returns-in-Err-clause-does
+returns-in-Err-clause-does g c =
+    refused c.in_ok-request.request (search rules) c.in-Err.fault c.in-Err.ensures c.after_fault.ensures
