@@ -5,46 +5,35 @@ ghost use Rattle.zmtp_wire.specs.Fault.{wire_fault_number};
 ghost use Rattle.zmtp_wire.specs.declared.fault.WireFault.TheVariants.{OutOfMemory};
 
 use std::alloc::{AllocError, AllocFailed};
-use thiserror::Error;
+use std::error::Error;
+use std::fmt;
 
 /// Why a peer's octets are refused, or why the wire can't go on.
-#[derive(Clone, Copy, Debug, PartialEq, Eq, Error)]
+#[derive(Clone, Copy, Debug, PartialEq, Eq)]
 pub enum WireFault {
     /// The greeting's signature isn't `FF`, eight octets of padding, `7F`.
-    #[error("the greeting has no ZMTP signature")]
     Signature,
     /// The greeting's major version is below 3.
-    #[error("the peer speaks a version of ZMTP before 3.0")]
     Version,
     /// The greeting's mechanism isn't NULL.
-    #[error("the peer's security mechanism is not NULL")]
     Mechanism,
     /// A flags octet has a reserved bit, MORE with COMMAND, or COMMAND inside a message.
-    #[error("a frame's flags are refused")]
     Flags,
     /// A frame is longer than the limit.
-    #[error("a frame is too long")]
     FrameTooLong,
     /// A message has more frames than the limit.
-    #[error("a message has too many frames")]
     TooManyFrames,
     /// The bodies of a message's frames are together longer than the limit.
-    #[error("a message is too long")]
     MessageTooLong,
     /// A command's body is malformed, or it isn't the command that is due.
-    #[error("a command is malformed or out of place")]
     Command,
     /// The peer's socket type doesn't pair with ours.
-    #[error("the peer's socket type does not pair")]
     Pairing,
     /// The peer sent the command ERROR.
-    #[error("the peer reported an error")]
     PeerError,
     /// The reading had ended before, by a fault or by whoever read.
-    #[error("the connection was refused before")]
     Spent,
     /// No memory was left.
-    #[error("out of memory")]
     OutOfMemory,
 }
 
@@ -69,6 +58,34 @@ impl WireFault {
         }
     }
 }
+
+impl WireFault {
+    /// What the fault is called.
+    fn words(self) -> &'static str {
+        match self {
+            WireFault::Signature => "the greeting has no ZMTP signature",
+            WireFault::Version => "the peer speaks a version of ZMTP before 3.0",
+            WireFault::Mechanism => "the peer's security mechanism is not NULL",
+            WireFault::Flags => "a frame's flags are refused",
+            WireFault::FrameTooLong => "a frame is too long",
+            WireFault::TooManyFrames => "a message has too many frames",
+            WireFault::MessageTooLong => "a message is too long",
+            WireFault::Command => "a command is malformed or out of place",
+            WireFault::Pairing => "the peer's socket type does not pair",
+            WireFault::PeerError => "the peer reported an error",
+            WireFault::Spent => "the connection was refused before",
+            WireFault::OutOfMemory => "out of memory",
+        }
+    }
+}
+
+impl fmt::Display for WireFault {
+    fn fmt<W: fmt::Write>(&self, f: &mut fmt::Formatter<W>) -> fmt::Result {
+        f.write_str(self.words())
+    }
+}
+
+impl Error for WireFault {}
 
 impl From<AllocError> for WireFault {
     ghost from_gives = { λ _ e. e ≡ OutOfMemory };
