@@ -1,8 +1,13 @@
 -- Parts that contents share ('Messaging in Jupyter' 5.3). A content is an object, with its keys in the order of their
 -- octets.
-use Rattle.std.specs.Prelude.{ℕ, List, ◌++◌, map, codes}
-use Rattle.serde_json.specs.Data.{Data, string, array, object, no_items, item, member, no_members}
+use Rattle.std.specs.Prelude.{ℕ, List, [], ◌∷◌, ◌++◌, map, codes}
+use Rattle.serde_json.specs.Data.{Data, string, array, object, no_items, item, Members, member, no_members, put}
 use Rattle.serde_json.specs.View.{items_of}
+
+-- members with these texts, each under its key; of a key that comes twice the last counts
+abbrev pub with_texts : List (List ℕ × List ℕ) → Members → Members
+with_texts [] found = found
+with_texts (text ∷ texts) found = with_texts texts (put text.0 (string text.1) found)
 
 -- an object without members
 abbrev pub empty_data : Data

@@ -3,14 +3,15 @@
 ghost use Rattle.std.specs.Prelude.{◌≡◌, IfOk, IfErr};
 ghost use Rattle.jmsg_types.specs.Publication.{failure_data, publication_data, publication_type, state_word};
 ghost use Rattle.jmsg_types.specs.Publication.{stream_name, topic};
-ghost use Rattle.jmsg_types.specs.declared.publication.Publication.TheVariants.{Status};
+ghost use Rattle.jmsg_types.specs.declared.publication.Publication.TheVariants.{CommClose, Display, ExecuteInput};
+ghost use Rattle.jmsg_types.specs.declared.publication.Publication.TheVariants.{ExecuteResult, Status};
 ghost use Rattle.serde_json.specs.View.{view};
 ghost use Rattle.serde_json.specs.Written.{compact_text};
 
 use crate::ContentFault;
-use crate::content::{plain_value, traceback_line};
+use crate::content::{object_of_texts, plain_value, put_texts, traceback_value};
 use listed::Text;
-use serde_json::{Value, json};
+use serde_json::{Map, Value, json};
 use std::alloc::{AllocError, Global};
 
 /// What is published.
@@ -172,34 +173,71 @@ fn publication_value(alloc: Global, publication: &Publication) -> Result<Value, 
     ensures { IfOk result (λ value. view value ≡ publication_data publication.now) }
 {
     match publication {
-        Publication::Status(state) => json!(in alloc; {"execution_state": state.word()}),
-        Publication::ExecuteInput { code, count } => {
-            json!(in alloc; {"code": code.as_str(), "execution_count": *count})
+        Publication::Status(state) => {
+            object_of_texts(alloc, &[("execution_state", state.word())])
         }
+        Publication::ExecuteInput { code, count } => input_value(alloc, code.as_str(), *count),
         Publication::Stream { err, text } => {
-            json!(in alloc; {"name": stream_name(*err), "text": text.as_str()})
+            object_of_texts(
+                alloc,
+                &[("name", stream_name(*err)), ("text", text.as_str())],
+            )
         }
-        Publication::ExecuteResult { text, count } => {
-            let data = plain_value(alloc, text.as_str())?;
-            json!(in alloc; {"data": data, "execution_count": *count, "metadata": {}})
-        }
-        Publication::Display { text } => {
-            let data = plain_value(alloc, text.as_str())?;
-            json!(in alloc; {"data": data, "metadata": {}})
-        }
+        Publication::ExecuteResult { text, count } => result_value(alloc, text.as_str(), *count),
+        Publication::Display { text } => display_value(alloc, text.as_str()),
         Publication::Error { ename, evalue } => {
             failure_value(alloc, ename.as_str(), evalue.as_str())
         }
-        Publication::CommClose { comm_id } => {
-            json!(in alloc; {"comm_id": comm_id.as_str(), "data": {}})
-        }
+        Publication::CommClose { comm_id } => comm_close_value(alloc, comm_id.as_str()),
     }
 }
 
+/// A cell that is to be run.
+fn input_value(alloc: Global, code: &str, count: u64) -> Result<Value, AllocError>
+    ensures { IfOk result (λ value. view value ≡ publication_data (ExecuteInput code.now count)) }
+{
+    json!(in alloc; {"code": code, "execution_count": count})
+}
+
+/// A value of a cell.
+fn result_value(alloc: Global, text: &str, count: u64) -> Result<Value, AllocError>
+    ensures { IfOk result (λ value. view value ≡ publication_data (ExecuteResult text.now count)) }
+{
+    let data = plain_value(alloc, text)?;
+    let mut members = Map::new(alloc);
+    serde_json::put(&mut members, alloc, "data", data)?;
+    serde_json::put(&mut members, alloc, "execution_count", Value::from(count))?;
+    serde_json::put(
+        &mut members,
+        alloc,
+        "metadata",
+        Value::Object(Map::new(alloc)),
+    )?;
+    Ok(Value::Object(members))
+}
+
+/// What a cell shows.
+fn display_value(alloc: Global, text: &str) -> Result<Value, AllocError>
+    ensures { IfOk result (λ value. view value ≡ publication_data (Display text.now)) }
+{
+    let data = plain_value(alloc, text)?;
+    json!(in alloc; {"data": data, "metadata": {}})
+}
+
+/// A comm that is closed.
+fn comm_close_value(alloc: Global, comm_id: &str) -> Result<Value, AllocError>
+    ensures { IfOk result (λ value. view value ≡ publication_data (CommClose comm_id.now)) }
+{
+    json!(in alloc; {"comm_id": comm_id, "data": {}})
+}
+
 /// A cell that failed.
-fn failure_value(alloc: Global, ename: &str, evalue: &str) -> Result<Value, AllocError>
+fn failure_value<'t>(alloc: Global, ename: &'t str, evalue: &'t str) -> Result<Value, AllocError>
     ensures { IfOk result (λ value. view value ≡ failure_data ename.now evalue.now) }
 {
-    let line = traceback_line(alloc, ename, evalue)?;
-    json!(in alloc; {"ename": ename, "evalue": evalue, "traceback": [line]})
+    let traceback = traceback_value(alloc, ename, evalue)?;
+    let mut failure = Map::new(alloc);
+    serde_json::put(&mut failure, alloc, "traceback", traceback)?;
+    put_texts(alloc, &mut failure, &[("ename", ename), ("evalue", evalue)])?;
+    Ok(Value::Object(failure))
 }

@@ -1,15 +1,18 @@
 //! What a client is replied.
 
-ghost use Rattle.std.specs.Prelude.{◌≡◌, Some, None, IfOk, IfErr, IfSome};
+ghost use Rattle.std.specs.Prelude.{◌≡◌, Some, None, IfOk, IfErr, IfSome, OnOk, codes};
+ghost use Rattle.jmsg_types.specs.Content.{empty_data, texts_data};
 ghost use Rattle.jmsg_types.specs.Reply.{complete_data, execute_error_data, execute_ok_data, inspect_data};
 ghost use Rattle.jmsg_types.specs.Reply.{kernel_info_data, language_data, reply_data, shown_data, values_members};
 ghost use Rattle.jmsg_types.specs.Reply.{verdict_data};
-ghost use Rattle.serde_json.specs.Data.{object, no_members};
-ghost use Rattle.serde_json.specs.View.{view};
+ghost use Rattle.serde_json.specs.Data.{boolean, member, no_members, object, put, string};
+ghost use Rattle.serde_json.specs.View.{members_view, view};
 ghost use Rattle.serde_json.specs.Written.{compact_text};
 
 use crate::ContentFault;
-use crate::content::{error_value, plain_value, texts_value, traceback_line};
+use crate::content::{
+    error_value, object_of_texts, plain_value, put_texts, texts_value, traceback_value,
+};
 use listed::{Row, Text};
 use serde_json::{Map, Value, json};
 use std::alloc::{AllocError, Global};
@@ -178,14 +181,8 @@ fn reply_value(alloc: Global, reply: &Reply) -> Result<Value, AllocError>
             mimetype,
             name,
             version,
-        } => {
-            let language = language_value(alloc, file_extension, mimetype, name, version)?;
-            kernel_info_value(alloc, banner.as_str(), language)
-        }
-        Reply::ExecuteOk { count, values } => {
-            let values = values_value(alloc, values.as_slice())?;
-            execute_ok_value(alloc, *count, values)
-        }
+        } => kernel_info_value(alloc, banner, file_extension, mimetype, name, version),
+        Reply::ExecuteOk { count, values } => execute_ok_value(alloc, *count, values.as_slice()),
         Reply::ExecuteError {
             ename,
             evalue,
@@ -196,111 +193,162 @@ fn reply_value(alloc: Global, reply: &Reply) -> Result<Value, AllocError>
             matches,
             start,
             end,
-        } => {
-            let matches = texts_value(alloc, matches.as_slice())?;
-            complete_value(alloc, matches, *start, *end)
-        }
+        } => complete_value(alloc, matches.as_slice(), *start, *end),
         Reply::Inspect(Some(text)) => found_value(alloc, text.as_str()),
         Reply::Inspect(None) => not_found_value(alloc),
         Reply::IsComplete(verdict) => verdict_value(alloc, *verdict),
-        Reply::History => json!(in alloc; {"history": [], "status": "ok"}),
-        Reply::CommInfo => json!(in alloc; {"comms": {}, "status": "ok"}),
-        Reply::Shutdown { restart } => json!(in alloc; {"restart": *restart, "status": "ok"}),
-        Reply::Interrupt => json!(in alloc; {"status": "ok"}),
+        Reply::History => history_value(alloc),
+        Reply::CommInfo => comms_value(alloc),
+        Reply::Shutdown { restart } => shutdown_value(alloc, *restart),
+        Reply::Interrupt => object_of_texts(alloc, &[("status", "ok")]),
     }
 }
 
 /// The language of a kernel, as its info tells it.
-fn language_value(
+fn language_value<'t>(
     alloc: Global,
-    file_extension: &Text,
-    mimetype: &Text,
-    name: &Text,
-    version: &Text,
+    file_extension: &'t Text,
+    mimetype: &'t Text,
+    name: &'t Text,
+    version: &'t Text,
 ) -> Result<Value, AllocError>
     ensures { IfOk result (λ value. view value
         ≡ language_data file_extension.now mimetype.now name.now version.now) }
 {
-    json!(in alloc; {
-        "file_extension": file_extension.as_str(),
-        "mimetype": mimetype.as_str(),
-        "name": name.as_str(),
-        "version": version.as_str()
-    })
+    object_of_texts(
+        alloc,
+        &[
+            ("file_extension", file_extension.as_str()),
+            ("mimetype", mimetype.as_str()),
+            ("name", name.as_str()),
+            ("version", version.as_str()),
+        ],
+    )
 }
 
 /// What a kernel is, of this banner and language.
-fn kernel_info_value(alloc: Global, banner: &str, language: Value) -> Result<Value, AllocError>
-    ensures { IfOk result (λ value. view value ≡ kernel_info_data banner.now (view language)) }
+fn kernel_info_value<'t>(
+    alloc: Global,
+    banner: &Text,
+    file_extension: &'t Text,
+    mimetype: &'t Text,
+    name: &'t Text,
+    version: &'t Text,
+) -> Result<Value, AllocError>
+    ensures { IfOk result (λ value. view value ≡ kernel_info_data banner.now
+        (language_data file_extension.now mimetype.now name.now version.now)) }
 {
-    json!(in alloc; {
-        "banner": banner,
-        "help_links": [],
-        "implementation": "jkernel",
-        "implementation_version": "1.0",
-        "language_info": language,
-        "protocol_version": "5.3",
-        "status": "ok"
-    })
+    let language = language_value(alloc, file_extension, mimetype, name, version)?;
+    let mut info = Map::new(alloc);
+    serde_json::put(&mut info, alloc, "language_info", language)?;
+    serde_json::put(
+        &mut info,
+        alloc,
+        "help_links",
+        Value::Array(Vec::new(alloc)),
+    )?;
+    let texts = [
+        ("banner", banner.as_str()),
+        ("implementation", "jkernel"),
+        ("implementation_version", "1.0"),
+        ("protocol_version", "5.3"),
+        ("status", "ok"),
+    ];
+    put_texts(alloc, &mut info, &texts)?;
+    Ok(Value::Object(info))
 }
 
 /// A cell that ran to its end, with what the user expressions came to.
-fn execute_ok_value(alloc: Global, count: u64, values: Value) -> Result<Value, AllocError>
-    ensures { IfOk result (λ value. view value ≡ execute_ok_data count (view values)) }
+fn execute_ok_value(
+    alloc: Global,
+    count: u64,
+    values: &[(Text, Shown)],
+) -> Result<Value, AllocError>
+    ensures { IfOk result (λ value. view value
+        ≡ execute_ok_data count (object (values_members values.now no_members))) }
 {
-    json!(in alloc; {
-        "execution_count": count,
-        "payload": [],
-        "status": "ok",
-        "user_expressions": values
-    })
+    let values = values_value(alloc, values)?;
+    let mut reply = Map::new(alloc);
+    serde_json::put(&mut reply, alloc, "user_expressions", values)?;
+    serde_json::put(&mut reply, alloc, "execution_count", Value::from(count))?;
+    serde_json::put(&mut reply, alloc, "payload", Value::Array(Vec::new(alloc)))?;
+    put_texts(alloc, &mut reply, &[("status", "ok")])?;
+    Ok(Value::Object(reply))
 }
 
 /// A cell that failed.
-fn execute_error_value(
+fn execute_error_value<'t>(
     alloc: Global,
-    ename: &str,
-    evalue: &str,
+    ename: &'t str,
+    evalue: &'t str,
     count: u64,
 ) -> Result<Value, AllocError>
     ensures { IfOk result (λ value. view value ≡ execute_error_data ename.now evalue.now count) }
 {
-    let line = traceback_line(alloc, ename, evalue)?;
-    json!(in alloc; {
-        "ename": ename,
-        "evalue": evalue,
-        "execution_count": count,
-        "status": "error",
-        "traceback": [line]
-    })
+    let traceback = traceback_value(alloc, ename, evalue)?;
+    let mut error = Map::new(alloc);
+    serde_json::put(&mut error, alloc, "traceback", traceback)?;
+    serde_json::put(&mut error, alloc, "execution_count", Value::from(count))?;
+    let texts = [("ename", ename), ("evalue", evalue), ("status", "error")];
+    put_texts(alloc, &mut error, &texts)?;
+    Ok(Value::Object(error))
+}
+
+/// Puts in what says that all went well, with no metadata.
+fn put_success(alloc: Global, members: &mut Map<String, Value>) -> Result<(), AllocError>
+    ensures { OnOk result (members_view members.new.entries ≡ put (codes "status") (string (codes "ok"))
+        (put (codes "metadata") empty_data (members_view members.old.entries))) }
+{
+    serde_json::put(members, alloc, "metadata", Value::Object(Map::new(alloc)))?;
+    put_texts(alloc, members, &[("status", "ok")])
 }
 
 /// How the word between two places may go on.
-fn complete_value(alloc: Global, matches: Value, start: u64, end: u64) -> Result<Value, AllocError>
-    ensures { IfOk result (λ value. view value ≡ complete_data (view matches) start end) }
+fn complete_value(
+    alloc: Global,
+    matches: &[Text],
+    start: u64,
+    end: u64,
+) -> Result<Value, AllocError>
+    ensures { IfOk result (λ value. view value ≡ complete_data (texts_data matches.now) start end) }
 {
-    json!(in alloc; {
-        "cursor_end": end,
-        "cursor_start": start,
-        "matches": matches,
-        "metadata": {},
-        "status": "ok"
-    })
+    let matches = texts_value(alloc, matches)?;
+    let mut reply = Map::new(alloc);
+    serde_json::put(&mut reply, alloc, "matches", matches)?;
+    serde_json::put(&mut reply, alloc, "cursor_start", Value::from(start))?;
+    serde_json::put(&mut reply, alloc, "cursor_end", Value::from(end))?;
+    put_success(alloc, &mut reply)?;
+    Ok(Value::Object(reply))
 }
 
 /// An inspection that found a text.
 fn found_value(alloc: Global, text: &str) -> Result<Value, AllocError>
     ensures { IfOk result (λ value. view value ≡ inspect_data (Some text.now)) }
 {
-    let data = plain_value(alloc, text)?;
-    json!(in alloc; {"data": data, "found": true, "metadata": {}, "status": "ok"})
+    let shown = plain_value(alloc, text)?;
+    inspection_value(alloc, shown, true)
 }
 
 /// An inspection that found nothing.
 fn not_found_value(alloc: Global) -> Result<Value, AllocError>
     ensures { IfOk result (λ value. view value ≡ inspect_data None) }
 {
-    json!(in alloc; {"data": {}, "found": false, "metadata": {}, "status": "ok"})
+    inspection_value(alloc, Value::Object(Map::new(alloc)), false)
+}
+
+/// An inspection, of what is shown of it and whether it found that.
+fn inspection_value(alloc: Global, shown: Value, found: bool) -> Result<Value, AllocError>
+    ensures { IfOk result (λ value. view value ≡ object
+        (member (codes "data") (view shown)
+        (member (codes "found") (boolean found)
+        (member (codes "metadata") empty_data
+        (member (codes "status") (string (codes "ok")) no_members))))) }
+{
+    let mut reply = Map::new(alloc);
+    serde_json::put(&mut reply, alloc, "data", shown)?;
+    serde_json::put(&mut reply, alloc, "found", Value::Bool(found))?;
+    put_success(alloc, &mut reply)?;
+    Ok(Value::Object(reply))
 }
 
 /// Whether a code is whole.
@@ -308,10 +356,33 @@ fn verdict_value(alloc: Global, verdict: Verdict) -> Result<Value, AllocError>
     ensures { IfOk result (λ value. view value ≡ verdict_data verdict) }
 {
     match verdict {
-        Verdict::Complete => json!(in alloc; {"status": "complete"}),
-        Verdict::Incomplete => json!(in alloc; {"indent": "", "status": "incomplete"}),
-        Verdict::Invalid => json!(in alloc; {"status": "invalid"}),
+        Verdict::Complete => object_of_texts(alloc, &[("status", "complete")]),
+        Verdict::Incomplete => {
+            object_of_texts(alloc, &[("indent", ""), ("status", "incomplete")])
+        }
+        Verdict::Invalid => object_of_texts(alloc, &[("status", "invalid")]),
     }
+}
+
+/// The cells that ran before: none.
+fn history_value(alloc: Global) -> Result<Value, AllocError>
+    ensures { IfOk result (λ value. view value ≡ reply_data Reply.History) }
+{
+    json!(in alloc; {"history": [], "status": "ok"})
+}
+
+/// The comms that are open: none.
+fn comms_value(alloc: Global) -> Result<Value, AllocError>
+    ensures { IfOk result (λ value. view value ≡ reply_data Reply.CommInfo) }
+{
+    json!(in alloc; {"comms": {}, "status": "ok"})
+}
+
+/// A kernel that ends.
+fn shutdown_value(alloc: Global, restart: bool) -> Result<Value, AllocError>
+    ensures { IfOk result (λ value. view value ≡ reply_data (Reply.Shutdown restart)) }
+{
+    json!(in alloc; {"restart": restart, "status": "ok"})
 }
 
 /// What a user expression came to.
@@ -319,12 +390,20 @@ fn shown_value(alloc: Global, shown: &Shown) -> Result<Value, AllocError>
     ensures { IfOk result (λ value. view value ≡ shown_data shown.now) }
 {
     match shown {
-        Shown::Text(text) => {
-            let data = plain_value(alloc, text.as_str())?;
-            json!(in alloc; {"data": data, "metadata": {}, "status": "ok"})
-        }
+        Shown::Text(text) => shown_text_value(alloc, text.as_str()),
         Shown::Fault { ename, evalue } => error_value(alloc, ename.as_str(), evalue.as_str()),
     }
+}
+
+/// A user expression that came to a value, which is shown by this text.
+fn shown_text_value(alloc: Global, text: &str) -> Result<Value, AllocError>
+    ensures { IfOk result (λ value. view value ≡ shown_data (Shown.Text text.now)) }
+{
+    let data = plain_value(alloc, text)?;
+    let mut shown = Map::new(alloc);
+    serde_json::put(&mut shown, alloc, "data", data)?;
+    put_success(alloc, &mut shown)?;
+    Ok(Value::Object(shown))
 }
 
 /// What each user expression came to, by its name.

@@ -1,8 +1,9 @@
 //! What a client may ask, and how it is read.
 
 ghost use Rattle.std.specs.Prelude.{◌≡◌, None, Ok, Err, IfOk, IfErr, IfSome, MatchResult};
+ghost use Rattle.std.specs.Prelude.{codes, false, true};
 ghost use Rattle.jmsg_types.specs.Fault.{IsAnswer, IsAnswerOrMemory, refusal_of};
-ghost use Rattle.jmsg_types.specs.Field.{members_in};
+ghost use Rattle.jmsg_types.specs.Field.{and_then, as_truth, members_in, optional};
 ghost use Rattle.jmsg_types.specs.Request.{ExpressionsRise, known_request, message_type, request_in, row_of};
 ghost use Rattle.serde_json.specs.View.{members_view};
 
@@ -107,8 +108,10 @@ pub fn read_known(alloc: Global, kind: MessageType, content: &[u8]) -> Result<Re
     ensures answer { IsAnswerOrMemory result (known_request kind content.now) }
     ensures ordered { IfOk result ExpressionsRise }
 {
-    let members = read_members(alloc, content)?;
-    read_fields(alloc, kind, members)
+    let mut members = read_members(alloc, content)?;
+    let request = read_fields(alloc, kind, &mut members);
+    drop(members);
+    request
 }
 
 /// The members of a content, which is to be an object.
@@ -128,9 +131,9 @@ fn read_members(alloc: Global, content: &[u8]) -> Result<Map<String, Value>, Con
 fn read_fields(
     alloc: Global,
     kind: MessageType,
-    members: Map<String, Value>,
+    members: &mut Map<String, Value>,
 ) -> Result<Request, ContentFault>
-    ensures answer { IsAnswerOrMemory result ((row_of kind).fields (members_view members.entries)) }
+    ensures answer { IsAnswerOrMemory result ((row_of kind).fields (members_view members.old.entries)) }
     ensures ordered { IfOk result ExpressionsRise }
 {
     match kind {
@@ -144,23 +147,21 @@ fn read_fields(
         MessageType::CommOpen => read_comm_open(members),
         MessageType::CommMsg => Ok(Request::CommMsg),
         MessageType::CommClose => Ok(Request::CommClose),
-        MessageType::ShutdownRequest => read_shutdown(&members),
+        MessageType::ShutdownRequest => read_shutdown(members),
         MessageType::InterruptRequest => Ok(Request::Interrupt),
     }
 }
 
 /// Reads an `execute_request`. Each kind is judged before silence has its effect.
-fn read_execute(alloc: Global, mut members: Map<String, Value>) -> Result<Request, ContentFault>
+fn read_execute(alloc: Global, members: &mut Map<String, Value>) -> Result<Request, ContentFault>
     ensures answer { IsAnswerOrMemory result
-        ((row_of MessageType.ExecuteRequest).fields (members_view members.entries)) }
+        ((row_of MessageType.ExecuteRequest).fields (members_view members.old.entries)) }
     ensures ordered { IfOk result ExpressionsRise }
 {
-    let code = take_text(&mut members, "code")?;
-    let silent = truth_field(&members, "silent", false)?;
-    let store_history = truth_field(&members, "store_history", true)?;
-    let user_expressions = take_texts(alloc, &mut members, "user_expressions")?;
-    let allow_stdin = truth_field(&members, "allow_stdin", true)?;
-    let stop_on_error = truth_field(&members, "stop_on_error", true)?;
+    let code = take_text(members, "code")?;
+    let (silent, store_history) = read_silence(members)?;
+    let user_expressions = take_texts(alloc, members, "user_expressions")?;
+    let (allow_stdin, stop_on_error) = read_allowances(members)?;
     Ok(Request::Execute {
         code,
         silent,
@@ -171,26 +172,58 @@ fn read_execute(alloc: Global, mut members: Map<String, Value>) -> Result<Reques
     })
 }
 
-/// Reads a `complete_request`.
-fn read_complete(mut members: Map<String, Value>) -> Result<Request, ContentFault>
+/// Reads whether a cell is silent, and whether it is to be counted.
+fn read_silence(members: &Map<String, Value>) -> Result<(bool, bool), ContentFault>
+    ensures silent { IfOk result (λ told.
+        optional as_truth false (codes "silent") (members_view members.now.entries) ≡ Ok told.0) }
+    ensures store_history { IfOk result (λ told.
+        optional as_truth true (codes "store_history") (members_view members.now.entries) ≡ Ok told.1) }
     ensures answer { IsAnswer result
-        ((row_of MessageType.CompleteRequest).fields (members_view members.entries)) }
+        (and_then (optional as_truth false (codes "silent") (members_view members.now.entries)) (λ silent.
+        and_then (optional as_truth true (codes "store_history") (members_view members.now.entries))
+        (λ store_history. Ok (silent, store_history)))) }
+{
+    let silent = truth_field(members, "silent", false)?;
+    let store_history = truth_field(members, "store_history", true)?;
+    Ok((silent, store_history))
+}
+
+/// Reads whether a cell may ask for input, and whether an error drops the requests that wait.
+fn read_allowances(members: &Map<String, Value>) -> Result<(bool, bool), ContentFault>
+    ensures allow_stdin { IfOk result (λ told.
+        optional as_truth true (codes "allow_stdin") (members_view members.now.entries) ≡ Ok told.0) }
+    ensures stop_on_error { IfOk result (λ told.
+        optional as_truth true (codes "stop_on_error") (members_view members.now.entries) ≡ Ok told.1) }
+    ensures answer { IsAnswer result
+        (and_then (optional as_truth true (codes "allow_stdin") (members_view members.now.entries)) (λ allow_stdin.
+        and_then (optional as_truth true (codes "stop_on_error") (members_view members.now.entries))
+        (λ stop_on_error. Ok (allow_stdin, stop_on_error)))) }
+{
+    let allow_stdin = truth_field(members, "allow_stdin", true)?;
+    let stop_on_error = truth_field(members, "stop_on_error", true)?;
+    Ok((allow_stdin, stop_on_error))
+}
+
+/// Reads a `complete_request`.
+fn read_complete(members: &mut Map<String, Value>) -> Result<Request, ContentFault>
+    ensures answer { IsAnswer result
+        ((row_of MessageType.CompleteRequest).fields (members_view members.old.entries)) }
     ensures ordered { IfOk result ExpressionsRise }
 {
-    let code = take_text(&mut members, "code")?;
-    let cursor_pos = cursor_field(&members, "cursor_pos", code.as_str())?;
+    let code = take_text(members, "code")?;
+    let cursor_pos = cursor_field(members, "cursor_pos", code.as_str())?;
     Ok(Request::Complete { code, cursor_pos })
 }
 
 /// Reads an `inspect_request`.
-fn read_inspect(mut members: Map<String, Value>) -> Result<Request, ContentFault>
+fn read_inspect(members: &mut Map<String, Value>) -> Result<Request, ContentFault>
     ensures answer { IsAnswer result
-        ((row_of MessageType.InspectRequest).fields (members_view members.entries)) }
+        ((row_of MessageType.InspectRequest).fields (members_view members.old.entries)) }
     ensures ordered { IfOk result ExpressionsRise }
 {
-    let code = take_text(&mut members, "code")?;
-    let cursor_pos = cursor_field(&members, "cursor_pos", code.as_str())?;
-    let detail_level = level_field(&members, "detail_level")?;
+    let code = take_text(members, "code")?;
+    let cursor_pos = cursor_field(members, "cursor_pos", code.as_str())?;
+    let detail_level = level_field(members, "detail_level")?;
     Ok(Request::Inspect {
         code,
         cursor_pos,
@@ -199,22 +232,22 @@ fn read_inspect(mut members: Map<String, Value>) -> Result<Request, ContentFault
 }
 
 /// Reads an `is_complete_request`.
-fn read_is_complete(mut members: Map<String, Value>) -> Result<Request, ContentFault>
+fn read_is_complete(members: &mut Map<String, Value>) -> Result<Request, ContentFault>
     ensures answer { IsAnswer result
-        ((row_of MessageType.IsCompleteRequest).fields (members_view members.entries)) }
+        ((row_of MessageType.IsCompleteRequest).fields (members_view members.old.entries)) }
     ensures ordered { IfOk result ExpressionsRise }
 {
-    let code = take_text(&mut members, "code")?;
+    let code = take_text(members, "code")?;
     Ok(Request::IsComplete { code })
 }
 
 /// Reads a `comm_open`.
-fn read_comm_open(mut members: Map<String, Value>) -> Result<Request, ContentFault>
+fn read_comm_open(members: &mut Map<String, Value>) -> Result<Request, ContentFault>
     ensures answer { IsAnswer result
-        ((row_of MessageType.CommOpen).fields (members_view members.entries)) }
+        ((row_of MessageType.CommOpen).fields (members_view members.old.entries)) }
     ensures ordered { IfOk result ExpressionsRise }
 {
-    let comm_id = take_text(&mut members, "comm_id")?;
+    let comm_id = take_text(members, "comm_id")?;
     Ok(Request::CommOpen { comm_id })
 }
 
