@@ -1,8 +1,8 @@
 -- The header of a message ('Messaging in Jupyter' 5.3, "General Message Format"): what is read of it, and the one that
 -- is written.
-use Rattle.std.specs.Prelude.{ℕ, List, codes, Option, None, option_map, option_and_then, if◌then◌else◌}
+use Rattle.std.specs.Prelude.{ℕ, List, [], ◌∷◌, codes, Option, None, option_map, option_and_then, if◌then◌else◌}
 use Rattle.std.specs.Str.{is_utf8}
-use Rattle.serde_json.specs.Data.{Data, string, object, member, no_members}
+use Rattle.serde_json.specs.Data.{Data, string, object, Members, member, no_members, put}
 use Rattle.serde_json.specs.Read.{read}
 use Rattle.serde_json.specs.Find.{get, as_str}
 use Rattle.serde_json.specs.Written.{compact_text}
@@ -20,6 +20,11 @@ names_of value = option_and_then (λ id. option_map (λ kind. (id, kind)) (text_
 -- that is an object and has both as texts
 abbrev pub header_names : List ℕ → Option (List ℕ × List ℕ)
 header_names octets = if is_utf8 octets then option_and_then names_of (read octets) else None
+
+-- members with texts, each under its key; of a key that comes twice the last counts
+abbrev pub texts_by_key : List (List ℕ × List ℕ) → Members → Members
+texts_by_key [] found = found
+texts_by_key (text ∷ texts) found = texts_by_key texts (put text.0 (string text.1) found)
 
 -- a header as an object: when and by which session which message was made, and that the kernel made it
 abbrev pub header_data : List ℕ → List ℕ → List ℕ → List ℕ → Data
