@@ -44,7 +44,7 @@ fn writers_of<W: Drop>(alloc: Global, rows: Vec<Subscriber<W>>) -> Result<Vec<(u
 {
     let mut left = Vec::with_capacity(alloc, rows.len())?;
     for row in rows {
-        left.push((row.id, row.writer))?;
+        left.push_reserved((row.id, row.writer));
     }
     Ok(left)
 }
