@@ -1,14 +1,15 @@
 //! Parsing by precedence: constructs that have begun wait on a stack for the operands that end them.
 
 ghost use Rattle.std.specs.Bool.{nat_le};
-ghost use Rattle.std.specs.Prelude.{◌≡◌, ◌≤◌};
+ghost use Rattle.std.specs.Prelude.{◌≡◌, ◌≤◌, IfOk, IfErr, None, Some};
 ghost use Rattle.arith_syntax.specs.Grammar.{tree_of};
 ghost use Rattle.arith_syntax.specs.Machine.{rank, room, room_of, settle, start, advance, sign_of, take_due};
 ghost use Rattle.arith_syntax.specs.Machine.{take_behind, take_colon, take_close, take_assign, close, begun_of};
 ghost use Rattle.arith_syntax.specs.Machine.{stack_of, state_of};
-ghost use Rattle.arith_syntax.specs.Machine.{ends_at, IsBuilt, IsCopied, IsCondition, IsOpen, IsWholeStack, PushesTo};
+ghost use Rattle.arith_syntax.specs.Machine.{ends_at, IsBuilt, IsCopied, IsCondition, IsOpen, IsWholeStack, PushesTo, IsMemory, Divided};
 ghost use Rattle.arith_syntax.specs.Machine.{Pops, PopsEnding, PopsCondition, PopsOpen, SettlesTo, LeadsTo, ClosesTo};
 ghost use Rattle.arith_syntax.specs.Parsing.{Parses};
+ghost use Rattle.arith_syntax.specs.declared.token.Token.TheVariants.{Operator, Question};
 
 use crate::expression::Expression;
 use crate::fault::ReadFault;
@@ -76,11 +77,14 @@ impl Frame {
     {
         match self {
             Frame::Question(condition) => Some(condition),
-            Frame::Open
+            other @ (Frame::Open
             | Frame::Unary(_)
             | Frame::Binary(..)
             | Frame::Colon(..)
-            | Frame::Assign(..) => None,
+            | Frame::Assign(..)) => {
+                drop(other);
+                None
+            }
         }
     }
 
@@ -106,18 +110,64 @@ impl Frame {
         match self {
             Frame::Unary(operator) => Ok(Expression::Unary(operator, Box::new(alloc, operand)?)),
             Frame::Binary(left, operator) => {
-                let left = Box::new(alloc, left)?;
-                Ok(Expression::Binary(left, operator, Box::new(alloc, operand)?))
+                let (left, right) = both_boxed(alloc, left, operand)?;
+                Ok(Expression::Binary(left, operator, right))
             }
-            Frame::Colon(condition, middle) => {
-                let condition = Box::new(alloc, condition)?;
-                let middle = Box::new(alloc, middle)?;
-                Ok(Expression::Conditional(condition, middle, Box::new(alloc, operand)?))
-            }
+            Frame::Colon(condition, middle) => conditional(alloc, condition, middle, operand),
             Frame::Assign(name, operator) => {
                 Ok(Expression::Assignment(name, operator, Box::new(alloc, operand)?))
             }
             Frame::Open | Frame::Question(_) => unreachable!(),
+        }
+    }
+}
+
+/// Two trees in boxes.
+fn both_boxed(
+    alloc: Global,
+    one: Expression,
+    other: Expression,
+) -> Result<(Box<Expression>, Box<Expression>), ReadFault>
+    ensures ok { IfOk result (λ both. (tree_of both.0.value ≡ tree_of one)
+        × (tree_of both.1.value ≡ tree_of other)) }
+    ensures err { IfErr result IsMemory }
+{
+    match Box::new(alloc, one) {
+        Ok(one) => match Box::new(alloc, other) {
+            Ok(other) => Ok((one, other)),
+            Err(refused) => {
+                drop(one);
+                Err(ReadFault::from(refused))
+            }
+        },
+        Err(refused) => {
+            drop(other);
+            Err(ReadFault::from(refused))
+        }
+    }
+}
+
+/// The tree of a conditional.
+fn conditional(
+    alloc: Global,
+    condition: Expression,
+    if_so: Expression,
+    if_not: Expression,
+) -> Result<Expression, ReadFault>
+    ensures { IsBuilt (Divided (tree_of condition) (tree_of if_so)) (tree_of if_not) result }
+{
+    match both_boxed(alloc, condition, if_so) {
+        Ok((condition, if_so)) => match Box::new(alloc, if_not) {
+            Ok(if_not) => Ok(Expression::Conditional(condition, if_so, if_not)),
+            Err(refused) => {
+                drop(condition);
+                drop(if_so);
+                Err(ReadFault::from(refused))
+            }
+        },
+        Err(fault) => {
+            drop(if_not);
+            Err(fault)
         }
     }
 }
@@ -158,8 +208,8 @@ impl Parser {
         ensures { LeadsTo (take_due (stack_of self.old.frames.items) token.now) result (state_of self.new) }
     {
         match token {
-            Token::Constant(value) => self.operand = Some(Expression::Constant(*value)),
-            Token::Name(name) => self.operand = Some(Expression::Variable(copied(alloc, name)?)),
+            Token::Constant(value) => self.hold(Expression::Constant(*value)),
+            Token::Name(name) => self.hold(Expression::Variable(copied(alloc, name)?)),
             Token::Open => self.push(Frame::Open)?,
             Token::Operator(_)
             | Token::Assign(_)
@@ -180,6 +230,13 @@ impl Parser {
         Ok(true)
     }
 
+    /// Holds an operand.
+    fn hold(&mut self, operand: Expression)
+        ensures { self.new ≡ record self.old { operand = Some operand } }
+    {
+        self.operand = Some(operand);
+    }
+
     /// Takes a token behind an operand.
     fn take_behind(
         &mut self,
@@ -192,17 +249,9 @@ impl Parser {
             (state_of self.new) }
     {
         match token {
-            Token::Operator(operator) => {
-                let left = self.settle(alloc, operator.level(), operand)?;
-                self.push(Frame::Binary(left, *operator))?;
-                Ok(true)
-            }
+            Token::Operator(operator) => self.take_operator(alloc, *operator, operand),
             Token::Assign(operator) => self.take_assign(*operator, operand),
-            Token::Question => {
-                let condition = self.settle(alloc, WEAKEST_OPERATOR, operand)?;
-                self.push(Frame::Question(condition))?;
-                Ok(true)
-            }
+            Token::Question => self.take_question(alloc, operand),
             Token::Colon => {
                 let middle = self.settle(alloc, ASSIGNMENT, operand)?;
                 self.take_colon(middle)
@@ -218,8 +267,38 @@ impl Parser {
             | Token::Increment
             | Token::Decrement
             | Token::Open
-            | Token::Semicolon => Ok(false),
+            | Token::Semicolon => {
+                drop(operand);
+                Ok(false)
+            }
         }
+    }
+
+    /// Takes an operator between two operands.
+    fn take_operator(
+        &mut self,
+        alloc: Global,
+        operator: BinaryOperator,
+        operand: Expression,
+    ) -> Result<bool, ReadFault>
+        requires { self.old.operand ≡ None }
+        ensures { LeadsTo (take_behind (stack_of self.old.frames.items) (tree_of operand) (Operator operator)) result
+            (state_of self.new) }
+    {
+        let left = self.settle(alloc, operator.level(), operand)?;
+        self.push(Frame::Binary(left, operator))?;
+        Ok(true)
+    }
+
+    /// Takes `?` behind a condition.
+    fn take_question(&mut self, alloc: Global, operand: Expression) -> Result<bool, ReadFault>
+        requires { self.old.operand ≡ None }
+        ensures { LeadsTo (take_behind (stack_of self.old.frames.items) (tree_of operand) Question) result
+            (state_of self.new) }
+    {
+        let condition = self.settle(alloc, WEAKEST_OPERATOR, operand)?;
+        self.push(Frame::Question(condition))?;
+        Ok(true)
     }
 
     /// Ends the innermost constructs that aren't weaker than a level; the operand becomes their tree.
@@ -295,7 +374,11 @@ impl Parser {
         ensures { PopsOpen (stack_of self.old.frames.items) result (stack_of self.new.frames.items) }
     {
         match self.pop() {
-            Some(frame) => frame.is_open(),
+            Some(frame) => {
+                let is_open = frame.is_open();
+                drop(frame);
+                is_open
+            }
             None => false,
         }
     }
@@ -319,9 +402,10 @@ impl Parser {
         ensures { LeadsTo (take_close (stack_of self.old.frames.items) (tree_of inner)) result (state_of self.new) }
     {
         if !self.pop_open() {
+            drop(inner);
             return Ok(false);
         }
-        self.operand = Some(Expression::Group(Box::new(alloc, inner)?));
+        self.hold(Expression::Group(Box::new(alloc, inner)?));
         Ok(true)
     }
 
@@ -363,8 +447,8 @@ impl Parser {
     }
 
     /// The tree of all that was read, or none where it is no statement.
-    fn finish(mut self, alloc: Global) -> Result<Option<Expression>, ReadFault>
-        ensures { ClosesTo (close (state_of self)) result }
+    fn finish(&mut self, alloc: Global) -> Result<Option<Expression>, ReadFault>
+        ensures { ClosesTo (close (state_of self.old)) result }
     {
         let Some(operand) = self.operand.take() else {
             return Ok(None)
@@ -373,7 +457,24 @@ impl Parser {
         if self.is_whole() {
             Ok(Some(tree))
         } else {
+            drop(tree);
             Ok(None)
+        }
+    }
+
+    /// Reads a statement's tokens from the first to the last, which ends at `end`.
+    fn read(&mut self, alloc: Global, tokens: &[Placed], end: u64) -> Result<Expression, ReadFault>
+        requires { state_of self.old ≡ start }
+        ensures { Parses (record { tokens = tokens.now; end = end }) result }
+    {
+        for placed in tokens {
+            if !self.take(alloc, &placed.token)? {
+                return Err(ReadFault::Syntax(placed.place));
+            }
+        }
+        match self.finish(alloc)? {
+            Some(tree) => Ok(tree),
+            None => Err(ReadFault::Syntax(end)),
         }
     }
 }
@@ -418,13 +519,7 @@ pub(crate) fn parse(alloc: Global, tokens: &[Placed], end: u64) -> Result<Expres
     ensures { Parses (record { tokens = tokens.now; end = end }) result }
 {
     let mut parser = Parser::new(alloc);
-    for placed in tokens {
-        if !parser.take(alloc, &placed.token)? {
-            return Err(ReadFault::Syntax(placed.place));
-        }
-    }
-    match parser.finish(alloc)? {
-        Some(tree) => Ok(tree),
-        None => Err(ReadFault::Syntax(end)),
-    }
+    let tree = parser.read(alloc, tokens, end);
+    drop(parser);
+    tree
 }
