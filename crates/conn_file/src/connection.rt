@@ -3,6 +3,8 @@
 ghost use Rattle.std.specs.Prelude.{◌≡◌, ◌⊎◌, Ok, Err, IfOk, IfErr, MatchResult};
 ghost use Rattle.serde_json.specs.View.{view};
 ghost use Rattle.conn_file.specs.Connection.{connection_of, expected, fields_in, object_of, port_in, text_in};
+ghost use Rattle.conn_file.specs.Connection.{then_judged};
+ghost use Rattle.conn_file.specs.declared.field.Field.TheVariants.{ControlPort, HbPort, IopubPort, ShellPort};
 ghost use Rattle.conn_file.specs.declared.fault.ConnFault.TheVariants.{OutOfMemory};
 
 use crate::fault::ConnFault;
@@ -73,20 +75,70 @@ fn read_fields(alloc: Global, file: &Value) -> Result<Connection, ConnFault>
     let transport = text_field(file, Field::Transport)?;
     expect(transport, TRANSPORT, ConnFault::Transport)?;
     let ip = text_field(file, Field::Ip)?;
-    let shell_port = port_field(file, Field::ShellPort)?;
-    let iopub_port = port_field(file, Field::IopubPort)?;
-    let control_port = port_field(file, Field::ControlPort)?;
-    let hb_port = port_field(file, Field::HbPort)?;
+    let ports = read_ports(file)?;
     let scheme = text_field(file, Field::SignatureScheme)?;
     expect(scheme, SCHEME, ConnFault::Scheme)?;
     let key = text_field(file, Field::Key)?;
+    owned(alloc, ip, ports, key)
+}
+
+/// The ports of a connection file.
+#[derive(Clone, Copy)]
+struct Ports {
+    /// The port of the shell channel.
+    shell: u16,
+    /// The port of the IOPub channel.
+    iopub: u16,
+    /// The port of the control channel.
+    control: u16,
+    /// The port of the heartbeat.
+    hb: u16,
+}
+
+/// Reads the ports of a connection file.
+fn read_ports(file: &Value) -> Result<Ports, ConnFault>
+    ensures shell { IfOk result (λ ports. port_in ShellPort (view file.now) ≡ Ok ports.shell) }
+    ensures iopub { IfOk result (λ ports. port_in IopubPort (view file.now) ≡ Ok ports.iopub) }
+    ensures control { IfOk result (λ ports. port_in ControlPort (view file.now) ≡ Ok ports.control) }
+    ensures hb { IfOk result (λ ports. port_in HbPort (view file.now) ≡ Ok ports.hb) }
+    ensures refused { IfErr result (λ fault.
+        then_judged (port_in ShellPort (view file.now)) (λ _.
+        then_judged (port_in IopubPort (view file.now)) (λ _.
+        then_judged (port_in ControlPort (view file.now)) (λ _. port_in HbPort (view file.now)))) ≡ Err fault) }
+{
+    let shell = port_field(file, Field::ShellPort)?;
+    let iopub = port_field(file, Field::IopubPort)?;
+    let control = port_field(file, Field::ControlPort)?;
+    let hb = port_field(file, Field::HbPort)?;
+    Ok(Ports {
+        shell,
+        iopub,
+        control,
+        hb,
+    })
+}
+
+/// A connection that owns what it says.
+fn owned(alloc: Global, ip: &str, ports: Ports, key: &str) -> Result<Connection, ConnFault>
+    ensures said { IfOk result (λ connection. connection ≡ record {
+      ip = ip.now;
+      shell_port = ports.shell;
+      iopub_port = ports.iopub;
+      control_port = ports.control;
+      hb_port = ports.hb;
+      key = key.now;
+    }) }
+    ensures memory { IfErr result (λ fault. fault ≡ OutOfMemory) }
+{
+    let ip = Text::new(String::from_str(alloc, ip)?);
+    let key = Octets::new(Vec::from_slice(alloc, key.as_bytes())?);
     Ok(Connection {
-        ip: Text::new(String::from_str(alloc, ip)?),
-        shell_port,
-        iopub_port,
-        control_port,
-        hb_port,
-        key: Octets::new(Vec::from_slice(alloc, key.as_bytes())?),
+        ip,
+        shell_port: ports.shell,
+        iopub_port: ports.iopub,
+        control_port: ports.control,
+        hb_port: ports.hb,
+        key,
     })
 }
 

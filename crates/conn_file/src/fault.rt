@@ -5,28 +5,23 @@ ghost use Rattle.conn_file.specs.declared.fault.ConnFault.TheVariants.{OutOfMemo
 
 use crate::field::Field;
 use std::alloc::{AllocError, AllocFailed};
-use thiserror::Error;
+use std::error::Error;
+use std::fmt::{self, Display, Formatter, Write};
 
 /// Why a connection file is refused: the first reason, in the order of the fields.
-#[derive(Clone, Copy, Debug, PartialEq, Eq, Error)]
+#[derive(Clone, Copy, Debug, PartialEq, Eq)]
 pub enum ConnFault {
     /// The text is no JSON, or no object.
-    #[error("the file is no JSON object")]
     NotJson,
     /// A field is missing, or has to be a text and is none.
-    #[error("field {0} has to be there, and to be {expected}", expected = .0.expected())]
     Missing(Field),
     /// A port is there, and no whole number from 1 to 65535.
-    #[error("field {0} has to be {expected}", expected = .0.expected())]
     Port(Field),
     /// The transport isn't `tcp`.
-    #[error("field {} has to be {}", Field::Transport, Field::Transport.expected())]
     Transport,
     /// The signature scheme isn't `hmac-sha256`.
-    #[error("field {} has to be {}", Field::SignatureScheme, Field::SignatureScheme.expected())]
     Scheme,
     /// No memory was left.
-    #[error("out of memory")]
     OutOfMemory,
 }
 
@@ -47,6 +42,29 @@ impl ConnFault {
         }
     }
 }
+
+impl Display for ConnFault {
+    fn fmt<W: Write>(&self, f: &mut Formatter<W>) -> fmt::Result {
+        match self {
+            ConnFault::NotJson => f.write_str("the file is no JSON object"),
+            ConnFault::Missing(field) => write_field(f, *field, " has to be there, and to be "),
+            ConnFault::Port(field) => write_field(f, *field, " has to be "),
+            ConnFault::Transport => write_field(f, Field::Transport, " has to be "),
+            ConnFault::Scheme => write_field(f, Field::SignatureScheme, " has to be "),
+            ConnFault::OutOfMemory => f.write_str("out of memory"),
+        }
+    }
+}
+
+/// Writes which field has to be what, with these words between.
+fn write_field<W: Write>(f: &mut Formatter<W>, field: Field, between: &str) -> fmt::Result {
+    f.write_str("field ")?;
+    f.write_str(field.name())?;
+    f.write_str(between)?;
+    f.write_str(field.expected())
+}
+
+impl Error for ConnFault {}
 
 impl From<AllocError> for ConnFault {
     ghost from_gives = { λ _ fault. fault ≡ OutOfMemory };

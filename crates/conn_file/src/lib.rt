@@ -11,6 +11,3 @@ pub use connection::{Connection, read_connection};
 pub use fault::ConnFault;
 pub use field::Field;
 pub use kernelspec::kernelspec_text;
-
-#[cfg(test)]
-mod tests;

@@ -1,6 +1,6 @@
 //! Connection files by their texts, the numbers and words of faults, and the kernelspec's text.
 
-use crate::{ConnFault, Connection, Field, kernelspec_text, read_connection};
+use conn_file::{ConnFault, Connection, Field, kernelspec_text, read_connection};
 use std::alloc::Global;
 use std::test::Fail;
 
