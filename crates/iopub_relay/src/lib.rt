@@ -15,6 +15,3 @@ pub use feed::feed_core;
 pub use iopub_event::Event;
 pub use laws::{life_is_since_it_came, matching_is_beginning, subscriber_of_everything};
 pub use relay::{Drain, Pumped, Relay};
-
-#[cfg(test)]
-mod tests;

@@ -3,6 +3,7 @@
 
 mod door;
 mod feed;
+mod frames;
 mod model;
 mod relay;
 mod steps;

@@ -41,6 +41,16 @@ pub(crate) struct Narrow {
     takes: Takes,
 }
 
+impl Narrow {
+    /// A writer that has taken nothing yet.
+    pub(crate) fn new(alloc: Global, takes: Takes) -> Narrow {
+        Narrow {
+            octets: Vec::new(alloc),
+            takes,
+        }
+    }
+}
+
 impl Outlet for Narrow {
     ghost use Rattle.std.specs.Prelude.{None};
 
@@ -90,13 +100,7 @@ fn frames_of(alloc: Global, bodies: &[&[u8]]) -> Result<Frames, AllocError> {
 pub(crate) fn event_of(alloc: Global, step: Step<'_>) -> Result<Event<Narrow>, AllocError> {
     Ok(match step {
         Step::Message(bodies) => Event::Message(frames_of(alloc, bodies)?),
-        Step::Attach(id, takes) => Event::Attach(
-            id,
-            Narrow {
-                octets: Vec::new(alloc),
-                takes,
-            },
-        ),
+        Step::Attach(id, takes) => Event::Attach(id, Narrow::new(alloc, takes)),
         Step::Detach(id) => Event::Detach(id),
         Step::Subscribe(id, topic) => Event::Subscribe(id, Octets::new(topic.to_vec(alloc)?)),
         Step::Cancel(id, topic) => Event::Cancel(id, Octets::new(topic.to_vec(alloc)?)),

@@ -1,0 +1,69 @@
+//! What is written of a message whose text wasn't built, for want of memory: it is written frame by frame, by
+//! `write_frames`, to the same writers as the texts of the other tests.
+
+use crate::tests::steps::{ALL, EVERYTHING, Last, Narrow, STREAMS, Takes};
+use std::alloc::{AllocError, Global};
+use std::test::Fail;
+use zmtp_wire::write_frames;
+
+/// The messages of the standard list, each with whether the second subscriber gets it.
+const MESSAGES: [(&[u8], &[u8], bool); 4] = [
+    (b"stream.stdout", b"x", true),
+    (b"status", b"y", false),
+    (b"stream.stdout", b"z", true),
+    (b"stream.stdout", b"w", false),
+];
+
+/// Writes the messages of the standard list frame by frame, all of them or those of the second subscriber, up to the
+/// first write that fails; answers whether none did.
+fn write_standard(alloc: Global, writer: &mut Narrow, all: bool) -> Result<bool, AllocError> {
+    for (topic, body, both) in MESSAGES {
+        if all || both {
+            let frames = Vec::from_array(alloc, [topic.to_vec(alloc)?, body.to_vec(alloc)?])?;
+            if write_frames(writer, &frames).is_err() {
+                return Ok(false);
+            }
+        }
+    }
+    Ok(true)
+}
+
+/// Whether so many octets are written of the standard list, or of the second subscriber's part of it, and whether all
+/// are where these are as many.
+fn are_written(alloc: Global, takes: Takes, all: bool, octets: usize) -> Result<bool, AllocError> {
+    let wanted = if all { EVERYTHING } else { STREAMS };
+    let mut writer = Narrow::new(alloc, takes);
+    let whole = write_standard(alloc, &mut writer, all)?;
+    Ok(whole == (octets == wanted.len()) && Some(writer.octets.as_slice()) == wanted.get(..octets))
+}
+
+#[test]
+fn frames_to_writers_that_take_one_octet_or_twenty_or_all(rt: HostRuntime) -> Result<(), Fail> {
+    for width in [1, 2, 13, 20, usize::MAX] {
+        let takes = Takes { width, ..ALL };
+        assert!(rt;
+            are_written(rt.alloc(), takes, true, EVERYTHING.len())?,
+            "{width}"
+        );
+        assert!(rt;
+            are_written(rt.alloc(), takes, false, STREAMS.len())?,
+            "{width}"
+        );
+    }
+    Ok(())
+}
+
+#[test]
+fn a_write_of_a_frame_that_fails_at_every_place(rt: HostRuntime) -> Result<(), Fail> {
+    for last in [Last::Fails, Last::TakesNothing] {
+        for writes in 0..=EVERYTHING.len() {
+            let takes = Takes {
+                width: 1,
+                writes,
+                last,
+            };
+            assert!(rt; are_written(rt.alloc(), takes, true, writes)?, "{takes:?}");
+        }
+    }
+    Ok(())
+}
