@@ -1,10 +1,9 @@
-//! The grammar of shell arithmetic, its values, and the language as an interpreter.
+//! Shell arithmetic beside the cases of `arith_cases`: its values, long texts, and steps.
 
 mod cells;
 mod evaluator;
 mod fault;
 mod interpreter;
-mod lexer;
 mod operators;
 mod parser;
 mod variables;
