@@ -1,7 +1,7 @@
 //! Requests that are answered.
 
-ghost use Rattle.std.specs.Prelude.{◌≡◌, ◌<◌, ◌^◌, [], ◌∷◌, Some, None, Ok, true, false, IfOk, IfSome, IsErr, MatchResult};
-ghost use Rattle.std.specs.Prelude.{Result, Option, List, ℕ};
+ghost use Rattle.std.specs.Prelude.{◌≡◌, ◌<◌, ◌^◌, ℕ, List, [], ◌∷◌, Option, Some, None, Result, Ok, true, false};
+ghost use Rattle.std.specs.Prelude.{IfOk, IfSome, IsErr, MatchResult};
 ghost use Rattle.interp_core.specs.Fault.{fault_name, fault_value};
 ghost use Rattle.interp_core.specs.declared.answer.Completeness.{Completeness};
 ghost use Rattle.interp_core.specs.declared.answer.Completion.{Completion};

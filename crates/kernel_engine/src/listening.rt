@@ -1,7 +1,9 @@
 //! Listening to a peer: one loop over what it says behind its READY, which hands each whole traffic to a listener.
 
-ghost use Rattle.std.specs.Prelude.{◌≡◌, ℕ, List, None};
+ghost use Rattle.std.specs.Prelude.{◌≡◌, ◌≤◌, ℕ, List, length, take, false, None};
 ghost use Rattle.zmtp_wire.specs.declared.traffic.Traffic.{Traffic};
+ghost use Rattle.zmtp_wire.specs.declared.traffic.decoder.Fed.{Fed};
+ghost use Rattle.zmtp_wire.specs.Decoding.{Feeds};
 ghost use Rattle.kernel_engine.specs.Listen.{Hearing, Listens};
 ghost use Rattle.kernel_engine.specs.Met.{IsLeftOf, OfUnheard};
 ghost use Rattle.kernel_engine.specs.Handing.{HandsSome, HandsFed};
@@ -12,7 +14,7 @@ use crate::turn::read_turn;
 use kernel_block::EngineFault;
 use listed::Row;
 use std::alloc::Global;
-use zmtp_wire::{Fed, Inlet, Traffic, WireFault};
+use zmtp_wire::{Decoder, Fed, Inlet, Traffic, WireFault};
 
 /// How many octets one read asks for. A connection holds as many while it waits.
 const PIECE: usize = 4_096;
@@ -96,13 +98,31 @@ fn listen_on<R: Inlet, L: Listener>(
                 return (end, Some(kept));
             }
         };
-        let (octets, _) = piece.split_at(count);
-        if let Err(end) = hand_fed(alloc, listener, decoder.feed(octets)) {
+        if let Err(end) = hand_piece(alloc, listener, &mut decoder, &piece, count) {
             drop(piece);
             drop(decoder);
             return (end, None);
         }
     }
+}
+
+/// Hands on what so many octets at the front of a piece bring.
+fn hand_piece<L: Listener>(
+    alloc: Global,
+    listener: &mut L,
+    decoder: &mut Decoder,
+    piece: &[u8],
+    count: usize,
+) -> Result<(), SessionEnd>
+    requires { count ≤ length piece.now }
+    ensures names { L.names listener.new ≡ L.names listener.old }
+    ensures limits { decoder.new.limits ≡ decoder.old.limits }
+    ensures hands { (fed : Fed) × (decoder.old.spent ≡ false
+        → Feeds decoder.old (take count piece.now) fed.traffic fed.fault decoder.new)
+        × HandsFed L.hears listener.old fed.traffic fed.fault listener.new result }
+{
+    let (octets, _) = piece.split_at(count);
+    hand_fed(alloc, listener, decoder.feed(octets))
 }
 
 /// Hands on what a piece brought, and then its fault.

@@ -136,8 +136,8 @@ returns-in-CommOpen g c =
 
 pub returns-in-Shutdown : goal.returns-in-Shutdown
 returns-in-Shutdown g c =
-    rw (c.in-Shutdown.is) (responds_at_once g.I.Interpreter.meaning c.args.side c.args.kind (Ok (asks.Shutdown c.in-Shutdown.restart))
-    (g.T.Stop.may_ask c.args.stop.now) c.args.interp.now c.args.count.now
+    rw (c.in-Shutdown.is) (responds_at_once g.I.Interpreter.meaning c.args.side c.args.kind
+    (Ok (asks.Shutdown c.in-Shutdown.restart)) (g.T.Stop.may_ask c.args.stop.now) c.args.interp.now c.args.count.now
     (answer_of c.ending.result c.args.interp.now c.args.count.now)
     (Puts g.P.Publish.items_of g.P.Publish.is_same g.S.Stamp.meaning g.S.Stamp.id_text c.args.heading.now
     c.args.publishing.now c.args.publishing.now)

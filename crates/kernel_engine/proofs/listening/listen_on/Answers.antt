@@ -1,4 +1,4 @@
-use Rattle.std.proofs.Common.{arith, ◌≡◌, ◌≤◌, ◌++◌, length, take, drop, length-append, ap, ◌∙◌}
+use Rattle.std.proofs.Common.{arith, ◌≡◌, ◌≤◌, ◌++◌, length, take, drop, length-append, refl, ap, ◌∙◌}
 use Rattle.std.proofs.lemmas.List.{length-take-le}
 use Rattle.kernel_engine.proofs.ListenLemmas.{listening_begins, listening_ends_first, listening_goes_on}
 use Rattle.kernel_engine.proofs.ListenLemmas.{listening_ends, listening_stops, listening_cut, front_read, handed_piece}
@@ -42,28 +42,29 @@ returns-in-Err-read_turn-clause-listens g c before came =
           reading c.kept-kept.ensures,
     )
 
-pub returns-in-Err-hand_fed-clause-listens : goal.returns-in-Err-hand_fed-clause-listens
-returns-in-Err-hand_fed-clause-listens g c before came =
+pub returns-in-Err-hand_piece-clause-listens : goal.returns-in-Err-hand_piece-clause-listens
+returns-in-Err-hand_piece-clause-listens g c before came =
     let (some, fits, fewer, leg) = c.in-Ok-read_turn.ensures.ok in
     let long : length c.read_turn.new.into ≡ length c.loop-count.piece.items =
     c.read_turn.auto.into ∙ ap length c.deref_mut.ensures.value in
     let len = c.loop-count.piece.ok.0 in
     let within : c.in-Ok-read_turn.count ≤ c.loop-count.piece.len = omega (arith, long, fits, len) in
-    let front : c.split_at.result.0.now ≡ take c.in-Ok-read_turn.count c.read_turn.new.into =
-    front_read c.split_at.result.0.now c.deref.result.now c.read_turn.new.into c.loop-count.piece.items
-    c.loop-count.piece.len c.in-Ok-read_turn.count c.split_at.ensures.front c.deref.ensures.value within fits in (
+    let front : take c.in-Ok-read_turn.count c.deref.result.now ≡ take c.in-Ok-read_turn.count c.read_turn.new.into =
+    front_read (take c.in-Ok-read_turn.count c.deref.result.now) c.deref.result.now c.read_turn.new.into
+    c.loop-count.piece.items c.loop-count.piece.len c.in-Ok-read_turn.count refl c.deref.ensures.value within fits in
+    let (fed, feeds, hands) = c.in-Err-hand_piece.ensures.hands in (
       c.read_turn.new.turns,
       listening_ends g.L.Listener.hears c.args.listener.now c.loop-count.listener
-          c.hand_fed-in-loop-count.new.listener c.loop-count.decoder c.feed.new.self
+          c.hand_piece.new.listener c.loop-count.decoder c.hand_piece.new.decoder
           (g.R.Inlet.inflow c.args.reader.now) (g.R.Inlet.inflow c.loop-count.reader)
           (g.R.Inlet.inflow c.read_turn.new.reader) c.args.turns c.loop-count.left c.read_turn.new.turns before
-          c.in-Err-hand_fed.end (c.loop-count.invariant.so_far before came)
-          (handed_piece g.L.Listener.hears c.loop-count.listener c.hand_fed-in-loop-count.new.listener
-          c.loop-count.decoder c.feed.new.self (g.R.Inlet.inflow c.loop-count.reader)
+          c.in-Err-hand_piece.end (c.loop-count.invariant.so_far before came)
+          (handed_piece g.L.Listener.hears c.loop-count.listener c.hand_piece.new.listener
+          c.loop-count.decoder c.hand_piece.new.decoder (g.R.Inlet.inflow c.loop-count.reader)
           (g.R.Inlet.inflow c.read_turn.new.reader) c.loop-count.left c.read_turn.new.turns
-          (take c.in-Ok-read_turn.count c.read_turn.new.into) c.split_at.result.0.now c.feed.result.traffic
-          c.feed.result.fault _ leg c.in-Ok-read_turn.ensures.one front c.feed.ensures.fed
-          c.feed.ensures.limits c.in-Err-hand_fed.ensures.hands),
+          (take c.in-Ok-read_turn.count c.read_turn.new.into) (take c.in-Ok-read_turn.count c.deref.result.now)
+          fed.traffic fed.fault _ leg c.in-Ok-read_turn.ensures.one front feeds
+          c.in-Err-hand_piece.ensures.limits hands),
     )
 
 pub loop-count-preserved : goal.loop-count-preserved
@@ -74,9 +75,10 @@ loop-count-preserved g c =
     c.read_turn.auto.into ∙ ap length c.deref_mut.ensures.value in
     let len = c.loop-count.piece.ok.0 in
     let within : c.in-Ok-read_turn.count ≤ c.loop-count.piece.len = omega (arith, long, fits, len) in
-    let front : c.split_at.result.0.now ≡ take c.in-Ok-read_turn.count c.read_turn.new.into =
-    front_read c.split_at.result.0.now c.deref.result.now c.read_turn.new.into c.loop-count.piece.items
-    c.loop-count.piece.len c.in-Ok-read_turn.count c.split_at.ensures.front c.deref.ensures.value within fits in
+    let front : take c.in-Ok-read_turn.count c.deref.result.now ≡ take c.in-Ok-read_turn.count c.read_turn.new.into =
+    front_read (take c.in-Ok-read_turn.count c.deref.result.now) c.deref.result.now c.read_turn.new.into
+    c.loop-count.piece.items c.loop-count.piece.len c.in-Ok-read_turn.count refl c.deref.ensures.value within fits in
+    let (fed, feeds, hands) = c.in_default-hand_piece.ensures.hands in
     record {
       room = let all = c.read_turn.new.into ++ drop (length c.read_turn.new.into) c.loop-count.piece.items in
           let whole = length-append c.read_turn.new.into
@@ -84,16 +86,16 @@ loop-count-preserved g c =
           let some = so_far.room in
           let taken = length-take-le c.loop-count.piece.len all (omega (arith, long, whole, len)) in
           omega (arith, taken, some, len);
-      same = c.in_default-hand_fed.ensures.names ∙ so_far.same;
+      same = c.in_default-hand_piece.ensures.names ∙ so_far.same;
       so_far = λ before came. listening_goes_on g.L.Listener.hears c.args.listener.now c.loop-count.listener
-          c.hand_fed-in-loop-count.new.listener c.loop-count.decoder c.feed.new.self
+          c.hand_piece.new.listener c.loop-count.decoder c.hand_piece.new.decoder
           (g.R.Inlet.inflow c.args.reader.now) (g.R.Inlet.inflow c.loop-count.reader)
           (g.R.Inlet.inflow c.read_turn.new.reader) c.args.turns c.loop-count.left c.read_turn.new.turns before
           (so_far.so_far before came)
-          (handed_piece g.L.Listener.hears c.loop-count.listener c.hand_fed-in-loop-count.new.listener
-          c.loop-count.decoder c.feed.new.self (g.R.Inlet.inflow c.loop-count.reader)
+          (handed_piece g.L.Listener.hears c.loop-count.listener c.hand_piece.new.listener
+          c.loop-count.decoder c.hand_piece.new.decoder (g.R.Inlet.inflow c.loop-count.reader)
           (g.R.Inlet.inflow c.read_turn.new.reader) c.loop-count.left c.read_turn.new.turns
-          (take c.in-Ok-read_turn.count c.read_turn.new.into) c.split_at.result.0.now c.feed.result.traffic
-          c.feed.result.fault _ leg c.in-Ok-read_turn.ensures.one front c.feed.ensures.fed
-          c.feed.ensures.limits c.in_default-hand_fed.ensures.hands);
+          (take c.in-Ok-read_turn.count c.read_turn.new.into) (take c.in-Ok-read_turn.count c.deref.result.now)
+          fed.traffic fed.fault _ leg c.in-Ok-read_turn.ensures.one front feeds
+          c.in_default-hand_piece.ensures.limits hands);
     }

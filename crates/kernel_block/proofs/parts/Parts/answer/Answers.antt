@@ -9,7 +9,8 @@ returns-in_default g c = (
       answers_cut g.I.Interpreter.meaning g.P.Publish.items_of g.P.Publish.may_refuse g.P.Publish.is_same
       g.S.Stamp.meaning g.S.Stamp.id_text g.S.Stamp.is_date g.met.P.Publish.same_on
       (g.T.Stop.may_ask c.args.stop.now) c.args.heading.now c.args.msg_type c.args.content c.args.self.now
-      c.respond_to-answered.new.interp c.respond_to-answered.new.count c.respond_to-answered.new.publishing cut,
+      c.respond_to-answered.new.interp c.respond_to-answered.new.count
+      c.respond_to-answered.new.publishing cut,
 )
 
 pub returns-in_default-reply : goal.returns-in_default-reply
@@ -31,5 +32,6 @@ returns g c =
     answers_whole g.I.Interpreter.meaning g.P.Publish.items_of g.P.Publish.may_refuse g.P.Publish.is_same
     g.S.Stamp.meaning g.S.Stamp.id_text g.S.Stamp.is_date g.met.P.Publish.same_on (g.T.Stop.may_ask c.args.stop.now)
     c.args.heading.now c.args.identities c.args.msg_type c.args.content c.args.self.now
-    c.respond_to-answered.new.interp c.respond_to-answered.new.count c.respond_to-answered.new.publishing c.reply-reply.new.self
+    c.respond_to-answered.new.interp c.respond_to-answered.new.count c.respond_to-answered.new.publishing
+    c.reply-reply.new.self
     c.in-Ok.answered c.in-Ok-reply.reply whole made c.in-Ok-reply.ensures.few
