@@ -9,7 +9,7 @@ ghost use Rattle.kernel_workers.specs.Staying.{IsSameEngine};
 use crate::ended::{Cause, Ended};
 use crate::flags::{Flags, Never};
 use crate::inbox::{Note, tell_end};
-use crate::job::Job;
+use crate::job::{Job, next_job};
 use crate::parts::ChannelParts;
 use crate::request::{after_fault, close, is_shutdown, open_request, reply};
 use crate::waking::Waking;
@@ -115,13 +115,13 @@ where
     ensures { IsSameEngine S.meaning engine.old engine.new }
 {
     for _ in rt.forever() {
-        match lines.inbox.recv(rt) {
-            Ok(Note::Job(job)) => {
+        match next_job(rt, &lines.inbox) {
+            Some(job) => {
                 if let Some(cause) = do_job(rt, alloc, engine, job, lines, shell_ended) {
                     return cause;
                 }
             }
-            Ok(Note::End) | Err(_) => return Cause::Told,
+            None => return Cause::Told,
         }
     }
     unreachable!()

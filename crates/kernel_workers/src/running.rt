@@ -3,6 +3,7 @@
 ghost use Rattle.std.specs.Prelude.{◌≡◌, ◌≤◌, [], IfOk, IfErr, OnOk, vec_capacity};
 ghost use Rattle.iopub_queue.specs.Calls.{IsCapacity};
 ghost use Rattle.iopub_queue.specs.Entries.{EndsWithClose};
+ghost use Rattle.kernel_workers.specs.Ending.{EndsBlocked, EndsSilent, sealing_by};
 ghost use Rattle.kernel_workers.specs.Running.{EndsWell, FailsBy, TookAll, restart_by};
 ghost use Rattle.kernel_workers.specs.Staging.{IsSetUp};
 
@@ -94,6 +95,46 @@ fn settle_up<W: Outlet + Drop, R: Wait + Drop>(
     }
 }
 
+/// What a kernel has once it may start.
+#[derive(Drop)]
+struct Begun<I, S, W: Outlet, R> {
+    /// What its workers own and hear.
+    stage: Stage<I, S, W, R>,
+    /// Room for the tokens of its publishers.
+    tokens: Vec<Closed<Event<W>>>,
+}
+
+/// Opens the queue of a kernel, and sets it up.
+///
+/// # Errors
+///
+/// `Queue` where the capacity isn't from 1 to 65,536, which is judged first, or memory is refused.
+fn begin<I, S, W, R>(
+    rt: &R,
+    alloc: Global,
+    parts: Parts<I, S, W>,
+) -> Result<Begun<I, S, W, R>, KernelFault>
+where
+    I: Drop,
+    S: Drop,
+    W: Outlet + Drop,
+    R: Copy + Drop,
+    ensures set { IfOk result (λ begun. IsSetUp parts begun.stage) }
+    ensures none { IfOk result (λ begun. begun.tokens.items ≡ []) }
+    ensures room { IfOk result (λ begun. 3 ≤ vec_capacity begun.tokens) }
+    ensures capacity { OnOk result (IsCapacity parts.capacity) }
+    ensures refused { IfErr result (FailsBy parts.capacity) }
+{
+    let stage = stage_of(rt, alloc, parts)?;
+    match room_for_three(alloc) {
+        Ok(tokens) => Ok(Begun { stage, tokens }),
+        Err(AllocError) => {
+            drop(stage);
+            Err(KernelFault::Queue(OpenFault::OutOfMemory))
+        }
+    }
+}
+
 /// Opens the queue of a kernel, and sets it up.
 ///
 /// # Errors
@@ -168,18 +209,55 @@ where
     ensures ends { IfOk result (EndsWell I.meaning S.meaning S.id_text S.is_date W.outflow parts) }
     ensures refused { IfErr result (FailsBy parts.capacity) }
 {
-    let stage = stage_of(&rt, alloc, parts)?;
-    let Ok(tokens) = room_for_three(alloc) else {
-        drop(stage);
-        return Err(KernelFault::Queue(OpenFault::OutOfMemory));
-    };
-    let workers = match start(rt, alloc, stage) {
-        Ok(workers) => workers,
-        Err(fault) => {
-            drop(tokens);
-            return Err(fault);
+    let begun = begin(&rt, alloc, parts)?;
+    match start(rt, alloc, begun.stage) {
+        Ok(workers) => {
+            let Left {
+                shell,
+                control,
+                door,
+                relay,
+            } = join_all(&rt, workers);
+            settle_up(&rt, relay, begun.tokens, shell, control, door)
         }
-    };
+        Err(fault) => {
+            drop(begun.tokens);
+            Err(fault)
+        }
+    }
+}
+
+/// What the workers of a kernel left.
+struct Left<W: Outlet, R> {
+    /// What shell's left.
+    shell: Ended<W>,
+    /// What control's left.
+    control: Ended<W>,
+    /// What the door's left.
+    door: Closed<Event<W>>,
+    /// The relay.
+    relay: Relay<W, R>,
+}
+
+/// Joins the workers of a kernel, and tells the relay's to end once the others did.
+fn join_all<I, S, W, R>(rt: &R, workers: Workers<I, S, W, R>) -> Left<W, R>
+where
+    I: Interpreter,
+    S: Stamp,
+    W: Outlet,
+    R: Threads,
+    ensures shell { EndsBlocked I.meaning (S.is_date (S.meaning workers.shell.promise.stamp.value))
+        workers.shell.promise.side
+        (sealing_by S.meaning S.id_text workers.shell.promise.signer.value workers.shell.promise.stamp.value)
+        workers.shell.promise.sink.value result.shell.closed }
+    ensures control { EndsBlocked I.meaning (S.is_date (S.meaning workers.control.promise.stamp.value))
+        workers.control.promise.side
+        (sealing_by S.meaning S.id_text workers.control.promise.signer.value workers.control.promise.stamp.value)
+        workers.control.promise.sink.value result.control.closed }
+    ensures door { EndsSilent workers.door.promise.sink.value result.door }
+    ensures queue { result.relay.taker.queue ≡ workers.relay.promise.relay.value.taker.queue }
+    ensures count { result.relay.taker.count ≡ workers.relay.promise.relay.value.taker.count }
+{
     let Workers {
         shell,
         control,
@@ -187,10 +265,15 @@ where
         relay,
         relay_end,
     } = workers;
-    let shell = shell.join(&rt);
-    let control = control.join(&rt);
-    let door = door.join(&rt);
+    let shell = shell.join(rt);
+    let control = control.join(rt);
+    let door = door.join(rt);
     relay_end.end();
-    let relay = relay.join(&rt);
-    settle_up(&rt, relay, tokens, shell, control, door)
+    let relay = relay.join(rt);
+    Left {
+        shell,
+        control,
+        door,
+        relay,
+    }
 }

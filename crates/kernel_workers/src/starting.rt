@@ -7,13 +7,14 @@ ghost use Rattle.kernel_workers.specs.Staging.{Promises};
 
 use crate::ended::Ended;
 use crate::fault::KernelFault;
-use crate::inbox::tell_end;
+use crate::inbox::{Note, tell_end};
 use crate::parts::ChannelParts;
 use crate::promises::{ClosesBlocked, ClosesSilent, ServesOn};
 use crate::relaying::RelayEnd;
 use crate::spawning::{spawn_control, spawn_door, spawn_relay, spawn_shell};
 use crate::staging::{ChannelLines, Lines, Stage};
 use crate::waking::Waking;
+use crossbeam_channel::Sender;
 use interp_core::Interpreter;
 use iopub_event::Event;
 use iopub_queue::Closed;
@@ -21,7 +22,7 @@ use iopub_relay::Relay;
 use jmsg_envelope::Stamp;
 use std::alloc::Global;
 use std::sync::Wait;
-use std::thread::{PromisedHandle, Threads};
+use std::thread::{Promise, PromisedHandle, Threads};
 use zmtp_wire::Outlet;
 
 /// The workers of shell and control in their threads.
@@ -52,6 +53,30 @@ pub(crate) struct Workers<I: Interpreter, S: Stamp, W: Outlet, R> {
     pub(crate) relay: PromisedHandle<Relay<W, R>, ServesOn<W, R>>,
     /// By which the relay's worker is told to end.
     pub(crate) relay_end: RelayEnd,
+}
+
+/// Tells a worker to end, and joins it.
+fn end_worker<T, E, P, R>(rt: &R, to: Sender<Note<T>>, worker: PromisedHandle<E, P>)
+where
+    T: Drop,
+    E: Drop,
+    P: Promise<E>,
+    R: Threads + Wait,
+{
+    tell_end(rt, &to);
+    drop(to);
+    drop(worker.join(rt));
+}
+
+/// Tells the relay's worker to end, and joins it.
+fn end_relay<E, P, R>(rt: &R, relay_end: RelayEnd, worker: PromisedHandle<E, P>)
+where
+    E: Drop,
+    P: Promise<E>,
+    R: Threads,
+{
+    relay_end.end();
+    drop(worker.join(rt));
 }
 
 /// Starts the workers of control and shell. None where a thread can't be made; then control's was ended and joined.
@@ -90,9 +115,7 @@ where
             Some(ChannelWorkers { shell, control })
         }
         None => {
-            tell_end(&rt, &to_control);
-            drop(to_control);
-            drop(control.join(&rt));
+            end_worker(&rt, to_control, control);
             None
         }
     }
@@ -138,9 +161,7 @@ where
             Some(PublishingWorkers { channels, door })
         }
         None => {
-            tell_end(&rt, &to_door);
-            drop(to_door);
-            drop(door.join(&rt));
+            end_worker(&rt, to_door, door);
             None
         }
     }
@@ -202,8 +223,7 @@ where
             relay_end,
         }),
         None => {
-            relay_end.end();
-            drop(relay.join(&rt));
+            end_relay(&rt, relay_end, relay);
             Err(KernelFault::NoThread)
         }
     }
