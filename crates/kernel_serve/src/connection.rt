@@ -35,17 +35,38 @@ impl<R: Wait> Intake for Requests<R> {
     ghost names = { λ _. [] };
 
     fn put(&mut self, traffic: Traffic) -> Result<bool, AllocError> {
-        let Traffic::Message(message) = traffic else {
-            return Ok(true);
+        match traffic {
+            Traffic::Message(message) => self.tell(Frames::new(message.into_vec())),
+            Traffic::Command(name, rest) => {
+                drop(name);
+                drop(rest);
+                Ok(true)
+            }
+        }
+    }
+}
+
+impl<R: Wait> Requests<R> {
+    /// Puts a message into the worker's inbox, and answers whether the worker is still there.
+    ///
+    /// # Errors
+    ///
+    /// Where memory is refused.
+    fn tell(&self, frames: Frames) -> Result<bool, AllocError> {
+        let Ok(reply) = self.replies.clone() else {
+            drop(frames);
+            return Err(AllocError);
         };
-        let job = Job {
-            frames: Frames::new(message.into_vec()),
-            reply: self.replies.clone()?,
-        };
-        match self.inbox.send(&self.rt, Note::Job(job)) {
+        match self.inbox.send(&self.rt, Note::Job(Job { frames, reply })) {
             Ok(()) => Ok(true),
-            Err(SendError::Disconnected(_)) => Ok(false),
-            Err(SendError::OutOfMemory(_)) => Err(AllocError),
+            Err(SendError::Disconnected(note)) => {
+                drop(note);
+                Ok(false)
+            }
+            Err(SendError::OutOfMemory(note)) => {
+                drop(note);
+                Err(AllocError)
+            }
         }
     }
 }
@@ -57,7 +78,8 @@ pub(crate) fn hear_out<T: Intake>(
     mut shaken: Shaken,
     intake: &mut T,
 ) {
-    let _ = hear(alloc, reader, &mut shaken, intake, TURNS);
+    drop(hear(alloc, reader, &mut shaken, intake, TURNS));
+    drop(shaken);
 }
 
 /// Serves a peer of shell or control as a ROUTER: shakes hands with it, and puts each message that it sends into the
@@ -75,10 +97,32 @@ where
 {
     let mut reader = Counted::new(reader);
     let mut writer = Counted::new(writer);
-    let Ok(shaken) = shake(alloc, &mut reader, &mut writer, SocketType::Router, TURNS) else {
-        return;
-    };
+    match shake(alloc, &mut reader, &mut writer, SocketType::Router, TURNS) {
+        Ok(shaken) => serve_shaken(rt, alloc, reader, shaken, writer, inbox),
+        Err(end) => {
+            drop(end);
+            drop(reader);
+            drop(writer);
+            drop(inbox);
+        }
+    }
+}
+
+/// Serves a peer with whom hands were shaken.
+fn serve_shaken<R>(
+    rt: R,
+    alloc: Global,
+    mut reader: Counted<Socket>,
+    shaken: Shaken,
+    writer: Counted<Socket>,
+    inbox: Sender<Note<Job>>,
+)
+where
+    R: Threads + Wait + Copy + Send + Sync + Drop + 'static,
+{
     let Some((replies, writing)) = start_replies(rt, alloc, writer) else {
+        drop(shaken);
+        drop(inbox);
         return;
     };
     let mut requests = Requests { rt, inbox, replies };
@@ -97,9 +141,18 @@ fn start_replies<R>(
 where
     R: Threads + Wait + Copy + Send + Sync + Drop + 'static,
 {
-    let (replies, due) = unbounded(alloc).ok()?;
-    let writing = thread::spawn(&rt, move || write_replies(rt, alloc, due, writer)).ok()?;
-    Some((replies, writing))
+    let Ok((replies, due)) = unbounded(alloc) else {
+        drop(writer);
+        return None;
+    };
+    match thread::spawn(&rt, move || write_replies(rt, alloc, due, writer)) {
+        Ok(writing) => Some((replies, writing)),
+        Err(error) => {
+            drop(error);
+            drop(replies);
+            None
+        }
+    }
 }
 
 /// Writes replies to a peer, until nobody is left who could send one, a write fails or there is no memory for a text.
@@ -110,16 +163,36 @@ fn write_replies<R: Wait + Drop>(
     writer: Counted<Socket>,
 ) {
     let mut writer = writer;
+    let is_lost = loses_reply(&rt, alloc, &replies, &mut writer);
+    let socket = writer.into_inner();
+    if is_lost {
+        // The peer is to know that, and isn't heard any more.
+        socket.shut();
+    }
+    drop(socket);
+    drop(replies);
+}
+
+/// Writes replies to a peer, until nobody is left who could send one, or a reply is lost: whether that is so.
+fn loses_reply<R: Wait>(
+    rt: &R,
+    alloc: Global,
+    replies: &Receiver<Frames>,
+    writer: &mut Counted<Socket>,
+) -> bool {
     for _ in rt.forever() {
-        let Ok(frames) = replies.recv(&rt) else {
-            return;
-        };
-        if !write_reply(alloc, &mut writer, &frames) {
-            break;
+        match replies.recv(rt) {
+            Ok(frames) => {
+                let is_written = write_reply(alloc, writer, &frames);
+                drop(frames);
+                if !is_written {
+                    return true;
+                }
+            }
+            Err(_) => return false,
         }
     }
-    // The peer lost a reply. It is to know that, and isn't heard any more.
-    writer.into_inner().shut();
+    unreachable!()
 }
 
 /// Writes a reply in as few writes as it takes, and answers whether that went well.

@@ -4,7 +4,7 @@ use crate::accepting::accept_all;
 use crate::fault::{Port, ServeFault};
 use crate::gate::Gate;
 use crate::service::Service;
-use std::alloc::Global;
+use std::alloc::{AllocError, Global};
 use std::net::{Net, SocketAddr, TcpListener, TcpStream};
 use std::sync::{Arc, Wait};
 use std::thread;
@@ -43,11 +43,14 @@ pub(crate) fn start<R>(
 where
     R: Threads + Wait + Clock + Copy + Send + Sync + Drop + 'static,
 {
-    let Ok(address) = listener.local_addr() else {
-        return Err(ServeFault::CannotBind(port));
+    let (address, gate, shared) = match begin(alloc, port, &listener) {
+        Ok(begun) => begun,
+        Err(fault) => {
+            drop(listener);
+            drop(service);
+            return Err(fault);
+        }
     };
-    let gate = Arc::new(alloc, Gate::new(alloc))?;
-    let shared = Arc::try_clone(&gate)?;
     match thread::spawn(&rt, move || {
         accept_all(rt, alloc, listener, service, shared)
     }) {
@@ -56,7 +59,36 @@ where
             gate,
             thread,
         }),
-        Err(_) => Err(ServeFault::NoThread),
+        Err(error) => {
+            drop(error);
+            drop(gate);
+            Err(ServeFault::NoThread)
+        }
+    }
+}
+
+/// Where a port listens, and its gate, for the thread that accepts too.
+///
+/// # Errors
+///
+/// `CannotBind` where the system doesn't say where it listens, and `OutOfMemory`.
+fn begin(
+    alloc: Global,
+    port: Port,
+    listener: &TcpListener,
+) -> Result<(SocketAddr, Arc<Gate, Global>, Arc<Gate, Global>), ServeFault> {
+    let Ok(address) = listener.local_addr() else {
+        return Err(ServeFault::CannotBind(port));
+    };
+    let Ok(gate) = Arc::new(alloc, Gate::new(alloc)) else {
+        return Err(ServeFault::OutOfMemory);
+    };
+    match Arc::try_clone(&gate) {
+        Ok(shared) => Ok((address, gate, shared)),
+        Err(AllocError) => {
+            drop(gate);
+            Err(ServeFault::OutOfMemory)
+        }
     }
 }
 
@@ -87,7 +119,7 @@ where
         if acceptor.gate.is_closed() {
             return;
         }
-        let _ = TcpStream::connect_timeout(rt, &acceptor.address, Duration::from_millis(PATIENCE));
+        drop(TcpStream::connect_timeout(rt, &acceptor.address, Duration::from_millis(PATIENCE)));
         thread::sleep(rt, Duration::from_millis(PAUSE));
     }
     unreachable!()

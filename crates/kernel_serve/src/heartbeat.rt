@@ -11,5 +11,5 @@ use zmtp_wire::Counted;
 pub(crate) fn serve_heartbeat(alloc: Global, reader: Socket, writer: Socket) {
     let mut reader = Counted::new(reader);
     let mut writer = Counted::new(writer);
-    let _ = echo(alloc, &mut reader, &mut writer, TURNS);
+    drop(echo(alloc, &mut reader, &mut writer, TURNS));
 }

@@ -60,11 +60,18 @@ where
         return Ok(None);
     };
     let control = control.clone()?;
-    let (ending, ended) = unbounded(alloc)?;
+    let Ok((ending, ended)) = unbounded(alloc) else {
+        drop(control);
+        return Err(ServeFault::OutOfMemory);
+    };
     let began = parent_id(process);
     match thread::spawn(&rt, move || look(&rt, process, began, &control, &ended)) {
         Ok(thread) => Ok(Some(Watch { ending, thread })),
-        Err(_) => Err(ServeFault::NoThread),
+        Err(error) => {
+            drop(error);
+            drop(ending);
+            Err(ServeFault::NoThread)
+        }
     }
 }
 
@@ -82,9 +89,20 @@ fn look<R: Wait + Clock>(
             Ok(()) | Err(RecvTimeoutError::Disconnected) => return,
         }
         // Where memory is refused the next look tries again.
-        if parent_id(process) != began && control.send(rt, Note::End).is_ok() {
+        if parent_id(process) != began && is_told(rt, control) {
             return;
         }
     }
     unreachable!()
+}
+
+/// Tells control to end, and answers whether it was told.
+fn is_told<R: Wait>(rt: &R, control: &Sender<Note<Job>>) -> bool {
+    match control.send(rt, Note::End) {
+        Ok(()) => true,
+        Err(refused) => {
+            drop(refused);
+            false
+        }
+    }
 }

@@ -27,12 +27,48 @@ where
     R: Net<Listener = TcpListener, Stream = TcpStream>,
 {
     let ip = connection.ip.as_str();
-    Ok(Ports {
-        shell: bind(rt, ip, connection.shell_port, Port::Shell)?,
-        iopub: bind(rt, ip, connection.iopub_port, Port::Iopub)?,
-        control: bind(rt, ip, connection.control_port, Port::Control)?,
-        heartbeat: bind(rt, ip, connection.hb_port, Port::Heartbeat)?,
-    })
+    let shell = (connection.shell_port, Port::Shell);
+    let iopub = (connection.iopub_port, Port::Iopub);
+    let control = (connection.control_port, Port::Control);
+    let heartbeat = (connection.hb_port, Port::Heartbeat);
+    let (shell, iopub) = bind_two(rt, ip, shell, iopub)?;
+    match bind_two(rt, ip, control, heartbeat) {
+        Ok((control, heartbeat)) => Ok(Ports {
+            shell,
+            iopub,
+            control,
+            heartbeat,
+        }),
+        Err(fault) => {
+            drop(shell);
+            drop(iopub);
+            Err(fault)
+        }
+    }
+}
+
+/// Binds two ports, one after the other.
+///
+/// # Errors
+///
+/// `CannotBind` with the first port that can't be bound.
+fn bind_two<R>(
+    rt: &R,
+    ip: &str,
+    one: (u16, Port),
+    other: (u16, Port),
+) -> Result<(TcpListener, TcpListener), ServeFault>
+where
+    R: Net<Listener = TcpListener, Stream = TcpStream>,
+{
+    let first = bind(rt, ip, one.0, one.1)?;
+    match bind(rt, ip, other.0, other.1) {
+        Ok(second) => Ok((first, second)),
+        Err(fault) => {
+            drop(first);
+            Err(fault)
+        }
+    }
 }
 
 /// Binds a port.

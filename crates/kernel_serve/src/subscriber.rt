@@ -7,7 +7,7 @@ use crate::socket::Socket;
 use crossbeam_channel::{SendError, Sender};
 use iopub_event::Event;
 use iopub_relay::door_event;
-use kernel_engine::{Intake, shake};
+use kernel_engine::{Intake, Shaken, shake};
 use kernel_workers::Note;
 use std::alloc::{AllocError, Global};
 use std::sync::{Arc, Wait};
@@ -44,9 +44,12 @@ impl<R: Wait + Drop> Intake for Subscriptions<R> {
     ghost names = { λ _. [] };
 
     fn put(&mut self, traffic: Traffic) -> Result<bool, AllocError> {
-        match door_event(self.alloc, self.id, &traffic)? {
-            Some(event) => self.tell(event),
-            None => Ok(true),
+        let event = door_event(self.alloc, self.id, &traffic);
+        drop(traffic);
+        match event {
+            Ok(Some(event)) => self.tell(event),
+            Ok(None) => Ok(true),
+            Err(AllocError) => Err(AllocError),
         }
     }
 }
@@ -60,8 +63,14 @@ impl<R: Wait + Drop> Subscriptions<R> {
     fn tell(&self, event: Event<Writer<R>>) -> Result<bool, AllocError> {
         match self.door.send(&self.rt, Note::Job(event)) {
             Ok(()) => Ok(true),
-            Err(SendError::Disconnected(_)) => Ok(false),
-            Err(SendError::OutOfMemory(_)) => Err(AllocError),
+            Err(SendError::Disconnected(note)) => {
+                drop(note);
+                Ok(false)
+            }
+            Err(SendError::OutOfMemory(note)) => {
+                drop(note);
+                Err(AllocError)
+            }
         }
     }
 
@@ -100,21 +109,46 @@ where
 {
     let mut reader = Counted::new(reader);
     let mut writer = Counted::new(writer);
-    let Ok(shaken) = shake(alloc, &mut reader, &mut writer, SocketType::Pub, TURNS) else {
+    match shake(alloc, &mut reader, &mut writer, SocketType::Pub, TURNS) {
+        Ok(shaken) => {
+            let subscriptions = Subscriptions {
+                rt,
+                alloc,
+                id,
+                door,
+            };
+            serve_shaken(reader, shaken, writer.into_inner(), subscriptions);
+        }
+        Err(end) => {
+            drop(end);
+            drop(reader);
+            drop(writer);
+            drop(door);
+        }
+    }
+}
+
+/// Serves a subscriber with whom hands were shaken.
+fn serve_shaken<R>(
+    mut reader: Counted<Socket>,
+    shaken: Shaken,
+    writer: Socket,
+    mut subscriptions: Subscriptions<R>,
+)
+where
+    R: Threads + Wait + Copy + Send + Sync + Drop + 'static,
+{
+    let (rt, alloc) = (subscriptions.rt, subscriptions.alloc);
+    let Some((feed, writing)) = start_feed(rt, alloc, writer) else {
+        drop(shaken);
+        drop(subscriptions);
         return;
-    };
-    let Some((feed, writing)) = start_feed(rt, alloc, writer.into_inner()) else {
-        return;
-    };
-    let mut subscriptions = Subscriptions {
-        rt,
-        alloc,
-        id,
-        door,
     };
     if subscriptions.attach(feed) {
         hear_out(alloc, &mut reader, shaken, &mut subscriptions);
         subscriptions.detach();
+    } else {
+        drop(shaken);
     }
     // The writing thread ends once the feed is dropped, which may be only with the last owner of the door's inbox.
     drop(subscriptions);
@@ -126,8 +160,28 @@ fn start_feed<R>(rt: R, alloc: Global, socket: Socket) -> Option<(Feed<R>, JoinH
 where
     R: Threads + Wait + Copy + Send + Sync + Drop + 'static,
 {
+    let Some((backlog, shared)) = backlog_of_both(alloc) else {
+        drop(socket);
+        return None;
+    };
+    match thread::spawn(&rt, move || shared.write_all(&rt, &socket)) {
+        Ok(writing) => Some((Feed::new(rt, backlog), writing)),
+        Err(error) => {
+            drop(error);
+            drop(backlog);
+            None
+        }
+    }
+}
+
+/// A backlog, and the same for the thread that writes it. None where no memory is left.
+fn backlog_of_both(alloc: Global) -> Option<(Arc<Backlog, Global>, Arc<Backlog, Global>)> {
     let backlog = Arc::new(alloc, Backlog::new(alloc)).ok()?;
-    let shared = Arc::try_clone(&backlog).ok()?;
-    let writing = thread::spawn(&rt, move || shared.write_all(&rt, &socket)).ok()?;
-    Some((Feed::new(rt, backlog), writing))
+    match Arc::try_clone(&backlog) {
+        Ok(shared) => Some((backlog, shared)),
+        Err(AllocError) => {
+            drop(backlog);
+            None
+        }
+    }
 }
