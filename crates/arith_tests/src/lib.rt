@@ -1,4 +1,5 @@
-//! Tests of `arith_syntax`, `arith_value` and `arith_shell`, apart from them, so that each is proved once.
+//! Tests of `interp_core`, `arith_syntax`, `arith_value` and `arith_shell`, apart from them, so that each is proved
+//! once.
 #![tactic(auto)]
 
 #[cfg(test)]

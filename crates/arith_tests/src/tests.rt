@@ -1,8 +1,9 @@
-//! Shell arithmetic beside the cases of `arith_cases`: its values, long texts, and steps.
+//! Shell arithmetic beside the cases of `arith_cases`: its values, long texts, steps, and faults.
 
 mod cells;
 mod evaluator;
 mod fault;
+mod interp_fault;
 mod interpreter;
 mod operators;
 mod parser;

@@ -70,12 +70,12 @@ impl Display for InterpFault {
     fn fmt<W: fmt::Write>(&self, f: &mut Formatter<W>) -> fmt::Result {
         match self {
             InterpFault::Syntax(place) => write!(f, "syntax error at {place}"),
-            InterpFault::Overflow => write!(f, "result outside 64 bits"),
-            InterpFault::ZeroDivision => write!(f, "division by zero"),
-            InterpFault::Shift => write!(f, "shift refused"),
-            InterpFault::TooDeep => write!(f, "more than 200 operators"),
-            InterpFault::Interrupted => write!(f, "interrupted"),
-            InterpFault::OutOfMemory => write!(f, "out of memory"),
+            InterpFault::Overflow => f.write_str("result outside 64 bits"),
+            InterpFault::ZeroDivision => f.write_str("division by zero"),
+            InterpFault::Shift => f.write_str("shift refused"),
+            InterpFault::TooDeep => f.write_str("more than 200 operators"),
+            InterpFault::Interrupted => f.write_str("interrupted"),
+            InterpFault::OutOfMemory => f.write_str("out of memory"),
         }
     }
 }

@@ -9,6 +9,3 @@ mod interpreter;
 pub use answer::{Completeness, Completion, Info, Next, Output, Stepped};
 pub use fault::{InterpFault, fault_words};
 pub use interpreter::Interpreter;
-
-#[cfg(test)]
-mod tests;
