@@ -2,6 +2,7 @@
 
 use crate::message::{add_message, request};
 use crate::setup::{Language, Setup};
+use crate::wire::visited;
 use arith_shell::ShellArith;
 use engine_examples::{After, Letters, Refusing, Scarce};
 use interp_core::Interpreter;
@@ -11,13 +12,14 @@ use kernel_block::{Engine, EngineFault, Handled};
 use std::alloc::{AllocError, Global};
 use std::io;
 
-/// What the requests of a block come to, and what is published.
+/// What the lines of a block come to, and what is published.
 ///
 /// # Errors
 ///
-/// Where a line is no request, or memory was refused.
+/// Where a line says nothing, or memory was refused.
 pub(crate) fn answers(alloc: Global, setup: Setup, requests: &[String]) -> io::Result<String> {
     match setup.language {
+        Language::Arith if setup.is_wire => visited(alloc, setup, requests),
         Language::Arith => over(alloc, setup, ShellArith::new(alloc), requests),
         Language::Letters => over(alloc, setup, Letters { is_wanting: false }, requests),
         Language::Wanting => over(alloc, setup, Letters { is_wanting: true }, requests),
@@ -132,7 +134,7 @@ fn add_reply(alloc: Global, handled: &Handled, text: &mut String) -> io::Result<
 }
 
 /// Adds what was published, or how many messages that is.
-fn add_published(
+pub(crate) fn add_published(
     alloc: Global,
     is_counted: bool,
     items: &[Event<()>],

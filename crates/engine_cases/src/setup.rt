@@ -33,6 +33,8 @@ pub(crate) struct Setup {
     pub(crate) is_each: bool,
     /// Whether only the number of messages is told.
     pub(crate) is_counted: bool,
+    /// Whether the lines are what a peer sends from its greeting on.
+    pub(crate) is_wire: bool,
 }
 
 impl Setup {
@@ -51,6 +53,7 @@ impl Setup {
             call: 0,
             is_each: false,
             is_counted: false,
+            is_wire: false,
         };
         for word in line.split(' ') {
             match word.split_once('=') {
@@ -83,6 +86,7 @@ impl Setup {
             "wanting" => self.language = Language::Wanting,
             "each" => self.is_each = true,
             "counted" => self.is_counted = true,
+            "wire" => self.is_wire = true,
             _ => return Err(io::Error::other("a word that says nothing")),
         }
         Ok(())

@@ -1,7 +1,6 @@
-//! What no table of `engine_cases` tells: the numbers and words of faults, the end of numbers, and whole sessions.
+//! What no table of `engine_cases` tells: the numbers and words of faults, and the end of numbers.
 
 mod fault;
-mod session;
 mod worn;
 
 use jmsg_envelope::{Envelope, Signer, open_envelope};
