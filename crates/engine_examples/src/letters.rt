@@ -1,6 +1,7 @@
 //! A language of a few lines.
 
-ghost use Rattle.std.specs.Prelude.{◌≡◌, ◌⊎◌, ◌==◌, IfOk};
+ghost use Rattle.std.specs.Prelude.{◌≡◌, ◌⊎◌, ◌==◌, [], ◌∷◌, ◌++◌, IfOk, codes};
+ghost use Rattle.interp_core.specs.declared.answer.Output.TheVariants.{Stdout, Stderr};
 ghost use Rattle.interp_core.specs.declared.fault.InterpFault.TheVariants.{OutOfMemory};
 ghost use Rattle.engine_examples.specs.Letters.{next_of, outputs_of};
 
@@ -61,17 +62,56 @@ fn outputs(alloc: Global, letter: u8) -> Result<Vec<Output>, AllocError>
     ensures { IfOk result (λ outputs. outputs.items ≡ outputs_of letter) }
 {
     let mut outputs = Vec::new(alloc);
-    match letter {
-        b'o' => outputs.push(Output::Stdout(text(alloc, "o")?))?,
-        b'e' => outputs.push(Output::Stderr(text(alloc, "e")?))?,
-        b'b' => {
-            outputs.push(Output::Stdout(text(alloc, "o")?))?;
-            outputs.push(Output::Stderr(text(alloc, "e")?))?;
+    match add_outputs(alloc, letter, &mut outputs) {
+        Ok(()) => Ok(outputs),
+        Err(AllocError) => {
+            drop(outputs);
+            Err(AllocError)
         }
-        b'd' => outputs.push(Output::Display(text(alloc, "d")?))?,
-        _ => {}
     }
-    Ok(outputs)
+}
+
+/// Adds what a letter writes.
+fn add_outputs(alloc: Global, letter: u8, outputs: &mut Vec<Output>) -> Result<(), AllocError>
+    ensures { IfOk result (λ _. outputs.new.items ≡ outputs.old.items ++ outputs_of letter) }
+{
+    match letter {
+        b'o' => add_stdout(alloc, outputs),
+        b'e' => add_stderr(alloc, outputs),
+        b'b' => {
+            add_stdout(alloc, outputs)?;
+            add_stderr(alloc, outputs)
+        }
+        b'd' => add(outputs, Output::Display(text(alloc, "d")?)),
+        _ => Ok(()),
+    }
+}
+
+/// Adds what `o` writes.
+fn add_stdout(alloc: Global, outputs: &mut Vec<Output>) -> Result<(), AllocError>
+    ensures { IfOk result (λ _. outputs.new.items ≡ outputs.old.items ++ Stdout (codes "o") ∷ []) }
+{
+    add(outputs, Output::Stdout(text(alloc, "o")?))
+}
+
+/// Adds what `e` writes.
+fn add_stderr(alloc: Global, outputs: &mut Vec<Output>) -> Result<(), AllocError>
+    ensures { IfOk result (λ _. outputs.new.items ≡ outputs.old.items ++ Stderr (codes "e") ∷ []) }
+{
+    add(outputs, Output::Stderr(text(alloc, "e")?))
+}
+
+/// Adds an output.
+fn add(outputs: &mut Vec<Output>, output: Output) -> Result<(), AllocError>
+    ensures { IfOk result (λ _. outputs.new.items ≡ outputs.old.items ++ output ∷ []) }
+{
+    match outputs.push(output) {
+        Ok(()) => Ok(()),
+        Err(refused) => {
+            drop(refused);
+            Err(AllocError)
+        }
+    }
 }
 
 /// How a cell goes on behind a letter.
