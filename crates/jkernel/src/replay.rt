@@ -75,14 +75,22 @@ fn replay<R: Read, W: Write>(alloc: Global, reader: &mut R, writer: &mut W, key:
 {
     let octets = match read_octets(alloc, reader) {
         Ok(octets) => octets,
-        Err(status) => return status,
+        Err(status) => {
+            drop(key);
+            return status;
+        }
     };
-    let Ok(text) = answer_octets(alloc, key, &octets) else {
-        return Status::Failed;
-    };
-    match write_out(writer, &text) {
-        Ok(()) => Status::Done,
-        Err(_) => Status::Failed,
+    let answered = answer_octets(alloc, key, &octets);
+    drop(octets);
+    match answered {
+        Ok(text) => match write_out(writer, &text) {
+            Ok(()) => Status::Done,
+            Err(_) => Status::Failed,
+        },
+        Err(fault) => {
+            drop(fault);
+            Status::Failed
+        }
     }
 }
 
@@ -124,11 +132,14 @@ pub(crate) fn answer_peer<R: Inlet>(
     let mut engine = begun(alloc, key)?;
     let mut writer = Counted::new(Vec::new(alloc));
     let end = session(alloc, reader, &mut writer, &mut engine, &Unstopped, TURNS);
-    let ending = settled(end)?;
-    let events = published(engine)?;
     let shell = writer.into_inner();
-    let lines = session_lines(alloc, &shell, &events, ending)?;
-    Ok(lines)
+    match outcome_of(end, engine) {
+        Ok(outcome) => outcome_lines(alloc, shell, outcome),
+        Err(fault) => {
+            drop(shell);
+            Err(fault)
+        }
+    }
 }
 
 /// An engine of the shell that has said that the kernel starts.
@@ -138,8 +149,54 @@ fn begun(alloc: Global, key: Vec<u8>) -> Result<ReplayEngine, EngineFault>
     let interp = ShellArith::new(alloc);
     let sink = ListSink::new(alloc);
     let mut engine = Engine::new(Side::Shell, interp, sink, ReplayStamp, Signer::new(key));
-    engine.start(alloc)?;
-    Ok(engine)
+    match engine.start(alloc) {
+        Ok(()) => Ok(engine),
+        Err(fault) => {
+            drop(engine);
+            Err(fault)
+        }
+    }
+}
+
+/// What a session came to that its peer ended.
+#[derive(Drop)]
+struct Outcome {
+    /// How it ended.
+    ending: Ending,
+    /// All that was published.
+    events: Vec<Event<Vec<u8>>>,
+}
+
+/// What a session that ended so came to, where its peer ended it and no idle is owed in the end; else its fault.
+fn outcome_of(end: SessionEnd, engine: ReplayEngine) -> Result<Outcome, EngineFault>
+    ensures ending { IfOk result (λ outcome. ending_words outcome.ending ≡ ending_text end) }
+    ensures settled { OnOk result (IsSettled end) }
+    ensures published { IfOk result (λ outcome. map Some outcome.events.items ≡ all_items (map Some) engine) }
+{
+    match settled(end) {
+        Ok(ending) => match published(engine) {
+            Ok(events) => Ok(Outcome { ending, events }),
+            Err(fault) => Err(fault),
+        },
+        Err(fault) => {
+            drop(engine);
+            Err(fault)
+        }
+    }
+}
+
+/// The lines of a session, of what was written and what it came to.
+fn outcome_lines(alloc: Global, shell: Vec<u8>, outcome: Outcome) -> Result<Vec<u8>, EngineFault>
+    ensures { IfOk result (λ lines. lines.items ≡ printed_lines shell.items
+        (flat_map event_text outcome.events.items) (ending_words outcome.ending)) }
+{
+    let lines = session_lines(alloc, &shell, &outcome.events, outcome.ending);
+    drop(shell);
+    drop(outcome);
+    match lines {
+        Ok(lines) => Ok(lines),
+        Err(AllocError) => Err(EngineFault::Memory),
+    }
 }
 
 /// The printed ending of a session that its peer ended; else its fault.
@@ -161,6 +218,7 @@ fn published(engine: ReplayEngine) -> Result<Vec<Event<Vec<u8>>>, EngineFault>
 {
     let end = engine.close();
     if end.owed() {
+        drop(end);
         return Err(EngineFault::Memory);
     }
     let parts = end.into_parts();

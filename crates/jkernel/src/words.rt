@@ -2,10 +2,11 @@
 
 ghost use Rattle.std.specs.Prelude.{◌≡◌, ◌+◌, ◌⊎◌, false, [], Some, None, IfOk, IfErr, map, position, unwrap_or};
 ghost use Rattle.std.specs.Prelude.{string_bytes, take};
-ghost use Rattle.clap.specs.Words.{app_of, first_of, found_of, kind_of, rows_of, subcommand_rows_of};
+ghost use Rattle.clap.specs.Words.{app_of, first_of, found_of, kind_of, rows_of, subcommand_rows_of, with_subcommand};
 ghost use Rattle.clap.specs.declared.builder.command.Command.TheViews.{out-Command as fields_of};
 ghost use Rattle.jkernel.specs.Words.{IsOrdered, IsRefusedBy, TellsHelp, TellsRefusal, begins_with_serve, heeded};
 ghost use Rattle.jkernel.specs.Words.{is_file_option, words_of_file};
+ghost use Rattle.jkernel.specs.declared.words.Order.TheVariants.{Replay, Serve};
 ghost use Rattle.jkernel.specs.declared.words.WordsFault.TheVariants.{OutOfMemory};
 ghost use Rattle.jkernel.specs.Words.{jkernel_command, kernelspec_command, order_by, replay_command, serve_command};
 
@@ -25,7 +26,7 @@ const EXAMPLE: &str = concat!(
 );
 
 /// What a person orders.
-#[derive(Debug, Drop)]
+#[derive(Drop)]
 pub enum Order {
     /// To replay one peer under this key.
     Replay(Text),
@@ -38,7 +39,7 @@ pub enum Order {
 }
 
 /// Why command words are none.
-#[derive(Debug, Drop)]
+#[derive(Drop)]
 pub enum WordsFault {
     /// They are refused, for what this text tells a person.
     Refused(Text),
@@ -60,8 +61,16 @@ pub fn read_words(alloc: Global, words: &[String]) -> Result<Order, WordsFault>
     ensures refused { IfErr result (IsRefusedBy (map string_bytes words.now)) }
 {
     match jkernel(alloc)?.try_get_matches_from(heeded(words)) {
-        Ok(matches) => order_in(alloc, &matches),
-        Err(error) => told(alloc, &error),
+        Ok(matches) => {
+            let order = order_in(alloc, &matches);
+            drop(matches);
+            order
+        }
+        Err(error) => {
+            let order = told(alloc, &error);
+            drop(error);
+            order
+        }
     }
 }
 
@@ -71,17 +80,49 @@ fn order_in(alloc: Global, matches: &ArgMatches<'_>) -> Result<Order, WordsFault
     ensures none { IfErr result (λ fault. (fault ≡ OutOfMemory) ⊎ (order_by (subcommand_rows_of matches.now) ≡ None)) }
 {
     match matches.subcommand() {
-        None => Ok(Order::Replay(owned_text(alloc, "")?)),
+        None => replay_under(alloc, ""),
         Some(("replay", found)) => {
             let key = value_of(found, "key");
-            Ok(Order::Replay(owned_text(alloc, key)?))
+            replay_under(alloc, key)
         }
         Some(("serve", found)) => {
             let file = value_of(found, "file");
-            Ok(Order::Serve(owned_text(alloc, file)?))
+            serve_of(alloc, file)
         }
         Some(("kernelspec", _)) => Ok(Order::KernelSpec),
-        Some((name, _)) => Err(WordsFault::Refused(owned_text(alloc, name)?)),
+        Some((name, _)) => refused(alloc, name),
+    }
+}
+
+/// The order to replay under this key.
+fn replay_under(alloc: Global, key: &str) -> Result<Order, WordsFault>
+    ensures ordered { IfOk result (λ order. order ≡ Replay key.now) }
+    ensures memory { IfErr result (λ fault. fault ≡ OutOfMemory) }
+{
+    match owned_text(alloc, key) {
+        Ok(key) => Ok(Order::Replay(key)),
+        Err(AllocError) => Err(WordsFault::OutOfMemory),
+    }
+}
+
+/// The order to serve the connections of this file.
+fn serve_of(alloc: Global, file: &str) -> Result<Order, WordsFault>
+    ensures ordered { IfOk result (λ order. order ≡ Serve file.now) }
+    ensures memory { IfErr result (λ fault. fault ≡ OutOfMemory) }
+{
+    match owned_text(alloc, file) {
+        Ok(file) => Ok(Order::Serve(file)),
+        Err(AllocError) => Err(WordsFault::OutOfMemory),
+    }
+}
+
+/// The refusal of words that name no command, for which the name is told.
+fn refused(alloc: Global, name: &str) -> Result<Order, WordsFault>
+    ensures { IfOk result (λ _. ⊥) }
+{
+    match owned_text(alloc, name) {
+        Ok(name) => Err(WordsFault::Refused(name)),
+        Err(AllocError) => Err(WordsFault::OutOfMemory),
     }
 }
 
@@ -99,14 +140,40 @@ fn value_of<'a>(options: &ArgMatches<'a>, id: &str) -> &'a str
 fn jkernel<'a>(alloc: Global) -> Result<Command<'a>, AllocError>
     ensures { IfOk result (λ command. app_of command ≡ jkernel_command) }
 {
-    Command::new(alloc, "jkernel")
+    let command = Command::new(alloc, "jkernel")
         .no_binary_name(true)
         .version("1.0")
         .about(ABOUT)
-        .after_help(EXAMPLE)
-        .subcommand(replay(alloc)?)?
-        .subcommand(serve(alloc)?)?
-        .subcommand(kernelspec(alloc))
+        .after_help(EXAMPLE);
+    let replaying = with_replay(alloc, command)?;
+    let serving = with_serve(alloc, replaying)?;
+    serving.subcommand(kernelspec(alloc))
+}
+
+/// A command with `replay`.
+fn with_replay<'a>(alloc: Global, command: Command<'a>) -> Result<Command<'a>, AllocError>
+    ensures { IfOk result (λ added. app_of added ≡ with_subcommand (app_of command.entry) replay_command.top) }
+{
+    match replay(alloc) {
+        Ok(replay) => command.subcommand(replay),
+        Err(AllocError) => {
+            drop(command);
+            Err(AllocError)
+        }
+    }
+}
+
+/// A command with `serve`.
+fn with_serve<'a>(alloc: Global, command: Command<'a>) -> Result<Command<'a>, AllocError>
+    ensures { IfOk result (λ added. app_of added ≡ with_subcommand (app_of command.entry) serve_command.top) }
+{
+    match serve(alloc) {
+        Ok(serve) => command.subcommand(serve),
+        Err(AllocError) => {
+            drop(command);
+            Err(AllocError)
+        }
+    }
 }
 
 /// The command `replay`.

@@ -2,7 +2,7 @@ use Rattle.std.proofs.Common.{rules}
 use Rattle.jkernel.proofs.ReplayLemmas.{begun_as}
 use Rattle.jkernel.proofs.replay.begun.Goals as goal
 
-pub returns : goal.returns
-returns c =
+pub returns-in-Ok : goal.returns-in-Ok
+returns-in-Ok c =
     begun_as (λ one other. Unit) c.args.key.items _ c.new-engine.result c.start.new.self (search rules)
-    c.in_ok-start.ensures
+    c.in-Ok.ensures

@@ -11,13 +11,11 @@ bare = on_top (λ top. record top { no_binary_name = true; has_version = true })
 
 pub returns : goal.returns
 returns c =
-    let top : app_of c.after_help.result ≡ bare = search rules in
-    let one : app_of c.in_ok-subcommand.field-0 ≡ with_subcommand bare replay_command.top =
-    c.in_ok-subcommand.ensures.shape (search rules)
-    ∙ ap₂ with_subcommand top (ap (λ (a : App). a.top) c.in_ok-replay.ensures.0) in
-    let two : app_of c.in_ok-subcommand-2.field-0
+    let top : app_of c.after_help-command.result ≡ bare = search rules in
+    let one : app_of c.in_ok-replaying.replaying ≡ with_subcommand bare replay_command.top =
+    c.in_ok-replaying.ensures ∙ ap (λ a. with_subcommand a replay_command.top) top in
+    let two : app_of c.in_ok-serving.serving
     ≡ with_subcommand (with_subcommand bare replay_command.top) serve_command.top =
-    c.in_ok-subcommand-2.ensures.shape (search rules)
-    ∙ ap₂ with_subcommand one (ap (λ (a : App). a.top) c.in_ok-serve.ensures.0) in
-    IfOk-weaker c.subcommand-3.result _ _ (λ command added. added.shape (search rules)
-    ∙ ap₂ with_subcommand two (ap (λ (a : App). a.top) c.kernelspec.ensures.0)) c.subcommand-3.ensures
+    c.in_ok-serving.ensures ∙ ap (λ a. with_subcommand a serve_command.top) one in
+    IfOk-weaker c.subcommand.result _ _ (λ command added. added.shape (search rules)
+    ∙ ap₂ with_subcommand two (ap (λ (a : App). a.top) c.kernelspec.ensures.0)) c.subcommand.ensures

@@ -9,28 +9,29 @@ returns-in-Ok-clause-ordered c =
     let words = map string_bytes c.args.words.now in
     let same = c.in_ok-jkernel.ensures in
     let fine = c.in-Ok.ensures.kinds (ap is_simple_and_free same ∙ command_is_free) in
-    IfOk-weaker c.order_in.result _ _ (λ order found. is_ordered words order (ordered_by words _
+    IfOk-weaker c.order_in-order.result _ _ (λ order found. is_ordered words order (ordered_by words _
     (app_of c.in_ok-jkernel.field-0) c.in-Ok.matches order same c.heeded.ensures fine c.in-Ok.ensures.matches found))
-    c.order_in.ensures.ordered
+    c.order_in-order.ensures.ordered
 
 pub returns-in-Ok-clause-refused : goal.returns-in-Ok-clause-refused
 returns-in-Ok-clause-refused c =
     let words = map string_bytes c.args.words.now in
-    IfErr-weaker c.order_in.result _ _ (λ fault why. is_unnamed words _ (app_of c.in_ok-jkernel.field-0) c.in-Ok.matches
-    fault c.in_ok-jkernel.ensures c.heeded.ensures c.in-Ok.ensures.matches why) c.order_in.ensures.none
+    IfErr-weaker c.order_in-order.result _ _ (λ fault why. is_unnamed words _ (app_of c.in_ok-jkernel.field-0)
+    c.in-Ok.matches fault c.in_ok-jkernel.ensures c.heeded.ensures c.in-Ok.ensures.matches why)
+    c.order_in-order.ensures.none
 
 pub returns-in-Err-clause-ordered : goal.returns-in-Err-clause-ordered
 returns-in-Err-clause-ordered c =
     let words = map string_bytes c.args.words.now in
     let same = c.in_ok-jkernel.ensures in
     let has = c.in-Err.ensures.kinds (ap is_simple_and_free same ∙ command_is_free) in
-    IfOk-weaker c.told.result _ _ (λ order tells. is_helped words _ (app_of c.in_ok-jkernel.field-0) c.in-Err.error
-    order same c.heeded.ensures has tells) c.told.ensures.help
+    IfOk-weaker c.told-order.result _ _ (λ order tells. is_helped words _ (app_of c.in_ok-jkernel.field-0)
+    c.in-Err.error order same c.heeded.ensures has tells) c.told-order.ensures.help
 
 pub returns-in-Err-clause-refused : goal.returns-in-Err-clause-refused
 returns-in-Err-clause-refused c =
     let words = map string_bytes c.args.words.now in
     let same = c.in_ok-jkernel.ensures in
     let has = c.in-Err.ensures.kinds (ap is_simple_and_free same ∙ command_is_free) in
-    IfErr-weaker c.told.result _ _ (λ fault tells. is_refused words _ (app_of c.in_ok-jkernel.field-0) c.in-Err.error
-    fault same c.heeded.ensures has tells) c.told.ensures.refusal
+    IfErr-weaker c.told-order.result _ _ (λ fault tells. is_refused words _ (app_of c.in_ok-jkernel.field-0)
+    c.in-Err.error fault same c.heeded.ensures has tells) c.told-order.ensures.refusal
