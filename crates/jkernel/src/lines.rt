@@ -1,6 +1,6 @@
 //! The three lines that a session prints, and writing them out.
 
-ghost use Rattle.std.specs.Prelude.{◌≡◌, ◌++◌, IfOk, OnOk};
+ghost use Rattle.std.specs.Prelude.{◌≡◌, ◌++◌, [], IfOk, OnOk};
 ghost use Rattle.std.specs.Io.KnownBytes.{Appends};
 ghost use Rattle.hex.specs.Hex.{encode_lower};
 ghost use Rattle.jkernel.specs.Lines.{ending_words, printed_lines};
@@ -62,14 +62,33 @@ pub(crate) fn lines_text(
     let octets = shell.len().saturating_add(iopub.len());
     let room = octets.saturating_mul(2).saturating_add(WORDS);
     let mut text = Vec::with_capacity(alloc, room)?;
+    match write_lines(alloc, &mut text, shell, iopub, ending) {
+        Ok(()) => Ok(text),
+        Err(AllocError) => {
+            drop(text);
+            Err(AllocError)
+        }
+    }
+}
+
+/// Writes the lines of a session to a text that is empty.
+fn write_lines(
+    alloc: Global,
+    text: &mut Vec<u8>,
+    shell: &[u8],
+    iopub: &[u8],
+    ending: Ending,
+) -> Result<(), AllocError>
+    requires { text.old.items ≡ [] }
+    ensures { OnOk result (text.new.items ≡ printed_lines shell.now iopub.now (ending_words ending)) }
+{
     text.extend_from_slice(b"shell ")?;
-    append_hex(&mut text, shell)?;
+    append_hex(text, shell)?;
     text.extend_from_slice(b"\niopub ")?;
-    append_hex(&mut text, iopub)?;
+    append_hex(text, iopub)?;
     text.extend_from_slice(b"\nend ")?;
-    append_ending(alloc, &mut text, ending)?;
-    text.extend_from_slice(b"\n")?;
-    Ok(text)
+    append_ending(alloc, text, ending)?;
+    text.extend_from_slice(b"\n")
 }
 
 /// Writes a text, all of it and nothing else, and flushes. Where it fails, a part may be written.

@@ -186,15 +186,42 @@ where
         + 'static,
     ensures { (result ≡ 0) ⊎ ((result ≡ 1) ⊎ ((result ≡ 3) ⊎ (result ≡ 4))) }
 {
-    let status = match fs::read(rt, file) {
+    let status = match read_file(rt, file) {
         Ok(octets) => match judge(alloc, &octets) {
             Ok(connection) => serve_on(*rt, alloc, connection, until),
             Err(status) => status,
         },
-        Err(error) if error.kind() == ErrorKind::OutOfMemory => Status::Failed,
-        Err(_) => Status::FileUnreadable,
+        Err(status) => status,
     };
     tell_status(alloc, faults, status).code()
+}
+
+/// The octets of a connection file, or how the program ends.
+///
+/// # Errors
+///
+/// `FileUnreadable`, and `Failed` without memory.
+fn read_file<E: Files + Alloc>(rt: &E, file: &str) -> Result<Vec<u8, E::A>, Status>
+    ensures { IfErr result (λ status. (status ≡ Status.Failed) ⊎ (status ≡ Status.FileUnreadable)) }
+{
+    match fs::read(rt, file) {
+        Ok(octets) => Ok(octets),
+        Err(error) => {
+            let kind = error.kind();
+            drop(error);
+            Err(unread(kind))
+        }
+    }
+}
+
+/// How the program ends where a connection file can't be read.
+fn unread(kind: ErrorKind) -> Status
+    ensures { (result ≡ Status.Failed) ⊎ (result ≡ Status.FileUnreadable) }
+{
+    match kind {
+        ErrorKind::OutOfMemory => Status::Failed,
+        _ => Status::FileUnreadable,
+    }
 }
 
 /// Judges the octets of a connection file: what it connects, or how the program ends.
