@@ -8,7 +8,7 @@ use engine_examples::{After, Letters, Refusing, Scarce};
 use interp_core::Interpreter;
 use iopub_event::Event;
 use jmsg_envelope::{Envelope, Signer};
-use kernel_block::{Engine, EngineFault, Handled};
+use kernel_block::{Engine, EngineEnd, EngineFault, Handled};
 use std::alloc::{AllocError, Global};
 use std::io;
 
@@ -36,21 +36,62 @@ fn over<I: Interpreter + Drop>(
 where
     I::Cell: Drop,
 {
-    let mut text = String::new(alloc);
     let sink = Refusing::new(alloc, setup.first, setup.last);
     let signer = Signer::new(Vec::new(alloc));
     let mut engine = Engine::new(setup.side, interp, sink, Scarce::new(setup.call), signer);
-    for line in requests {
-        ask(alloc, &mut engine, setup.noes, line.as_str(), &mut text)?;
+    let mut text = String::new(alloc);
+    let asked = ask_all(alloc, &mut engine, setup.noes, requests, &mut text);
+    let ended = add_end(alloc, engine.close(), setup.is_counted, &mut text);
+    match asked.and(ended) {
+        Ok(()) => Ok(text),
+        Err(error) => {
+            drop(text);
+            Err(error)
+        }
     }
-    let end = engine.close();
-    if end.owed() {
+}
+
+/// Has an engine do what each line says, and adds what it comes to.
+fn ask_all<I: Interpreter>(
+    alloc: Global,
+    engine: &mut Engine<I, Refusing, Scarce, ()>,
+    noes: u64,
+    requests: &[String],
+    text: &mut String,
+) -> io::Result<()> {
+    for line in requests {
+        ask(alloc, engine, noes, line.as_str(), text)?;
+    }
+    Ok(())
+}
+
+/// Adds what an engine leaves: whether an idle is owed, and what was published.
+fn add_end<I: Interpreter + Drop>(
+    alloc: Global,
+    end: EngineEnd<I, Refusing, Scarce, ()>,
+    is_counted: bool,
+    text: &mut String,
+) -> io::Result<()> {
+    let is_owed = end.owed();
+    let parts = end.into_parts();
+    let items = parts.publishing.sink.items.as_slice();
+    let added = add_left(alloc, is_owed, is_counted, items, text);
+    drop(parts);
+    added
+}
+
+/// Adds whether an idle is owed, and what was published.
+fn add_left(
+    alloc: Global,
+    is_owed: bool,
+    is_counted: bool,
+    items: &[Event<()>],
+    text: &mut String,
+) -> io::Result<()> {
+    if is_owed {
         text.push_str("    an idle is owed\n")?;
     }
-    let publishing = end.into_parts().publishing;
-    let sink = publishing.sink;
-    add_published(alloc, setup.is_counted, sink.items.as_slice(), &mut text)?;
-    Ok(text)
+    add_published(alloc, is_counted, items, text)
 }
 
 /// Has an engine do what a line says, once more where it comes back, and adds what it comes to.
@@ -65,28 +106,56 @@ fn ask<I: Interpreter>(
         let started = engine.start(alloc);
         return Ok(add_start(started, text)?);
     }
+    let asked = read_request(alloc, line)?;
+    let Some(back) = handle(alloc, engine, noes, asked, text)? else {
+        return Ok(());
+    };
+    drop(handle(alloc, engine, noes, back, text)?);
+    Ok(())
+}
+
+/// The request of a line: its id, its type and its content.
+fn read_request(alloc: Global, line: &str) -> io::Result<Envelope> {
     let Some((id, behind)) = line.split_once(' ') else {
         return Err(io::Error::other("no request"));
     };
     let (kind, content) = behind.split_once(' ').unwrap_or((behind, ""));
-    let asked = request(alloc, id, kind, content)?;
-    let handled = engine.handle(alloc, asked, &After::new(noes));
-    if let Some(back) = add_handled(alloc, handled, text)? {
-        let again = engine.handle(alloc, back, &After::new(noes));
-        let _ = add_handled(alloc, again, text)?;
-    }
-    Ok(())
+    request(alloc, id, kind, content)
+}
+
+/// Has an engine handle a request, adds what it comes to, and answers the request where it comes back.
+fn handle<I: Interpreter>(
+    alloc: Global,
+    engine: &mut Engine<I, Refusing, Scarce, ()>,
+    noes: u64,
+    asked: Envelope,
+    text: &mut String,
+) -> io::Result<Option<Envelope>> {
+    let stop = After::new(noes);
+    let handled = engine.handle(alloc, asked, &stop);
+    drop(stop);
+    add_handled(alloc, handled, text)
 }
 
 /// Adds whether an engine started.
 fn add_start(started: Result<(), EngineFault>, text: &mut String) -> Result<(), AllocError> {
     match started {
         Ok(()) => text.push_str("    started\n"),
-        Err(fault) => {
-            let number = fault.number();
-            writeln!(text, "    fault {number}")
-        }
+        Err(fault) => add_fault(fault, text),
     }
+}
+
+/// Adds the number of a fault.
+fn add_fault(fault: EngineFault, text: &mut String) -> Result<(), AllocError> {
+    let number = fault.number();
+    drop(fault);
+    writeln!(text, "    fault {number}")
+}
+
+/// Adds that a request comes back.
+fn add_back(back: &Envelope, text: &mut String) -> Result<(), AllocError> {
+    let id = back.msg_id.as_str();
+    writeln!(text, "    {id} comes back")
 }
 
 /// Adds what a request comes to, and answers the request where it comes back.
@@ -97,17 +166,20 @@ fn add_handled(
 ) -> io::Result<Option<Envelope>> {
     match handled {
         Ok(handled) => {
-            add_reply(alloc, &handled, text)?;
+            let added = add_reply(alloc, &handled, text);
+            drop(handled);
+            added?;
             Ok(None)
         }
-        Err(EngineFault::OwedIdle(back)) => {
-            let id = back.msg_id.as_str();
-            writeln!(text, "    {id} comes back")?;
-            Ok(Some(back))
-        }
+        Err(EngineFault::OwedIdle(back)) => match add_back(&back, text) {
+            Ok(()) => Ok(Some(back)),
+            Err(AllocError) => {
+                drop(back);
+                Err(io::Error::from(AllocError))
+            }
+        },
         Err(fault) => {
-            let number = fault.number();
-            writeln!(text, "    fault {number}")?;
+            add_fault(fault, text)?;
             Ok(None)
         }
     }
@@ -120,17 +192,15 @@ fn add_reply(alloc: Global, handled: &Handled, text: &mut String) -> io::Result<
         Some(frames) => add_message(alloc, text, frames)?,
         None => text.push_str(" no reply")?,
     }
-    for (is_so, word) in [
-        (handled.end, " end"),
-        (handled.restart, " restart"),
-        (handled.interrupt, " interrupt"),
-    ] {
-        if is_so {
-            text.push_str(word)?;
-        }
-    }
-    text.push('\n')?;
-    Ok(())
+    Ok(add_marks(handled, text)?)
+}
+
+/// Adds what the kernel is to do behind a reply, and ends its line.
+fn add_marks(handled: &Handled, text: &mut String) -> Result<(), AllocError> {
+    let end = if handled.end { " end" } else { "" };
+    let restart = if handled.restart { " restart" } else { "" };
+    let interrupt = if handled.interrupt { " interrupt" } else { "" };
+    writeln!(text, "{end}{restart}{interrupt}")
 }
 
 /// Adds what was published, or how many messages that is.

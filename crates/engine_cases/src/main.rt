@@ -32,29 +32,66 @@ use std::io;
 
 /// Prints each block with what it comes to.
 fn main(rt: HostRuntime) -> io::Result<()> {
-    let alloc = rt.alloc();
+    let mut requests = Vec::new(rt.alloc());
+    let printed = print_blocks(&rt, &mut requests);
+    drop(requests);
+    printed
+}
+
+/// Prints each block with what it comes to. The requests of a block are gathered here.
+fn print_blocks<R: Input + Print + AllocGlobal>(
+    rt: &R,
+    requests: &mut Vec<String>,
+) -> io::Result<()> {
     let mut setup = None;
-    let mut requests = Vec::new(alloc);
-    for line in rt.lines(alloc) {
-        let line = line?;
-        if line.is_empty() {
-            print_block(&rt, setup, &mut requests)?;
-            setup = None;
-        }
-        println!(rt; "{line}")?;
-        if line.is_empty() || line.starts_with('#') {
-            continue;
-        }
-        let Some(known) = setup else {
-            setup = Some(Setup::read(line.as_str())?);
-            continue;
-        };
-        requests.push(line)?;
-        if known.is_each {
-            print_block(&rt, setup, &mut requests)?;
-        }
+    for line in rt.lines(rt.alloc()) {
+        take_line(rt, &mut setup, requests, line?)?;
     }
-    print_block(&rt, setup, &mut requests)
+    print_block(rt, setup, requests)
+}
+
+/// Prints a line, behind what the block comes to that it ends, and gathers it where it is a request.
+fn take_line<R: Print + AllocGlobal>(
+    rt: &R,
+    setup: &mut Option<Setup>,
+    requests: &mut Vec<String>,
+    line: String,
+) -> io::Result<()> {
+    if line.is_empty() {
+        drop(line);
+        end_block(rt, setup, requests)?;
+        return println!(rt; "");
+    }
+    if let Err(error) = println!(rt; "{line}") {
+        drop(line);
+        return Err(error);
+    }
+    if line.starts_with('#') {
+        drop(line);
+        return Ok(());
+    }
+    let Some(known) = *setup else {
+        let read = Setup::read(line.as_str());
+        drop(line);
+        *setup = Some(read?);
+        return Ok(());
+    };
+    requests.push(line)?;
+    if known.is_each {
+        return print_block(rt, *setup, requests);
+    }
+    Ok(())
+}
+
+/// Prints what a block comes to, and forgets what engine it has.
+fn end_block<R: Print + AllocGlobal>(
+    rt: &R,
+    setup: &mut Option<Setup>,
+    requests: &mut Vec<String>,
+) -> io::Result<()> {
+    print_block(rt, *setup, requests)?;
+    *setup = None;
+    Ok(())
 }
 
 /// Prints what the requests of a block come to, if there are any, and forgets them.

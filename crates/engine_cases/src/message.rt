@@ -8,13 +8,40 @@ use std::io;
 /// A request of this id, type and content, under no key.
 pub(crate) fn request(alloc: Global, id: &str, kind: &str, content: &str) -> io::Result<Envelope> {
     let header = format!(in alloc; "{{\"msg_id\":\"{id}\",\"msg_type\":\"{kind}\"}}")?;
-    let mut frames = Vec::new(alloc);
-    for frame in ["<IDS|MSG>", "", header.as_str(), "{}", "{}", content] {
-        frames.push(Vec::from_slice(alloc, frame.as_bytes())?)?;
-    }
-    match open_envelope(alloc, &Signer::new(Vec::new(alloc)), frames) {
+    let texts = ["<IDS|MSG>", "", header.as_str(), "{}", "{}", content];
+    let frames = frames_of(alloc, &texts);
+    drop(header);
+    let frames = frames?;
+    let signer = Signer::new(Vec::new(alloc));
+    let opened = open_envelope(alloc, &signer, frames);
+    drop(signer);
+    match opened {
         Ok(envelope) => Ok(envelope),
         Err(_) => Err(io::Error::other("no request")),
+    }
+}
+
+/// The frames that hold these texts.
+fn frames_of(alloc: Global, texts: &[&str]) -> Result<Vec<Vec<u8>>, AllocError> {
+    let mut frames = Vec::new(alloc);
+    for text in texts {
+        if let Err(AllocError) = add_frame(alloc, text, &mut frames) {
+            drop(frames);
+            return Err(AllocError);
+        }
+    }
+    Ok(frames)
+}
+
+/// Adds the frame that holds a text.
+fn add_frame(alloc: Global, text: &str, frames: &mut Vec<Vec<u8>>) -> Result<(), AllocError> {
+    let frame = Vec::from_slice(alloc, text.as_bytes())?;
+    match frames.push(frame) {
+        Ok(()) => Ok(()),
+        Err(refused) => {
+            drop(refused);
+            Err(AllocError)
+        }
     }
 }
 
