@@ -19,9 +19,9 @@ const PERIOD: u64 = 1;
 pub enum Until {
     /// Until a client asks for its end.
     Asked,
-    /// Until a client asks for its end, or the process has another parent than when the kernel began: a client that
+    /// Until a client asks for its end, or the process has another parent than the one of this number: a client that
     /// ended without a word leaves no kernel behind.
-    ParentChanges(Process),
+    ParentChanges(Process, u32),
 }
 
 /// A thread that looks after the parent.
@@ -56,7 +56,7 @@ pub(crate) fn start_watch<R>(
 where
     R: Threads + Wait + Clock + Copy + Send + Sync + Drop + 'static,
 {
-    let Until::ParentChanges(process) = until else {
+    let Until::ParentChanges(process, parent) = until else {
         return Ok(None);
     };
     let control = control.clone()?;
@@ -64,8 +64,7 @@ where
         drop(control);
         return Err(ServeFault::OutOfMemory);
     };
-    let began = parent_id(process);
-    match thread::spawn(&rt, move || look(&rt, process, began, &control, &ended)) {
+    match thread::spawn(&rt, move || look(&rt, process, parent, &control, &ended)) {
         Ok(thread) => Ok(Some(Watch { ending, thread })),
         Err(error) => {
             drop(error);
@@ -79,7 +78,7 @@ where
 fn look<R: Wait + Clock>(
     rt: &R,
     process: Process,
-    began: u32,
+    parent: u32,
     control: &Sender<Note<Job>>,
     ended: &Receiver<()>,
 ) {
@@ -89,7 +88,7 @@ fn look<R: Wait + Clock>(
             Ok(()) | Err(RecvTimeoutError::Disconnected) => return,
         }
         // Where memory is refused the next look tries again.
-        if parent_id(process) != began && is_told(rt, control) {
+        if parent_id(process) != parent && is_told(rt, control) {
             return;
         }
     }
