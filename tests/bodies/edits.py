@@ -178,16 +178,17 @@ def own_functions(crate, body, functions):
 
 
 class CopiedFunction:
-    """The function that a wrong body changes, as it is with the wrong body, under a name of its own."""
+    """The function that a wrong body changes, with the wrong body or as it is, under a name of its own."""
 
     def __init__(self, path, end, name, text):
         # In which file it goes behind which line, counted from 0, and its last name and its text.
         self.path, self.end, self.name, self.text = path, end, name, text
 
 
-def copied_function(body, number, folder):
-    """A wrong body's function with the wrong body, as a copy to stand behind the function itself; or none, where the
-    wrong body changes more than the text of one function, or a method of a trait, which can't stand there twice."""
+def copied_function(body, ending, folder, is_right=False):
+    """A wrong body's function with the wrong body, or as it is, as a copy to stand after the function itself, with
+    this ending of its name. None where the wrong body changes more than the text of one function, or a method of a
+    trait, which can't stand there twice."""
     paths = {path for path, _, _ in body.pairs}
     if body.is_alone or body.is_outside or len(body.functions) != 1 or len(paths) != 1:
         return None
@@ -210,8 +211,8 @@ def copied_function(body, number, folder):
     for _, old, new in body.pairs:
         if text.count(old) != 1:
             return None
-        text = text.replace(old, new)
-    other = f"{name}_wrong{number}"
+        text = text if is_right else text.replace(old, new)
+    other = name + ending
     return CopiedFunction(path, end, other, re.sub(rf"\bfn {name}\b", f"fn {other}", text, count=1))
 
 

@@ -8,26 +8,42 @@ import re
 import threading
 
 from bodies.edits import is_own
-from bodies.repository import edits_of, folder_of, modules_kept, version
+from bodies.repository import edits_of, files_of, folder_of, modules_kept, version
 
 # What counts as refused, and what a key is made of: another number where either changes.
-FORM = "1"
+FORM = "2"
 # A call, in the text of an edit.
 CALL = re.compile(r"\b([a-z_][a-z0-9_]*)\s*(?:::<[^()]*>)?\(")
 
 
-@functools.cache
-def sums_of(path):
+# The name of a constant, in the text of an edit.
+CONSTANT = re.compile(r"\b[A-Z][A-Z0-9_]+\b")
+# The modules of a function from which its others are found.
+ROOTS = ("", ".Proof", ".Statement", ".Met")
+
+
+class Head:
     """What the prover wrote at the head of a kept module: the sums of its text, of what it is with all that it rests
-    on, and of what others see of it. They are the same in another folder, and whatever else changed."""
-    found = []
-    with open(path, "rb") as file:
-        for line in file:
-            if not line.startswith(b"--@"):
-                break
-            if line.startswith((b"--@ source ", b"--@ content ", b"--@ exports ")):
-                found.append(line.decode().strip())
-    return found
+    on, and of what others see of it; and the names of the modules that it names or saw. The sums are the same in
+    another folder, and whatever else changed."""
+
+    def __init__(self, path):
+        self.sums, self.names = [], set()
+        with open(path, "rb") as file:
+            for line in file:
+                if not line.startswith(b"--@"):
+                    break
+                words = line.decode().split()
+                if words[1] in ("source", "content", "exports"):
+                    self.sums.append(words[1:])
+                elif words[1] in ("import", "saw"):
+                    self.names.add(words[2])
+
+
+@functools.cache
+def head_of(path):
+    """The head of a kept module."""
+    return Head(path)
 
 
 class Keys:
@@ -38,38 +54,59 @@ class Keys:
         self.modules = modules_kept(crate)
 
     def key_of(self, body):
-        """A sum of a wrong body and of what it rests on, or none where what is kept doesn't tell: the toolchain, the
-        edit, the proof modules of each function that it changes, and the contracts in its crate of what its new text
-        calls. Where it changes something outside functions these are all modules of the crate."""
-        names = sorted(self.modules_for(body))
+        """A sum of a wrong body and of what its refusal rests on, or none where what is kept doesn't tell: the
+        toolchain, the edit, the proof modules of each function that it changes, and of what its new text names the
+        contracts and the constants in its crate. Where it changes something outside functions these are all modules
+        of the crate."""
+        names = self.modules_for(body)
         if not names:
             return None
-        found = hashlib.sha256(repr((FORM, version(), body.pairs)).encode())
-        for name in names:
-            found.update(repr((name, sums_of(self.modules[name]))).encode())
+        found = hashlib.sha256(repr((FORM, version(), body.pairs, self.constants_of(body))).encode())
+        for name in sorted(names):
+            found.update(repr((name, head_of(self.modules[name]).sums)).encode())
         return found.hexdigest()[:40]
 
     def modules_for(self, body):
         """The names of the modules that a wrong body's refusal rests on."""
+        if not self.functions:
+            return set()
         if body.is_outside or any(name is None for _, _, name in body.functions):
             return set(self.modules)
         own = [it for it in self.functions if is_own(self.crate, body, it.replace("+", ""))]
         own = [it.partition("::")[2].replace("::", ".") for it in own]
+        of_own = self.modules_of(own)
         calls = {it for _, _, new in body.pairs for it in CALL.findall(new)}
-        return {name for name in self.modules if self.is_of(name, own) or self.is_contract(name, calls)}
+        return of_own | {it for it in self.modules if self.is_contract(it, calls)} if of_own else set()
 
-    def is_of(self, name, functions):
-        """Whether a module is of one of these functions: its contract, its code, and its proof."""
-        for front in (f"Rattle-{self.crate}-proofs.", f"Rattle-{self.crate}-specs.contracts."):
-            if name.startswith(front):
-                rest = name.removeprefix(front)
-                return any(rest == it or rest.startswith(it + ".") for it in functions)
-        return False
+    def modules_of(self, functions):
+        """The modules of these functions: their contracts, their code, their proofs, and what stands below them of
+        their own. What an earlier text left is not among them."""
+        fronts = (f"Rattle-{self.crate}-proofs.", f"Rattle-{self.crate}-specs.contracts.")
+        due = [front + it + root for front in fronts for it in functions for root in ROOTS]
+        own = tuple(front + it + "." for front in fronts for it in functions)
+        found = set()
+        while due:
+            name = due.pop()
+            if name in self.modules and name not in found:
+                found.add(name)
+                due += [it for it in head_of(self.modules[name]).names if it.startswith(own)]
+        return found
 
     def is_contract(self, name, calls):
         """Whether a module is the contract of a function of one of these names."""
         front = f"Rattle-{self.crate}-specs.contracts."
         return name.startswith(front) and name.rpartition(".")[2] in calls
+
+    def constants_of(self, body):
+        """The lines of the crate that declare the constants which a wrong body's new text names."""
+        names = {it for _, _, new in body.pairs for it in CONSTANT.findall(new)}
+        declares = re.compile(rf"^\s*(?:pub(?:\([a-z]+\))? )?(?:const|static) (?:{'|'.join(sorted(names))})\b.*", re.M)
+        found = []
+        for path in sorted(files_of(self.crate)) if names else []:
+            if path.endswith(".rt"):
+                with open(path, encoding="utf-8") as file:
+                    found += declares.findall(file.read())
+        return found
 
 
 class Refused:

@@ -25,7 +25,9 @@ class Checked:
         # The last word of a check is that the crate is proved or isn't, or how many of some functions are.
         self.is_proved = status == 0 and any(it.startswith("logic=proved ") for it in self.lines)
         self.reached_prover = self.is_proved or any(re.match(r"logic=not-proved|only=\d", it) for it in self.lines)
-        self.functions = [it[1] for it in (re.match(r"fn (\S+): ", line) for line in self.lines) if it]
+        said = [it for it in (re.match(r"fn (\S+): (proved$)?", line) for line in self.lines) if it]
+        self.functions = [it[1] for it in said]
+        self.proved = {it[1] for it in said if it[2]}
         # By function: what the prover couldn't prove of it itself, and whether it is more than a name taken away.
         self.refused, self.waits = {}, {}
         # By function: why the checker tried no contract of it. By block: the methods that it waits for.

@@ -65,15 +65,16 @@ def kept_of(crate):
 
 
 def modules_kept(crate):
-    """The files of the proof modules that were kept of a crate, by the name of the module; none where none were."""
+    """The files of the proof modules that were kept of a crate, by the name of the module; none unless they are of one
+    build of the toolchain."""
     kept = kept_of(crate)
-    found = {}
-    for build in os.listdir(kept) if os.path.isdir(kept) else []:
-        folder = os.path.join(kept, build)
-        for name in os.listdir(folder) if os.path.isdir(folder) else []:
-            if name.endswith(".oantt"):
-                found[name.removesuffix(".oantt")] = os.path.join(folder, name)
-    return found
+    # What a check that failed looked for stands in a folder of its own.
+    builds = [it for it in (os.listdir(kept) if os.path.isdir(kept) else []) if not it.endswith("-offers")]
+    folders = [it for it in (os.path.join(kept, build) for build in builds) if os.path.isdir(it)]
+    if len(folders) != 1:
+        return {}
+    names = [it for it in os.listdir(folders[0]) if it.endswith(".oantt")]
+    return {it.removesuffix(".oantt"): os.path.join(folders[0], it) for it in names}
 
 
 @functools.cache

@@ -162,6 +162,9 @@ KINDS = {
         ("sample", "file: src/lib.rt", "old: requires small { n < 50 }", "new: requires little { n < 50 }"),
         "sample/another_name: FAILED: refused only because a proof names what it took away: ",
     ),
+    "harmless_with_a_proof_file": (
+        ("sample", "file: src/lib.rt", "old: m + m + m", "new: (m + m) + m"), "sample/harmless_with_a_proof_file: FAILED: not refused: ",
+    ),
     "harmless": (("sample", "file: src/lib.rt", "old: cap(n) + 1", "new: 1 + cap(n)"), "sample/harmless: FAILED: not refused: "),
     "no_code": (("sample", "file: src/lib.rt", "old: 2 * twice(n)", "new: 2 * thrive(n)"), "sample/no_code: FAILED: bad edit: it did not reach the prover"),
     "nowhere": (("base_sample", "file: src/lib.rt", "old: nothing.of.this()", "new: 0"), "base_sample/nowhere: FAILED: bad edit: an old text stands 0 times"),

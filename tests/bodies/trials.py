@@ -158,7 +158,8 @@ class Trial:
 
 
 class Copies(Trial):
-    """Wrong bodies in copies of their functions, which stand behind the functions themselves: one check of them all."""
+    """Wrong bodies in copies of their functions, which stand after the functions themselves: one check of them all. A
+    copy of each function as it is stands beside them: only where that is proved does a refusal say something."""
 
     def try_all(self, due):
         """Tries them in one check, and alone those that weren't refused in it."""
@@ -168,18 +169,21 @@ class Copies(Trial):
 
     def try_copies(self, due):
         """Tells those wrong bodies whose copy is refused, and returns the others."""
-        copies, texts = {}, {}
+        copies, controls, texts = {}, {}, {}
         for number, body in enumerate(due):
             own = self.own_functions(body)
-            copied = copied_function(body, number, self.copy.folder) if len(own) == 1 else None
-            if copied and not self.copy.has_cycle(own[0]):
-                copies[body] = copied
-                texts.update(self.proof_files(own[0], copied.name))
-        texts.update(with_copies(copies.values(), self.copy.folder))
-        names = {body: f"{self.own_functions(body)[0].rpartition('::')[0]}::{it.name}" for body, it in copies.items()}
+            copied = self.copied(own, body, f"_wrong{number}", texts)
+            if copied:
+                copies[body] = (own[0], copied)
+                if own[0] not in controls:
+                    controls[own[0]] = self.copied(own, body, f"_right{number}", texts, is_right=True)
         if not copies:
             return due
-        said = self.copy.check(texts, list(names.values()))
+        both = [*(it for _, it in copies.values()), *controls.values()]
+        texts.update(with_copies(both, self.copy.folder))
+        names = {body: beside(own, it) for body, (own, it) in copies.items()}
+        rights = {own: beside(own, it) for own, it in controls.items()}
+        said = self.copy.check(texts, [*names.values(), *rights.values()])
         if not said.reached_prover or said.unread(texts):
             # One that can't be read hides the others.
             middle = len(due) // 2
@@ -187,11 +191,20 @@ class Copies(Trial):
         unseen = []
         for body in due:
             why, is_contract = said.refused.get(names.get(body), ("", False))
-            if is_contract:
-                self.tell(body, Outcome.OWN, f"{self.own_functions(body)[0]}: {why[:200]}")
+            if is_contract and rights[copies[body][0]] in said.proved:
+                self.tell(body, Outcome.OWN, f"{copies[body][0]}: {why[:200]}")
             else:
                 unseen.append(body)
         return unseen
+
+    def copied(self, own, body, ending, texts, is_right=False):
+        """A copy of a wrong body's function, if there can be one; the files of its proof go to the texts."""
+        if len(own) != 1 or self.copy.has_cycle(own[0]):
+            return None
+        copied = copied_function(body, ending, self.copy.folder, is_right)
+        if copied:
+            texts.update(self.proof_files(own[0], copied.name))
+        return copied
 
     def proof_files(self, path, name):
         """The files of the proof of a function, for its copy of that name."""
@@ -201,6 +214,11 @@ class Copies(Trial):
         files = self.copy.proof_files(path)
         renamed = {it: text.replace(f"{front}.{last}.", f"{front}.{name}.") for it, text in files.items()}
         return {os.path.join(folder, it): text for it, text in renamed.items()}
+
+
+def beside(path, copied):
+    """How the prover names a copy of the function that it names so."""
+    return f"{path.rpartition('::')[0]}::{copied.name}"
 
 
 class Rounds(Trial):
@@ -290,15 +308,16 @@ class Rounds(Trial):
 
 
 def trials_of(proof, room, bodies, tell):
-    """The wrong bodies of a crate in trials: as copies of their functions those that can stand so, and the others; in
-    each those of the main promises first, and those of one function in different ones."""
-    in_turn = sorted(bodies, key=lambda it: (not it.is_main, sorted(map(str, it.functions))))
-    copied = [it for it in in_turn if not it.bad and copied_function(it, 0, folder_of(it.crate))]
+    """The wrong bodies of a crate in trials: as copies of their functions those that can stand so, those of one
+    function together, and the others, those of one function apart, since they would take a round each."""
+    in_turn = sorted(bodies, key=lambda it: sorted(map(str, it.functions)))
+    copied = [it for it in in_turn if not it.bad and copied_function(it, "_wrong", folder_of(it.crate))]
     others = [it for it in in_turn if it not in copied]
     found = []
-    for kind, its, size in ((Copies, copied, COPIES), (Rounds, others, LANE)):
-        count = -(-len(its) // size)
-        for at in range(count):
-            folder = os.path.join(room, proof.crate, f"{kind.__name__.lower()}{at}")
-            found.append(kind(proof, folder, its[at::count], tell))
+    for at in range(0, len(copied), COPIES):
+        folder = os.path.join(room, proof.crate, f"copies{at}")
+        found.append(Copies(proof, folder, copied[at : at + COPIES], tell))
+    count = -(-len(others) // LANE)
+    for at in range(count):
+        found.append(Rounds(proof, os.path.join(room, proof.crate, f"rounds{at}"), others[at::count], tell))
     return found
