@@ -208,11 +208,13 @@ def copied_function(body, ending, folder, is_right=False):
     text = "\n".join(lines[start : end + 1])
     if "#[cycle(" in text or end < place:
         return None
+    changed = text
     for _, old, new in body.pairs:
-        if text.count(old) != 1:
+        if changed.count(old) != 1:
             return None
-        text = text if is_right else text.replace(old, new)
+        changed = changed.replace(old, new)
     other = name + ending
+    text = text if is_right else changed
     return CopiedFunction(path, end, other, re.sub(rf"\bfn {name}\b", f"fn {other}", text, count=1))
 
 
