@@ -1,0 +1,59 @@
+-- The heartbeat: what a peer of a REP socket says comes back.
+use Rattle.std.specs.Prelude.{◌≡◌, ◌⊎◌, ℕ, List, [], ◌++◌, false, Result, Ok, Err}
+use Rattle.std.specs.List.{flat_map}
+use Rattle.zmtp_wire.specs.declared.handshake.socket_type.SocketType.{SocketType}
+use Rattle.zmtp_wire.specs.declared.handshake.socket_type.SocketType.TheVariants.{Rep}
+use Rattle.zmtp_wire.specs.declared.traffic.message.Message.{Message}
+use Rattle.zmtp_wire.specs.declared.traffic.Traffic.{Traffic}
+use Rattle.zmtp_wire.specs.declared.traffic.Traffic.TheVariants as traffic
+use Rattle.zmtp_wire.specs.Frame.{text}
+use Rattle.zmtp_wire.specs.Limits.{usual_limits}
+use Rattle.zmtp_wire.specs.Grammar.{ReadsUpTo}
+use Rattle.zmtp_wire.specs.Traffic.{is_error}
+use Rattle.zmtp_connection.specs.declared.server.Answered.{Answered}
+use Rattle.zmtp_connection.specs.declared.server.Answered.TheVariants.{Done, Dropped}
+use Rattle.zmtp_connection.specs.declared.fault.ConnectionFault.TheVariants.{Memory, Write}
+use Rattle.zmtp_connection.specs.declared.end.ConnectionEnd.{ConnectionEnd}
+use Rattle.zmtp_connection.specs.declared.end.ConnectionEnd.TheVariants.{Failed}
+use Rattle.zmtp_connection.specs.Peer.{IsCalm, BeginsWith, IsMet}
+use Rattle.zmtp_connection.specs.Listen.{RunsOut}
+use Rattle.zmtp_connection.specs.Server.{BreaksIn}
+use Rattle.zmtp_connection.specs.Steps.{TurnsAway}
+
+-- a message is answered by its own text, or by nothing for want of memory, which ends it
+abbrev pub EchoesOne : {End : Type 0} → Message → List ℕ → Result Answered End → Type 0
+EchoesOne message reply (Ok Done) = reply ≡ text message
+EchoesOne message reply (Ok Dropped) = ⊥
+EchoesOne message reply (Err end) = reply ≡ []
+
+-- what comes back of traffic: a message whole, and nothing of a command
+abbrev pub echo_of : Traffic → List ℕ
+echo_of (traffic.Message message) = text message
+echo_of (traffic.Command name rest) = []
+
+-- The heartbeat ended at one traffic, which isn't the command ERROR, behind traffic that came back: there was no
+-- memory for it, or a write failed in it.
+pub record IsCutShort (opening : List ℕ) (traffic : List Traffic) (rest written : List ℕ) (end : ConnectionEnd)
+    : Type 0 where
+  pub last : Traffic
+  pub comes : BeginsWith rest last
+  pub harmless : is_error last ≡ false
+  pub how : ((end ≡ Failed Memory) × (written ≡ opening ++ flat_map echo_of traffic))
+      ⊎ ((end ≡ Failed Write) × BreaksIn (opening ++ flat_map echo_of traffic) (echo_of last) written)
+
+-- A peer was met, and each of its messages came back whole, behind what opens the connection.
+pub record IsEchoed (octets written : List ℕ) (end : ConnectionEnd) : Type 0 where
+  pub opening : List ℕ
+  pub peer : SocketType
+  pub behind : List ℕ
+  pub met : IsMet Rep octets opening peer behind
+  pub traffic : List Traffic
+  pub rest : List ℕ
+  pub read : ReadsUpTo usual_limits behind traffic rest
+  pub calm : IsCalm traffic
+  pub ends : (RunsOut rest end × (written ≡ opening ++ flat_map echo_of traffic))
+      ⊎ IsCutShort opening traffic rest written end
+
+-- what a peer comes to with the heartbeat, by the way it ended: it was turned away, or its messages came back
+abbrev pub Echoes : ConnectionEnd → List ℕ → List ℕ → Type 0
+Echoes end octets written = TurnsAway Rep end octets written ⊎ IsEchoed octets written end

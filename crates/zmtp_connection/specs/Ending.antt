@@ -1,0 +1,10 @@
+-- How hearing or serving a peer ended.
+use Rattle.std.specs.Prelude.{Option, Some, None}
+use Rattle.zmtp_connection.specs.declared.end.ConnectionEnd.{ConnectionEnd}
+use Rattle.zmtp_connection.specs.declared.end.Ending.{Ending}
+use Rattle.zmtp_connection.specs.declared.end.Ending.TheVariants.{Connection, Host}
+
+-- how the connection ended it, or none where what hears or serves the peer did
+abbrev pub of_connection : {End : Type 0} → Ending End → Option ConnectionEnd
+of_connection (Connection end) = Some end
+of_connection (Host end) = None

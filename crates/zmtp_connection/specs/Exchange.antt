@@ -1,0 +1,126 @@
+-- An exchange with a peer over an inlet and an outlet: what was read and written, in how many turns, and what it
+-- comes to by the way it ended.
+use Rattle.std.specs.Prelude.{◌≡◌, ◌⊎◌, ℕ, ◌+◌, ◌<◌, ◌≤◌, List, ◌++◌, length, Option, Some, None}
+use Rattle.std.specs.Io.KnownBytes.{IsAtEnd}
+use Rattle.zmtp_wire.specs.declared.fault.WireFault.TheVariants.{OutOfMemory}
+use Rattle.zmtp_wire.specs.Device.{Inflow, Outflow, Draws, Puts}
+use Rattle.zmtp_connection.specs.declared.fault.ConnectionFault.TheVariants.{Memory, Read, Write, Turns}
+use Rattle.zmtp_connection.specs.declared.end.ConnectionEnd.{ConnectionEnd}
+use Rattle.zmtp_connection.specs.declared.end.ConnectionEnd.TheVariants.{Eof, Wire, Failed}
+
+-- What is read from: an inlet, and how many turns are left.
+pub record Source : Type 0 where
+  pub inflow : Inflow
+  pub turns : ℕ
+
+-- The devices of a connection: what is read from, and what is written to.
+pub record Devices : Type 0 where
+  pub source : Source
+  pub outflow : Outflow
+
+-- an inlet, with so many turns left
+abbrev pub source_at : Inflow → ℕ → Source
+source_at inflow turns = record { inflow = inflow; turns = turns }
+
+-- an inlet, with so many turns left, and an outlet
+abbrev pub devices_at : Inflow → ℕ → Outflow → Devices
+devices_at inflow turns outflow = record { source = source_at inflow turns; outflow = outflow }
+
+-- reads and writes that came to nothing: reads that failed, reads that gave no octet, and writes that failed
+pub record Misses : Type 0 where
+  pub failed_reads : ℕ
+  pub empty_reads : ℕ
+  pub failed_writes : ℕ
+
+-- there are none
+abbrev pub no_misses : Misses
+no_misses = record { failed_reads = 0; empty_reads = 0; failed_writes = 0 }
+
+-- those of an exchange that the connection ended so: the read or write that ended it, or none
+abbrev pub misses : ConnectionEnd → Misses
+misses Eof = record { failed_reads = 0; empty_reads = 1; failed_writes = 0 }
+misses (Wire fault) = no_misses
+misses (Failed Memory) = no_misses
+misses (Failed Read) = record { failed_reads = 1; empty_reads = 1; failed_writes = 0 }
+misses (Failed Write) = record { failed_reads = 0; empty_reads = 0; failed_writes = 1 }
+misses (Failed Turns) = no_misses
+
+-- how many reads failed: the one that ended the exchange, or none
+abbrev pub failed_reads : ConnectionEnd → ℕ
+failed_reads end = (misses end).failed_reads
+
+-- how many reads gave no octet: the one that found the end or failed, or none
+abbrev pub empty_reads : ConnectionEnd → ℕ
+empty_reads end = (misses end).empty_reads
+
+-- how many writes failed: the one that ended the exchange, or none
+abbrev pub failed_writes : ConnectionEnd → ℕ
+failed_writes end = (misses end).failed_writes
+
+-- the same of an exchange that the connection ended or not: where it didn't, none failed
+abbrev pub failed_writes_of : Option ConnectionEnd → ℕ
+failed_writes_of (Some end) = failed_writes end
+failed_writes_of None = 0
+
+-- no turn is left where the exchange ended for want of one
+abbrev pub IsOutOfTurns : ℕ → ConnectionEnd → Type 0
+IsOutOfTurns left end = end ≡ Failed Turns → left ≡ 0
+
+-- no octet is left where the exchange ended with the peer's last one
+abbrev pub IsReadOut : Option (List ℕ) → ConnectionEnd → Type 0
+IsReadOut left end = end ≡ Eof → IsAtEnd left
+
+-- These octets were read, one turn a read, with no more reads than octets, and none failed.
+pub record Leg (old new : Source) (octets : List ℕ) : Type 0 where
+  pub taken : ℕ
+  pub draws : Draws old.inflow new.inflow octets taken 0
+  pub counted : old.turns ≡ new.turns + taken
+  pub few : taken ≤ length octets
+
+-- What was read up to the end of an exchange: these octets, one turn a read, and no more reads than octets came,
+-- but for the one that found the end or failed.
+pub record Reading (old new : Source) (octets : List ℕ) (end : ConnectionEnd) : Type 0 where
+  pub taken : ℕ
+  pub draws : Draws old.inflow new.inflow octets taken (failed_reads end)
+  pub counted : old.turns ≡ new.turns + taken
+  pub few : taken ≤ length octets + empty_reads end
+  pub spent : IsOutOfTurns new.turns end
+  pub read_out : IsReadOut new.inflow.left end
+
+-- what was read up to the end of an exchange that the connection ended or not: where it didn't, no read failed or found
+-- the end
+abbrev pub ReadingOf : Source → Source → List ℕ → Option ConnectionEnd → Type 0
+ReadingOf old new octets (Some end) = Reading old new octets end
+ReadingOf old new octets None = Leg old new octets
+
+-- These octets were written: all that a beginning of the octets read comes to.
+pub record IsCut (Comes : List ℕ → List ℕ → ConnectionEnd → Type 0) (octets written : List ℕ) : Type 0 where
+  pub front : List ℕ
+  pub behind : List ℕ
+  pub split : octets ≡ front ++ behind
+  pub so_far : Comes front written Eof
+
+-- What the octets that were read come to, by the way the exchange ended. Where the peer's octets ended it, it is
+-- what all of them come to. A read that failed and a want of turns leave it as it was so far. Where memory was
+-- refused, all was written of what a beginning of the octets comes to; where a write failed, a beginning of that, and
+-- not all.
+abbrev pub ComesToByEnd : (List ℕ → List ℕ → ConnectionEnd → Type 0) → List ℕ → List ℕ → ConnectionEnd → Type 0
+ComesToByEnd Comes octets written Eof = Comes octets written Eof
+ComesToByEnd Comes octets written (Wire fault) =
+    ((fault ≡ OutOfMemory) × IsCut Comes octets written) ⊎ Comes octets written (Wire fault)
+ComesToByEnd Comes octets written (Failed Read) = Comes octets written Eof
+ComesToByEnd Comes octets written (Failed Turns) = Comes octets written Eof
+ComesToByEnd Comes octets written (Failed Write) =
+    (lost : List ℕ) × (0 < length lost) × IsCut Comes octets (written ++ lost)
+ComesToByEnd Comes octets written (Failed Memory) = IsCut Comes octets written
+
+-- A whole exchange, which the connection ended so, or none where something else did: what was read, what was written,
+-- and what the one comes to as the other. Any read may fail and any write may, and no end has both; so what is due is
+-- written before a read, and nothing behind one that failed.
+pub record Exchange (Comes : List ℕ → List ℕ → Type 0) (old new : Devices) (end : Option ConnectionEnd)
+    : Type 0 where
+  pub read : List ℕ
+  pub written : List ℕ
+  pub reading : ReadingOf old.source new.source read end
+  pub puts : Puts old.outflow new.outflow written (failed_writes_of end)
+  pub outcome : Comes read written

@@ -1,0 +1,43 @@
+-- The steps of listening, by what each of them handed on.
+use Rattle.std.specs.Prelude.{◌≡◌, ◌⊎◌, List, ◌∷◌, ◌++◌, true, false, Result, Ok, Err, Option, Some, None}
+use Rattle.zmtp_wire.specs.declared.fault.WireFault.{WireFault}
+use Rattle.zmtp_wire.specs.declared.fault.WireFault.TheVariants.{PeerError}
+use Rattle.zmtp_wire.specs.declared.traffic.Traffic.{Traffic}
+use Rattle.zmtp_wire.specs.Traffic.{is_error}
+use Rattle.zmtp_connection.specs.declared.end.ConnectionEnd.TheVariants.{Wire}
+use Rattle.zmtp_connection.specs.declared.end.Ending.{Ending}
+use Rattle.zmtp_connection.specs.declared.end.Ending.TheVariants.{Connection, Host}
+use Rattle.zmtp_connection.specs.Peer.{IsCalm}
+use Rattle.zmtp_connection.specs.Listen.{Hearing, HearsAll}
+
+-- The traffic in front of one was handed on, and none of it ended listening.
+pub record HandsUpTo {Listener End : Type 0} (hears : Hearing Listener End) (old : Listener) (traffic : List Traffic)
+    (last : Traffic) (now : Listener) : Type 0 where
+  pub front : List Traffic
+  pub behind : List Traffic
+  pub split : traffic ≡ front ++ last ∷ behind
+  pub calm : IsCalm front
+  pub handed : HearsAll hears old front now
+
+-- traffic ended listening: by a command ERROR, or where the listener did so
+abbrev pub HandsFront : {Listener End : Type 0} → Hearing Listener End → Listener → List Traffic → Listener
+    → Ending End → Type 0
+HandsFront hears old traffic new (Connection end) =
+    (last : Traffic) × (is_error last ≡ true) × (end ≡ Wire PeerError) × HandsUpTo hears old traffic last new
+HandsFront {Listener} hears old traffic new (Host end) =
+    (last : Traffic) × (now : Listener) × (is_error last ≡ false) × hears now last new (Err end)
+    × HandsUpTo hears old traffic last now
+
+-- all of the traffic was handed on, or it ended listening
+abbrev pub HandsSome : {Listener End : Type 0} → Hearing Listener End → Listener → List Traffic → Listener
+    → Result Unit (Ending End) → Type 0
+HandsSome hears old traffic new (Ok done) = IsCalm traffic × HearsAll hears old traffic new
+HandsSome hears old traffic new (Err ending) = HandsFront hears old traffic new ending
+
+-- what a piece brought was handed on, and then its fault ended listening, if it has one
+abbrev pub HandsFed : {Listener End : Type 0} → Hearing Listener End → Listener → List Traffic → Option WireFault
+    → Listener → Result Unit (Ending End) → Type 0
+HandsFed hears old traffic fault new (Ok done) = (fault ≡ None) × (IsCalm traffic × HearsAll hears old traffic new)
+HandsFed hears old traffic fault new (Err ending) = HandsFront hears old traffic new ending
+    ⊎ ((found : WireFault) × (fault ≡ Some found) × (ending ≡ Connection (Wire found))
+    × (IsCalm traffic × HearsAll hears old traffic new))

@@ -1,0 +1,13 @@
+pub mod Echo
+pub mod Ending
+pub mod Exchange
+pub mod Fault
+pub mod Handing
+pub mod Intake
+pub mod Laws
+pub mod Listen
+pub mod Open
+pub mod Peer
+pub mod Respond
+pub mod Server
+pub mod Steps

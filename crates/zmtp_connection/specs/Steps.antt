@@ -1,0 +1,62 @@
+-- The steps of an exchange, by what each of them did.
+use Rattle.std.specs.Prelude.{◌≡◌, ◌⊎◌, ℕ, ◌+◌, ◌<◌, List, [], ◌++◌, length, false, Result, Ok, Err}
+use Rattle.zmtp_wire.specs.declared.fault.WireFault.{WireFault}
+use Rattle.zmtp_wire.specs.declared.fault.WireFault.TheVariants.{OutOfMemory}
+use Rattle.zmtp_wire.specs.declared.handshake.socket_type.SocketType.{SocketType}
+use Rattle.zmtp_wire.specs.declared.traffic.decoder.Fed.{Fed}
+use Rattle.zmtp_wire.specs.Limits.{usual_limits}
+use Rattle.zmtp_wire.specs.Grammar.{HasNoTraffic, IsFaulty, IsUnfinished}
+use Rattle.zmtp_wire.specs.Decoding.{Decoding, Feeds}
+use Rattle.zmtp_wire.specs.Device.{Outflow, Puts}
+use Rattle.zmtp_connection.specs.declared.fault.ConnectionFault.TheVariants.{Read, Write, Turns}
+use Rattle.zmtp_connection.specs.declared.end.ConnectionEnd.{ConnectionEnd}
+use Rattle.zmtp_connection.specs.declared.end.ConnectionEnd.TheVariants.{Eof, Wire, Failed}
+use Rattle.zmtp_connection.specs.Peer.{IsTurnedAway}
+use Rattle.zmtp_connection.specs.Exchange.{Source, Leg, ComesToByEnd}
+
+-- The last read that brought these octets, and what was read before it.
+pub record LastRead (old new : Source) (octets : List ℕ) : Type 0 where
+  pub front : List ℕ
+  pub piece : List ℕ
+  pub split : octets ≡ front ++ piece
+  pub middle : Source
+  pub before : Leg old middle front
+  pub read : Leg middle new piece
+  pub one : middle.turns ≡ new.turns + 1
+
+-- The last read brought an octet in front of those that stand behind: nothing was read once all in front had come.
+pub record IsPrompt (old new : Source) (octets behind : List ℕ) : Type 0 where
+  pub last : LastRead old new octets
+  pub needed : length behind < length last.piece
+
+-- reading ended with nothing decided: by the last octet, a read that failed or a want of turns
+abbrev pub IsStop : ConnectionEnd → Type 0
+IsStop end = (end ≡ Eof) ⊎ ((end ≡ Failed Read) ⊎ (end ≡ Failed Turns))
+
+-- a decoder that has read nothing
+abbrev pub fresh : Decoding
+fresh = record { limits = usual_limits; kept = []; spent = false }
+
+-- what a decoder made of octets, and what it is then, as if they had come in one piece
+abbrev pub IsFed : Fed → Decoding → List ℕ → Type 0
+IsFed fed decoder octets = Feeds fresh octets fed.traffic fed.fault decoder × (decoder.limits ≡ usual_limits)
+
+-- octets were written, or a beginning of them and not all before a write failed, and nothing else ends it
+abbrev pub PutsAll : Outflow → Outflow → List ℕ → Result Unit ConnectionEnd → Type 0
+PutsAll before after octets (Ok done) = Puts before after octets 0
+PutsAll before after octets (Err end) = (end ≡ Failed Write)
+    × ((front : List ℕ) × (lost : List ℕ) × (octets ≡ front ++ lost) × (0 < length lost) × Puts before after front 1)
+
+-- what a peer that wasn't met comes to, by the way the exchange ended
+abbrev pub TurnsAway : SocketType → ConnectionEnd → List ℕ → List ℕ → Type 0
+TurnsAway ours end octets written = ComesToByEnd (IsTurnedAway ours) octets written end
+
+-- The first traffic behind a peer's greeting came: no whole traffic stood in what was read before the last read.
+pub record ComesLate (old new : Source) (octets : List ℕ) : Type 0 where
+  pub last : LastRead old new octets
+  pub nothing : HasNoTraffic usual_limits last.front
+
+-- octets behind a peer's greeting bring no whole traffic: reading stopped, or they are refused, or memory was
+abbrev pub BringsNothing : List ℕ → ConnectionEnd → Type 0
+BringsNothing octets end = (IsStop end × IsUnfinished usual_limits octets)
+    ⊎ ((fault : WireFault) × (end ≡ Wire fault) × ((fault ≡ OutOfMemory) ⊎ IsFaulty usual_limits octets fault))

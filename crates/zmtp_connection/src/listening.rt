@@ -1,0 +1,162 @@
+//! Listening to a peer: one loop over what it says behind its READY, which hands each whole traffic to a listener.
+
+ghost use Rattle.std.specs.Prelude.{◌≡◌, ◌≤◌, ℕ, List, length, take, false, None};
+ghost use Rattle.zmtp_wire.specs.declared.fault.WireFault.{WireFault};
+ghost use Rattle.zmtp_wire.specs.declared.traffic.Traffic.{Traffic};
+ghost use Rattle.zmtp_wire.specs.declared.traffic.decoder.Fed.{Fed};
+ghost use Rattle.zmtp_wire.specs.Decoding.{Feeds};
+ghost use Rattle.zmtp_connection.specs.Exchange.{source_at};
+ghost use Rattle.zmtp_connection.specs.Listen.{Hearing, Listens};
+ghost use Rattle.zmtp_connection.specs.Open.{IsLeftOf, OfUnheard, heard_out};
+ghost use Rattle.zmtp_connection.specs.Handing.{HandsSome, HandsFed};
+
+use crate::end::{ConnectionEnd, Ending};
+use crate::fault::ConnectionFault;
+use crate::shaking::{OpenPeer, Unheard};
+use crate::turn::read_turn;
+use listed::Row;
+use std::alloc::Global;
+use zmtp_wire::{Decoder, Fed, Inlet, Traffic, WireFault};
+
+/// How many octets one read asks for. A connection holds as many while it waits.
+const PIECE: usize = 4_096;
+
+/// What hears the traffic of a peer.
+pub trait Listener {
+    /// How the listener may end listening.
+    type End: Drop;
+
+    /// One step: what the listener was, the traffic, what the listener is then, and how it ends listening, if so.
+    ghost hears: { Hearing Self Self.End };
+
+    /// The ghost names of the references that the listener holds, which no step changes.
+    ghost names: { Self → List ℕ };
+
+    /// Hears traffic of the peer, which is never the command ERROR.
+    ///
+    /// # Errors
+    ///
+    /// Where the listener ends listening: how. Nothing more is read then.
+    fn hear(&mut self, alloc: Global, traffic: Traffic) -> Result<(), Self::End>
+        ensures names { names self.new ≡ names self.old }
+        ensures hears { hears self.old traffic self.new result };
+}
+
+/// Listens to an open peer: hands each traffic that it sends behind its READY to the listener, whole and in order, up
+/// to a command ERROR, which ends it. What came with READY is handed on first. The connection ends listening with the
+/// peer's octets, where they are refused, or where a read fails, memory is refused or no turn is left; or the listener
+/// ends it. At most `turns` reads are made.
+///
+/// A peer is heard once: any end is for good, and nothing is left to hear. A further call reads nothing, hands nothing
+/// on, and ends as the connection with `Wire(Spent)`.
+pub fn listen<R: Inlet, L: Listener>(
+    alloc: Global,
+    reader: &mut R,
+    listener: &mut L,
+    peer: &mut OpenPeer,
+    turns: u64,
+) -> Ending<L::End>
+    ensures names { L.names listener.new ≡ L.names listener.old }
+    ensures over { peer.new ≡ heard_out peer.old }
+    ensures listens { OfUnheard peer.old.unheard (λ before. (left : ℕ) × Listens L.hears listener.old before
+        (source_at (R.inflow reader.old) turns) (source_at (R.inflow reader.new) left) listener.new result) }
+    ensures spent { peer.old.unheard ≡ None → (result ≡ Ending.Connection (ConnectionEnd.Wire WireFault.Spent))
+        × (R.inflow reader.new ≡ R.inflow reader.old) × (listener.new ≡ listener.old) × (peer.new ≡ peer.old) }
+{
+    match peer.take() {
+        Some(unheard) => listen_on(alloc, reader, listener, unheard, turns),
+        None => Ending::Connection(ConnectionEnd::Wire(WireFault::Spent)),
+    }
+}
+
+/// Listens with what is left to hear.
+fn listen_on<R: Inlet, L: Listener>(
+    alloc: Global,
+    reader: &mut R,
+    listener: &mut L,
+    unheard: Unheard,
+    turns: u64,
+) -> Ending<L::End>
+    ensures names { L.names listener.new ≡ L.names listener.old }
+    ensures listens { (before : List ℕ) → IsLeftOf unheard before → (left : ℕ) × Listens L.hears listener.old before
+        (source_at (R.inflow reader.old) turns) (source_at (R.inflow reader.new) left) listener.new result }
+{
+    let Unheard { fed, mut decoder } = unheard;
+    if let Err(ending) = hand_fed(alloc, listener, fed) {
+        drop(decoder);
+        return ending;
+    }
+    let Ok(mut piece) = vec![in alloc; 0u8; PIECE] else {
+        drop(decoder);
+        return Ending::Connection(ConnectionEnd::Failed(ConnectionFault::Memory));
+    };
+    let mut left = turns;
+    loop {
+        let count = match read_turn(reader, &mut piece, &mut left) {
+            Ok(count) => count,
+            Err(end) => {
+                drop(piece);
+                drop(decoder);
+                return Ending::Connection(end);
+            }
+        };
+        if let Err(ending) = hand_piece(alloc, listener, &mut decoder, &piece, count) {
+            drop(piece);
+            drop(decoder);
+            return ending;
+        }
+    }
+}
+
+/// Hands on what so many octets at the front of a piece bring.
+fn hand_piece<L: Listener>(
+    alloc: Global,
+    listener: &mut L,
+    decoder: &mut Decoder,
+    piece: &[u8],
+    count: usize,
+) -> Result<(), Ending<L::End>>
+    requires { count ≤ length piece.now }
+    ensures names { L.names listener.new ≡ L.names listener.old }
+    ensures limits { decoder.new.limits ≡ decoder.old.limits }
+    ensures hands { (fed : Fed) × (decoder.old.spent ≡ false
+        → Feeds decoder.old (take count piece.now) fed.traffic fed.fault decoder.new)
+        × HandsFed L.hears listener.old fed.traffic fed.fault listener.new result }
+{
+    let (octets, _) = piece.split_at(count);
+    hand_fed(alloc, listener, decoder.feed(octets))
+}
+
+/// Hands on what a piece brought, and then its fault.
+fn hand_fed<L: Listener>(alloc: Global, listener: &mut L, fed: Fed) -> Result<(), Ending<L::End>>
+    ensures names { L.names listener.new ≡ L.names listener.old }
+    ensures hands { HandsFed L.hears listener.old fed.traffic fed.fault listener.new result }
+{
+    let Fed { traffic, fault } = fed;
+    hand_traffic(alloc, listener, traffic)?;
+    match fault {
+        None => Ok(()),
+        Some(fault) => Err(Ending::Connection(ConnectionEnd::Wire(fault))),
+    }
+}
+
+/// Hands traffic on, up to a command ERROR.
+fn hand_traffic<L: Listener>(
+    alloc: Global,
+    listener: &mut L,
+    traffic: Row<Traffic>,
+) -> Result<(), Ending<L::End>>
+    ensures names { L.names listener.new ≡ L.names listener.old }
+    ensures hands { HandsSome L.hears listener.old traffic listener.new result }
+{
+    for item in traffic.into_vec() {
+        if item.is_error() {
+            drop(item);
+            return Err(Ending::Connection(ConnectionEnd::Wire(WireFault::PeerError)));
+        }
+        if let Err(end) = listener.hear(alloc, item) {
+            return Err(Ending::Host(end));
+        }
+    }
+    Ok(())
+}

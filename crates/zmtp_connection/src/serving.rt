@@ -1,0 +1,53 @@
+//! Serving a peer: shaking hands with it, and then answering what it says.
+
+ghost use Rattle.std.specs.Prelude.{◌≡◌, ℕ, Bool};
+ghost use Rattle.zmtp_connection.specs.declared.end.Ending.{Ending};
+ghost use Rattle.zmtp_connection.specs.Exchange.{devices_at};
+ghost use Rattle.zmtp_connection.specs.Server.{ServesPeer, told};
+
+use crate::end::{ConnectionEnd, Ending};
+use crate::fault::ConnectionFault;
+use crate::responding::respond;
+use crate::server::Server;
+use crate::shaking::shake_within;
+use std::alloc::Global;
+use zmtp_wire::{Inlet, Outlet, SocketType};
+
+/// Serves a peer: greeting out, greeting in, READY out, READY in, and then each message answered, until the peer's
+/// octets end, are refused, the server ends it, or the connection can't go on. Nothing is read once the message came at
+/// which the server ends it. A session of which a message was dropped for want of memory goes on, and ends as the
+/// connection, `Failed` with `Memory`. At most `turns` reads are made.
+pub fn serve<R: Inlet, W: Outlet, S: Server>(
+    alloc: Global,
+    reader: &mut R,
+    writer: &mut W,
+    server: &mut S,
+    ours: SocketType,
+    turns: u64,
+) -> Ending<S::End>
+    ensures names { S.names server.new ≡ S.names server.old }
+    ensures serves { (left : ℕ) × (dropped : Bool) × (ending : Ending S.End)
+        × ServesPeer dropped S.answers ours server.old (devices_at (R.inflow reader.old) turns (W.outflow writer.old))
+        (devices_at (R.inflow reader.new) left (W.outflow writer.new)) server.new ending
+        × (result ≡ told dropped ending) }
+{
+    let mut left = turns;
+    let mut peer = match shake_within(alloc, reader, writer, ours, &mut left) {
+        Ok(peer) => peer,
+        Err(end) => return Ending::Connection(end),
+    };
+    let (ending, dropped) = respond(alloc, reader, writer, server, &mut peer, left);
+    drop(peer);
+    tell(dropped, ending)
+}
+
+/// The end that is told of a session: want of memory where a message was dropped, and else the end itself.
+fn tell<E: Drop>(dropped: bool, ending: Ending<E>) -> Ending<E>
+    ensures { result ≡ told dropped ending }
+{
+    if dropped {
+        drop(ending);
+        return Ending::Connection(ConnectionEnd::Failed(ConnectionFault::Memory));
+    }
+    ending
+}

@@ -1,0 +1,225 @@
+//! Shaking hands with a peer: greetings, and then READY (ZMTP 3.0, "Greeting" and "The NULL Security Mechanism").
+
+ghost use Rattle.std.specs.Prelude.{◌≡◌, ◌≢◌, ◌<◌, ℕ, List, [], ◌∷◌, ◌++◌, length, Some, IfOk, IfErr};
+ghost use Rattle.zmtp_wire.specs.declared.fault.WireFault.{WireFault};
+ghost use Rattle.zmtp_wire.specs.declared.traffic.Traffic.{Traffic};
+ghost use Rattle.zmtp_wire.specs.Device.{Puts};
+ghost use Rattle.zmtp_wire.specs.Greeting.{IsGreeting, greeting_octets};
+ghost use Rattle.zmtp_wire.specs.Ready.{IsReady, ready_octets};
+ghost use Rattle.zmtp_connection.specs.Exchange.{Leg, Reading, Exchange, devices_at, source_at};
+ghost use Rattle.zmtp_connection.specs.declared.shaking.Unheard.{Unheard};
+ghost use Rattle.zmtp_connection.specs.Open.{IsLeft, Meets, heard_out};
+ghost use Rattle.zmtp_connection.specs.Steps.{IsStop, IsFed, TurnsAway, BringsNothing, ComesLate, fresh};
+
+use crate::end::ConnectionEnd;
+use crate::fault::ConnectionFault;
+use crate::turn::{put, read_turn};
+use listed::Row;
+use std::alloc::Global;
+use std::marker::Model;
+use zmtp_wire::{
+    Decoder, Fed, Inlet, Limits, Outlet, SocketType, greeting, read_greeting, read_ready,
+    ready_text,
+};
+
+/// How many octets one read asks for until the peer's READY came.
+const FIRST_PIECE: usize = 256;
+
+/// What is left to hear of octets that came from a peer.
+#[derive(Debug, Drop)]
+pub(crate) struct Unheard {
+    /// What the octets brought.
+    pub(crate) fed: Fed,
+    /// The decoder that reads on behind them.
+    pub(crate) decoder: Decoder,
+}
+
+/// An open peer: its greeting and its READY were accepted. It is heard once: what came with its READY is left to hear
+/// until then, and nothing afterwards.
+#[derive(Debug, Drop)]
+pub struct OpenPeer {
+    /// The socket type of the peer.
+    socket: SocketType,
+    /// What is left to hear, or none once the peer was heard.
+    unheard: Option<Unheard>,
+}
+
+impl Model for OpenPeer {
+    ghost use Rattle.zmtp_connection.specs.Open.{Open, IsLeft};
+
+    ghost Value = { Open };
+
+    ghost view = { λ peer. record { socket = peer.socket; unheard = peer.unheard } };
+
+    ghost invariant = { λ peer. IsLeft peer.unheard };
+}
+
+impl OpenPeer {
+    /// The socket type of the peer.
+    pub fn socket(&self) -> SocketType
+        ensures { result ≡ self.now.socket }
+    {
+        self.socket
+    }
+
+    /// Takes what is left to hear, and leaves nothing.
+    pub(crate) fn take(&mut self) -> Option<Unheard>
+        ensures taken { result ≡ self.old.unheard }
+        ensures none { self.new ≡ heard_out self.old }
+        ensures left { IsLeft result }
+    {
+        self.unheard.take()
+    }
+}
+
+/// Shakes hands with a peer: writes our greeting whole before anything is read, reads the peer's, writes our READY
+/// where that is accepted, and reads the peer's READY, and nothing once that has come. Nothing more is written to a
+/// peer that is refused. At most `turns` reads are made.
+///
+/// # Errors
+///
+/// `Eof` where the peer's octets end before its READY came whole. `Wire` where its greeting, the octets of its
+/// first traffic or its READY are refused, or no memory was left for these. `Failed` where memory was refused, a
+/// read or a write failed, or no turn is left.
+pub fn shake<R: Inlet, W: Outlet>(
+    alloc: Global,
+    reader: &mut R,
+    writer: &mut W,
+    ours: SocketType,
+    turns: u64,
+) -> Result<OpenPeer, ConnectionEnd>
+    ensures met { IfOk result (λ peer. (left : ℕ) × Meets ours
+        (devices_at (R.inflow reader.old) turns (W.outflow writer.old))
+        (devices_at (R.inflow reader.new) left (W.outflow writer.new)) peer) }
+    ensures turned_away { IfErr result (λ end. (left : ℕ) × Exchange (TurnsAway ours end)
+        (devices_at (R.inflow reader.old) turns (W.outflow writer.old))
+        (devices_at (R.inflow reader.new) left (W.outflow writer.new)) (Some end)) }
+{
+    let mut left = turns;
+    shake_within(alloc, reader, writer, ours, &mut left)
+}
+
+/// Shakes hands with a peer, and takes the turns from those that are left.
+pub(crate) fn shake_within<R: Inlet, W: Outlet>(
+    alloc: Global,
+    reader: &mut R,
+    writer: &mut W,
+    ours: SocketType,
+    turns: &mut u64,
+) -> Result<OpenPeer, ConnectionEnd>
+    ensures met { IfOk result (λ peer. Meets ours
+        (devices_at (R.inflow reader.old) turns.old (W.outflow writer.old))
+        (devices_at (R.inflow reader.new) turns.new (W.outflow writer.new)) peer) }
+    ensures turned_away { IfErr result (λ end. Exchange (TurnsAway ours end)
+        (devices_at (R.inflow reader.old) turns.old (W.outflow writer.old))
+        (devices_at (R.inflow reader.new) turns.new (W.outflow writer.new)) (Some end)) }
+{
+    greet(alloc, reader, writer, ours, turns)?;
+    let mut decoder = Decoder::new(alloc, Limits::usual());
+    match read_first(reader, &mut decoder, turns) {
+        Ok(fed) => meet(fed, decoder, ours),
+        Err(end) => {
+            drop(decoder);
+            Err(end)
+        }
+    }
+}
+
+/// Writes our greeting, reads the peer's, and writes our READY where that is accepted.
+fn greet<R: Inlet, W: Outlet>(
+    alloc: Global,
+    reader: &mut R,
+    writer: &mut W,
+    ours: SocketType,
+    turns: &mut u64,
+) -> Result<(), ConnectionEnd>
+    ensures greeted { IfOk result (λ _. (opening : List ℕ) × (length opening ≡ 64) × IsGreeting opening
+        × Leg (source_at (R.inflow reader.old) turns.old) (source_at (R.inflow reader.new) turns.new) opening
+        × Puts (W.outflow writer.old) (W.outflow writer.new) (greeting_octets ++ ready_octets ours) 0) }
+    ensures turned_away { IfErr result (λ end. Exchange (TurnsAway ours end)
+        (devices_at (R.inflow reader.old) turns.old (W.outflow writer.old))
+        (devices_at (R.inflow reader.new) turns.new (W.outflow writer.new)) (Some end)) }
+{
+    put(writer, &greeting())?;
+    let opening = read_opening(reader, turns)?;
+    if let Err(fault) = read_greeting(&opening) {
+        return Err(ConnectionEnd::Wire(fault));
+    }
+    let Ok(ready) = ready_text(alloc, ours) else {
+        return Err(ConnectionEnd::Failed(ConnectionFault::Memory));
+    };
+    let written = put(writer, &ready);
+    drop(ready);
+    written
+}
+
+/// Reads the peer's greeting, and no octet behind it.
+fn read_opening<R: Inlet>(reader: &mut R, turns: &mut u64) -> Result<[u8; 64], ConnectionEnd>
+    ensures ok { IfOk result (λ opening. (length opening ≡ 64)
+        × Leg (source_at (R.inflow reader.old) turns.old) (source_at (R.inflow reader.new) turns.new) opening) }
+    ensures err { IfErr result (λ end. IsStop end × ((octets : List ℕ) × (length octets < 64)
+        × Reading (source_at (R.inflow reader.old) turns.old) (source_at (R.inflow reader.new) turns.new) octets
+        end)) }
+{
+    let mut opening = [0; 64];
+    let mut filled = 0;
+    while filled < opening.len() {
+        filled += read_turn(reader, &mut opening[filled..], turns)?;
+    }
+    Ok(opening)
+}
+
+/// Reads until the first traffic behind the peer's greeting came whole.
+fn read_first<R: Inlet>(
+    reader: &mut R,
+    decoder: &mut Decoder,
+    turns: &mut u64,
+) -> Result<Fed, ConnectionEnd>
+    requires { decoder.old ≡ fresh }
+    ensures ok { IfOk result (λ fed. (fed.traffic ≢ []) × ((octets : List ℕ) × IsFed fed decoder.new octets
+        × Leg (source_at (R.inflow reader.old) turns.old) (source_at (R.inflow reader.new) turns.new) octets
+        × ComesLate (source_at (R.inflow reader.old) turns.old) (source_at (R.inflow reader.new) turns.new)
+        octets)) }
+    ensures err { IfErr result (λ end. (octets : List ℕ) × BringsNothing octets end
+        × Reading (source_at (R.inflow reader.old) turns.old) (source_at (R.inflow reader.new) turns.new) octets
+        end) }
+{
+    let mut piece = [0; FIRST_PIECE];
+    loop {
+        let count = read_turn(reader, &mut piece, turns)?;
+        let fed = decoder.feed(&piece[..count]);
+        if !fed.traffic.is_empty() {
+            return Ok(fed);
+        }
+        if let Some(fault) = fed.fault {
+            return Err(ConnectionEnd::Wire(fault));
+        }
+    }
+}
+
+/// Judges the first traffic, which is to be READY, and keeps the others.
+fn meet(fed: Fed, decoder: Decoder, ours: SocketType) -> Result<OpenPeer, ConnectionEnd>
+    requires some { fed.traffic ≢ [] }
+    requires came { (octets : List ℕ) × IsFed fed decoder octets }
+    ensures ok { IfOk result (λ peer. (first : Traffic) × (unheard : Unheard) × (peer.unheard ≡ Some unheard)
+        × (fed.traffic ≡ first ∷ unheard.fed.traffic) × (unheard.fed.fault ≡ fed.fault)
+        × (unheard.decoder ≡ decoder) × IsReady first ours (Ok (record { peer = peer.socket }))) }
+    ensures err { IfErr result (λ end. (first : Traffic) × (others : List Traffic) × (fault : WireFault)
+        × (fed.traffic ≡ first ∷ others) × IsReady first ours (Err fault) × (end ≡ ConnectionEnd.Wire fault)) }
+{
+    let Fed { traffic, fault } = fed;
+    let mut traffic = traffic.into_vec();
+    let first = traffic.remove(0);
+    let ready = match read_ready(&first, ours) {
+        Ok(ready) => ready,
+        Err(fault) => return Err(ConnectionEnd::Wire(fault)),
+    };
+    let fed = Fed {
+        traffic: Row::new(traffic),
+        fault,
+    };
+    Ok(OpenPeer {
+        socket: ready.peer,
+        unheard: Some(Unheard { fed, decoder }),
+    })
+}
