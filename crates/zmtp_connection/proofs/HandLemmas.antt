@@ -1,5 +1,5 @@
 -- Traffic that is handed on, one after the other.
-use Rattle.std.proofs.Common.{◌≡◌, inl, inr, List, [], ◌∷◌, ◌++◌, true, false, refl, sym, ◌∙◌, subst, append_assoc}
+use Rattle.std.proofs.Common.{◌≡◌, List, [], ◌∷◌, ◌++◌, true, false, refl, sym, ◌∙◌, subst, append_assoc}
 use Rattle.std.proofs.Common.{Ok, Err}
 use Rattle.std.proofs.lemmas.List.{append-nil}
 use Rattle.zmtp_wire.specs.declared.fault.WireFault.TheVariants.{PeerError}
@@ -25,7 +25,8 @@ pub handed_none : {Listener End : Type 0} (hears : Hearing Listener End) (old : 
 handed_none hears old all = record { front = []; split = refl; calm = tt; handed = refl }
 
 -- one more was handed on
-pub handed_more : {Listener End : Type 0} (hears : Hearing Listener End) (old : Listener) (all : List Traffic) (item : Traffic)
+pub handed_more : {Listener End : Type 0} (hears : Hearing Listener End) (old : Listener) (all : List Traffic)
+    (item : Traffic)
     (rest : List Traffic) (now new : Listener)
     → HandedSoFar hears old all (item ∷ rest) now → is_error item ≡ false → hears now item new (Ok tt)
     → HandedSoFar hears old all rest new
@@ -37,7 +38,8 @@ handed_more hears old all item rest now new so_far harmless one = record {
 }
 
 -- all was handed on
-pub handed_all : {Listener End : Type 0} (hears : Hearing Listener End) (old : Listener) (all : List Traffic) (now : Listener)
+pub handed_all : {Listener End : Type 0} (hears : Hearing Listener End) (old : Listener) (all : List Traffic)
+    (now : Listener)
     → HandedSoFar hears old all [] now → IsCalm all × HearsAll hears old all now
 handed_all hears old all now so_far =
     let same : so_far.front ≡ all = sym (so_far.split ∙ append-nil so_far.front) in

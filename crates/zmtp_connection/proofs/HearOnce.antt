@@ -29,7 +29,8 @@ pub record Laws : Type 0 where
   pub ready : ReadyHasOneOutcome
 
 -- how a rest ends, which begins with no whole traffic then
-ends_once : (laws : Laws) (rest : List ℕ) (one other : ConnectionEnd) → EndsAs rest one → EndsAs rest other → one ≡ other
+ends_once : (laws : Laws) (rest : List ℕ) (one other : ConnectionEnd) → EndsAs rest one → EndsAs rest other
+    → one ≡ other
 ends_once laws rest Eof Eof first second = refl
 ends_once laws rest Eof (Wire fault) first second = absurd (first.no_fault fault second)
 ends_once laws rest (Wire fault) Eof first second = absurd (second.no_fault fault first)
@@ -39,7 +40,8 @@ ends_once laws rest (Failed fault) other first second = absurd first
 ends_once laws rest Eof (Failed fault) first second = absurd second
 ends_once laws rest (Wire fault) (Failed other) first second = absurd second
 
-pub ends_without : (laws : Laws) (rest : List ℕ) (end : ConnectionEnd) → EndsAs rest end → HasNoTraffic usual_limits rest
+pub ends_without : (laws : Laws) (rest : List ℕ) (end : ConnectionEnd) → EndsAs rest end
+    → HasNoTraffic usual_limits rest
 ends_without laws rest Eof h = h.no_traffic
 ends_without laws rest (Wire fault) h = laws.no_traffic usual_limits rest fault h
 ends_without laws rest (Failed fault) h = absurd h
@@ -56,7 +58,8 @@ pub error_ends : (laws : Laws) (rest : List ℕ) (end : ConnectionEnd) → Begin
 error_ends laws rest end (last, comes, error) ends =
     ends_without laws rest end ends last comes.front comes.behind comes.split comes.spelled
 
-pub behind_once : (laws : Laws) (rest : List ℕ) (one other : ConnectionEnd) → EndsBehind rest one → EndsBehind rest other
+pub behind_once : (laws : Laws) (rest : List ℕ) (one other : ConnectionEnd) → EndsBehind rest one
+    → EndsBehind rest other
     → one ≡ other
 behind_once laws rest one other (inl (is, error)) (inl (same, also)) = is ∙ sym same
 behind_once laws rest one other (inl (is, error)) (inr ends) = absurd (error_ends laws rest other error ends)

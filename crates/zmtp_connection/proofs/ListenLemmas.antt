@@ -1,8 +1,8 @@
 -- Listening to a peer, piece by piece.
-use Rattle.std.proofs.Common.{◌≡◌, ◌⊎◌, inl, inr, ℕ, ◌+◌, ◌<◌, ◌≤◌, List, [], ◌++◌, length, take, drop, false}
-use Rattle.std.proofs.Common.{Option, Some, None, Result, Ok, Err, refl, sym, ◌∙◌, ap, subst}
+use Rattle.std.proofs.Common.{◌≡◌, ◌⊎◌, inl, inr, ℕ, ◌+◌, ◌<◌, List, [], ◌++◌, length, false}
+use Rattle.std.proofs.Common.{Option, Some, None, Result, Ok, Err, refl, sym, ◌∙◌, subst}
 use Rattle.std.proofs.Common.{append_assoc}
-use Rattle.std.proofs.lemmas.List.{append-nil, take-take, take-append-le}
+use Rattle.std.proofs.lemmas.List.{append-nil}
 use Rattle.zmtp_wire.specs.declared.fault.WireFault.{WireFault}
 use Rattle.zmtp_wire.specs.declared.fault.WireFault.TheVariants.{OutOfMemory}
 use Rattle.zmtp_wire.specs.declared.traffic.Traffic.{Traffic}
@@ -21,7 +21,7 @@ use Rattle.zmtp_connection.specs.Exchange.{Leg, Reading, Source}
 use Rattle.zmtp_connection.specs.Steps.{IsPrompt, IsStop, fresh}
 use Rattle.zmtp_connection.specs.Open.{IsLeftOf}
 use Rattle.zmtp_connection.specs.Listen.{Heard, Hearing, HearsAll, IsBrokenOff, IsHeardOut, Listens}
-use Rattle.zmtp_connection.specs.Handing.{HandsFed, HandsFront}
+use Rattle.zmtp_connection.specs.Handing.{HandsFed, HandsFront, HandsPiece, HearsPiece}
 use Rattle.zmtp_connection.proofs.Legs.{leg_none, leg_on, stop_on, decided, wire_decided, memory_decided}
 use Rattle.zmtp_connection.proofs.FirstLemmas.{fed_all}
 use Rattle.zmtp_connection.proofs.PromptLemmas.{piece_needed, last_read}
@@ -51,7 +51,8 @@ heard_none hears old = record {
 }
 
 -- a piece that was handed on whole
-heard_more : {Listener End : Type 0} (hears : Hearing Listener End) (old now new : Listener) (decoder decoder' : Decoding)
+heard_more : {Listener End : Type 0} (hears : Hearing Listener End) (old now new : Listener)
+    (decoder decoder' : Decoding)
     (octets piece : List ℕ) (more : List Traffic) (fault : Option WireFault)
     → HeardSoFar hears old now decoder octets → Feeds decoder piece more fault decoder'
     → decoder'.limits ≡ decoder.limits → HandsFed hears now more fault new (Ok tt)
@@ -208,36 +209,23 @@ listening_begins hears old new fed decoder source before (feeds, limits) handed 
       handed);
 }
 
--- A piece was read in one turn, and what it brought was handed on.
-pub record HandsPiece {Listener End : Type 0} (hears : Hearing Listener End) (old new : Listener)
-    (decoder decoder' : Decoding) (source source' : Source) (result : Result Unit (Ending End)) : Type 0 where
-  pub octets : List ℕ
-  pub traffic : List Traffic
-  pub fault : Option WireFault
-  pub leg : Leg source source' octets
-  pub one : source.turns ≡ source'.turns + 1
-  pub fed : decoder.spent ≡ false → Feeds decoder octets traffic fault decoder'
-  pub same : decoder'.limits ≡ decoder.limits
-  pub hands : HandsFed hears old traffic fault new result
-
--- what was read stands at the front of the room for it
-pub front_read : (front whole into items : List ℕ) (room count : ℕ) → front ≡ take count whole
-    → whole ≡ take room (into ++ drop (length into) items) → count ≤ room → count ≤ length into
-    → front ≡ take count into
-front_read front whole into items room count is all fits within =
-    is ∙ ap (take count) all ∙ take-take count room (into ++ drop (length into) items) fits
-    ∙ take-append-le count into (drop (length into) items) within
-
--- octets were read, and what a decoder made of the same was handed on
-pub handed_piece : {Listener End : Type 0} (hears : Hearing Listener End) (old new : Listener) (decoder decoder' : Decoding)
-    (source source' : Source) (octets fed : List ℕ) (traffic : List Traffic)
-    (fault : Option WireFault) (result : Result Unit (Ending End))
-    → Leg source source' octets → source.turns ≡ source'.turns + 1 → fed ≡ octets
-    → (decoder.spent ≡ false → Feeds decoder fed traffic fault decoder') → decoder'.limits ≡ decoder.limits
-    → HandsFed hears old traffic fault new result
+-- a piece was read, and what a decoder made of it was handed on
+heard_if : {Listener End : Type 0} (hears : Hearing Listener End) (old new : Listener) (decoder decoder' : Decoding)
+    (source source' : Source) (result : Result Unit (Ending End))
     → HandsPiece hears old new decoder decoder' source source' result
-handed_piece hears old new decoder decoder' source source' octets fed traffic fault result leg one is feeds
-    same hands = record {
+    → HearsPiece hears old new decoder decoder' source source' result
+heard_if hears old new decoder decoder' source source' (Ok done) piece = piece
+heard_if hears old new decoder decoder' source source' (Err ending) piece = inl piece
+
+-- the same, where the decoder was fed what was read
+pub heard_piece : {Listener End : Type 0} (hears : Hearing Listener End) (old new : Listener)
+    (decoder decoder' : Decoding) (source source' : Source) (octets fed : List ℕ) (traffic : List Traffic)
+    (fault : Option WireFault) (result : Result Unit (Ending End)) → Leg source source' octets
+    → source.turns ≡ source'.turns + 1 → fed ≡ octets
+    → (decoder.spent ≡ false → Feeds decoder fed traffic fault decoder') → decoder'.limits ≡ decoder.limits
+    → HandsFed hears old traffic fault new result → HearsPiece hears old new decoder decoder' source source' result
+heard_piece hears old new decoder decoder' source source' octets fed traffic fault result leg one is feeds same hands =
+    heard_if hears old new decoder decoder' source source' result (record {
       octets = octets;
       traffic = traffic;
       fault = fault;
@@ -246,7 +234,7 @@ handed_piece hears old new decoder decoder' source source' octets fed traffic fa
       fed = λ alive. subst (λ o. Feeds decoder o traffic fault decoder') is (feeds alive);
       same = same;
       hands = hands;
-    }
+    })
 
 -- one more piece, and listening goes on
 pub listening_goes_on : {Listener End : Type 0} (hears : Hearing Listener End) (old now new : Listener)
@@ -353,6 +341,20 @@ listening_stops hears old now decoder one two three before end so_far stop readi
   heard = heard_so_far hears old now decoder (before ++ so_far.read) so_far.heard;
   ends = inl (inl stop, so_far.heard.unfinished);
 }
+
+-- one more piece ends listening, or reading stopped
+pub listening_ended : {Listener End : Type 0} (hears : Hearing Listener End) (old now new : Listener)
+    (decoder decoder' : Decoding) (one two three : Source) (before : List ℕ) (ending : Ending End)
+    → ListeningSoFar hears old now decoder one two before
+    → HearsPiece hears now new decoder decoder' two three (Err ending)
+    → Listens hears old before one three new ending
+listening_ended hears old now new decoder decoder' one two three before ending so_far (inl piece) =
+    listening_ends hears old now new decoder decoder' one two three before ending so_far piece
+listening_ended {Listener} {End} hears old now new decoder decoder' one two three before ending so_far
+    (inr (end, is, stop, reading, same)) =
+    subst (λ (e : Ending End). Listens hears old before one three new e) (sym is)
+    (subst (λ (l : Listener). IsHeardOut hears old before one three l end) (sym same)
+    (listening_stops hears old now decoder one two three before end so_far stop reading))
 
 -- no room for pieces
 pub listening_cut : {Listener End : Type 0} (hears : Hearing Listener End) (old now : Listener) (decoder : Decoding)

@@ -24,13 +24,16 @@ use Rattle.zmtp_connection.proofs.HearOnce.{Laws, ends_without, no_more, calm_be
 use Rattle.zmtp_connection.proofs.HearOnce.{met_away}
 
 -- one step
-step_once : {Server End : Type 0} (settles : End → Bool) (answers : Answering Server End) → IsFunction settles answers → (state one other : Server)
-    (item : Traffic) (reply also : List ℕ) (first second : Result Answered End) → IsDone settles first → IsDone settles second
+step_once : {Server End : Type 0} (settles : End → Bool) (answers : Answering Server End) → IsFunction settles answers
+    → (state one other : Server)
+    (item : Traffic) (reply also : List ℕ) (first second : Result Answered End) → IsDone settles first
+    → IsDone settles second
     → Treats answers state item reply one first → Treats answers state item also other second
     → (reply ≡ also) × (one ≡ other) × (first ≡ second)
 step_once settles answers once state one other (traffic.Message message) reply also first second done did a b =
     once state one other message reply also first second done did a b
-step_once settles answers once state one other (traffic.Command name rest) reply also first second done did (none, stays, is)
+step_once settles answers once state one other (traffic.Command name rest) reply also first second done did
+    (none, stays, is)
     (nothing, keeps, same) =
     (none ∙ sym nothing, stays ∙ sym keeps, is ∙ sym same)
 
@@ -57,7 +60,8 @@ same_serving one other same kept =
     ∙ ap (λ d. record { server = other.server; dropped = d }) kept
 
 -- traffic that is answered in turn
-all_once : {Server End : Type 0} (settles : End → Bool) (answers : Answering Server End) → IsFunction settles answers → (old one other : Serving Server)
+all_once : {Server End : Type 0} (settles : End → Bool) (answers : Answering Server End) → IsFunction settles answers
+    → (old one other : Serving Server)
     (items : List Traffic) (replies also : List ℕ) → AnswersAll (GoesOn answers) old items replies one
     → AnswersAll (GoesOn answers) old items also other → one.dropped ≡ false → other.dropped ≡ false
     → (replies ≡ also) × (one ≡ other)
@@ -68,7 +72,8 @@ all_once settles answers once old one other (first ∷ items) replies also
     (between, back, others, (did, took, marks), more, same) kept stays =
     let calm = undropped answers middle one items later rest kept in
     let quiet = undropped answers between other items others more stays in
-    let (replied, state, answer) = step_once settles answers once old.server middle.server between.server first reply back
+    let (replied, state, answer) = step_once settles answers once old.server middle.server between.server first reply
+    back
     (Ok answered) (Ok did) (unmarked settles old.dropped answered middle.dropped mark calm).1
     (unmarked settles old.dropped did between.dropped marks quiet).1 step took in
     let met : middle ≡ between = same_serving middle between state (calm ∙ sym quiet) in

@@ -111,7 +111,8 @@ greeting_refused ours source source' before after opening fault puts whole leg r
 -- there was no memory for our READY
 pub ready_refused : (ours : SocketType) (source source' : Source) (before after : Outflow)
     (opening : List ℕ) → Puts before after greeting_octets 0
-    → Leg source source' opening → Exchange (TurnsAway ours (Failed Memory)) (over source before) (over source' after) (Some (Failed Memory))
+    → Leg source source' opening → Exchange (TurnsAway ours (Failed Memory)) (over source before) (over source' after)
+    (Some (Failed Memory))
 ready_refused ours source source' before after opening puts leg = record {
   read = opening;
   written = greeting_octets;
@@ -144,7 +145,8 @@ not_ready ours opening octets written whole accepted is unfinished = inr (inr (i
 })))
 
 -- our READY was written, or it couldn't be
-pub ready_unsent : (result : Result Unit ConnectionEnd) (ours : SocketType) (source source' : Source) (before middle after : Outflow)
+pub ready_unsent : (result : Result Unit ConnectionEnd) (ours : SocketType) (source source' : Source)
+    (before middle after : Outflow)
     (opening octets : List ℕ) → octets ≡ ready_octets ours → Puts before middle greeting_octets 0
     → length opening ≡ 64 → Leg source source' opening → IsGreeting opening
     → PutsAll middle after octets result
@@ -191,7 +193,8 @@ opened ours source source' before after opening whole leg accepted puts = record
 }
 
 -- our READY was written behind our greeting
-pub ready_sent : (result : Result Unit ConnectionEnd) (ours : SocketType) (source source' : Source) (before middle after : Outflow)
+pub ready_sent : (result : Result Unit ConnectionEnd) (ours : SocketType) (source source' : Source)
+    (before middle after : Outflow)
     (opening octets : List ℕ) → octets ≡ ready_octets ours → Puts before middle greeting_octets 0
     → length opening ≡ 64 → Leg source source' opening → IsGreeting opening
     → PutsAll middle after octets result
@@ -329,7 +332,8 @@ peer_refused : (ours : SocketType) (one two three : Source) (before after : Outf
     (fault : WireFault)
     → Opened ours one two before after opening → Leg two three octets
     → IsFed fed decoder octets → fed.traffic ≡ first ∷ others
-    → IsReady first ours (Err fault) → Exchange (TurnsAway ours (Wire fault)) (over one before) (over three after) (Some (Wire fault))
+    → IsReady first ours (Err fault) → Exchange (TurnsAway ours (Wire fault)) (over one before) (over three after)
+    (Some (Wire fault))
 peer_refused ours one two three before after opening octets fed decoder first others fault o leg
     (feeds, limits) traffic_is refused =
     let s = split_first octets first others fed.fault decoder
@@ -360,7 +364,8 @@ left_behind fed decoder first others (octets, (feeds, limits)) traffic_is =
     (subst (λ t. Feeds fresh octets t fed.fault decoder) traffic_is feeds) in (s.behind, (s.feeds, limits))
 
 -- a peer whose READY was accepted was met
-pub judged_met : (result : Result Open ConnectionEnd) (ours : SocketType) (one two three : Source) (before after : Outflow) (opening octets : List ℕ) (fed : Fed) (decoder : Decoding)
+pub judged_met : (result : Result Open ConnectionEnd) (ours : SocketType) (one two three : Source)
+    (before after : Outflow) (opening octets : List ℕ) (fed : Fed) (decoder : Decoding)
     → Opened ours one two before after opening → Leg two three octets
     → ComesLate two three octets → IsFed fed decoder octets
     → IfOk result (λ peer. (first : Traffic) × (unheard : Unheard) × (peer.unheard ≡ Some unheard)
@@ -376,7 +381,8 @@ judged_met (Ok peer) ours one two three before after opening octets fed decoder 
     (unheard_is ∙ ap (λ (d : Decoding). Some (record { fed = unheard.fed; decoder = d })) decoder_is) accepted
 
 -- a peer whose READY was refused was turned away
-pub judged_refused : (result : Result Open ConnectionEnd) (ours : SocketType) (one two three : Source) (before after : Outflow) (opening octets : List ℕ) (fed : Fed) (decoder : Decoding)
+pub judged_refused : (result : Result Open ConnectionEnd) (ours : SocketType) (one two three : Source)
+    (before after : Outflow) (opening octets : List ℕ) (fed : Fed) (decoder : Decoding)
     → Opened ours one two before after opening → Leg two three octets
     → IsFed fed decoder octets
     → IfErr result (λ end. (first : Traffic) × (others : List Traffic) × (fault : WireFault)

@@ -16,7 +16,8 @@ use Rattle.zmtp_connection.specs.Server.{Answering, AnswersAll, GoesOn, IsLast, 
 use Rattle.zmtp_connection.specs.Server.{Treats, told}
 
 -- Each step of a server is a step of what is seen of it, while this holds of the server.
-pub record Sight {Server Other End : Type 0} (answers : Answering Server End) (sees : Answering Other End) : Type 1 where
+pub record Sight {Server Other End : Type 0} (answers : Answering Server End)
+    (sees : Answering Other End) : Type 1 where
   pub view : Server → Other
   pub holds : Server → Type 0
   pub steps : (old new : Server) (message : Message) (reply : List ℕ) (answered : Result Answered End)
@@ -24,7 +25,8 @@ pub record Sight {Server Other End : Type 0} (answers : Answering Server End) (s
       → holds new × sees (view old) message reply (view new) answered
 
 treats_seen : {Server Other End : Type 0} {answers : Answering Server End} {sees : Answering Other End}
-    (s : Sight answers sees) (old new : Server) (item : Traffic) (reply : List ℕ) (answered : Result Answered End) → s.holds old
+    (s : Sight answers sees) (old new : Server) (item : Traffic) (reply : List ℕ) (answered : Result Answered End)
+    → s.holds old
     → Treats answers old item reply new answered
     → s.holds new × Treats sees (s.view old) item reply (s.view new) answered
 treats_seen s old new (traffic.Message message) reply answered holds step =
@@ -33,7 +35,8 @@ treats_seen s old new (traffic.Command name rest) reply answered holds (none, sa
     (subst s.holds (sym same) holds, (none, ap s.view same, done))
 
 -- what is seen of a server in a session
-abbrev seen : {Server Other End : Type 0} {answers : Answering Server End} {sees : Answering Other End} → Sight answers sees
+abbrev seen : {Server Other End : Type 0} {answers : Answering Server End} {sees : Answering Other End}
+    → Sight answers sees
     → Serving Server → Serving Other
 seen s serving = record { server = s.view serving.server; dropped = serving.dropped }
 
@@ -118,7 +121,8 @@ serves_seen s dropped ours old octets written new end holds (inr served) =
 
 -- nothing was read once the traffic had come that ended a session
 prompt_ends : {Server Other End : Type 0} {answers : Answering Server End} {sees : Answering Other End}
-    (s : Sight answers sees) (now : Serving Server) (rest replies written : List ℕ) (new : Serving Server) (end : Ending End)
+    (s : Sight answers sees) (now : Serving Server) (rest replies written : List ℕ) (new : Serving Server)
+    (end : Ending End)
     (holds : s.holds now.server) (one two : Source) (octets : List ℕ)
     (ends : Ends answers now rest replies written new end)
     → elim ends as (λ _. Type 0) [
@@ -133,7 +137,8 @@ prompt_ends s now rest replies written new end holds one two octets (inl out) pr
 prompt_ends s now rest replies written new end holds one two octets (inr last) prompt = prompt
 
 -- what a peer comes to, by what is seen of the server
-abbrev Prompt : {Server End : Type 0} (answers : Answering Server End) (dropped : Bool) (ours : SocketType) (old : Server)
+abbrev Prompt : {Server End : Type 0} (answers : Answering Server End) (dropped : Bool) (ours : SocketType)
+    (old : Server)
     (octets written : List ℕ) (new : Server) (end : Ending End) → Source → Source
     → Serves dropped answers ours old octets written new end → Type 0
 Prompt answers dropped ours old octets written new end one two outcome = elim outcome as (λ _. Type 0) [
@@ -145,7 +150,8 @@ Prompt answers dropped ours old octets written new end one two outcome = elim ou
 ]
 
 prompt_seen : {Server Other End : Type 0} {answers : Answering Server End} {sees : Answering Other End}
-    (s : Sight answers sees) (dropped : Bool) (ours : SocketType) (old : Server) (octets written : List ℕ) (new : Server) (end : Ending End)
+    (s : Sight answers sees) (dropped : Bool) (ours : SocketType) (old : Server) (octets written : List ℕ)
+    (new : Server) (end : Ending End)
     (holds : s.holds old) (one two : Source)
     (outcome : Serves dropped answers ours old octets written new end)
     → Prompt answers dropped ours old octets written new end one two outcome

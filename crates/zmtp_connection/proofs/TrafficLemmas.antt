@@ -13,7 +13,8 @@ calm_on [] more calm after = after
 calm_on (first ∷ front) more (harmless, calm) after = (harmless, calm_on front more calm after)
 
 -- traffic heard in turn, and more
-pub hears_on : {Listener End : Type 0} (hears : Hearing Listener End) (old middle new : Listener) (front more : List Traffic)
+pub hears_on : {Listener End : Type 0} (hears : Hearing Listener End) (old middle new : Listener)
+    (front more : List Traffic)
     → HearsAll hears old front middle → HearsAll hears middle more new → HearsAll hears old (front ++ more) new
 hears_on hears old middle new [] more same after = subst (λ l. HearsAll hears l more new) same after
 hears_on hears old middle new (first ∷ front) more (next, one, others) after =

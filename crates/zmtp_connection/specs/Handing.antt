@@ -1,13 +1,18 @@
 -- The steps of listening, by what each of them handed on.
-use Rattle.std.specs.Prelude.{◌≡◌, ◌⊎◌, List, ◌∷◌, ◌++◌, true, false, Result, Ok, Err, Option, Some, None}
+use Rattle.std.specs.Prelude.{◌≡◌, ◌⊎◌, ℕ, ◌+◌, List, [], ◌∷◌, ◌++◌, true, false, Result, Ok, Err, Option, Some}
+use Rattle.std.specs.Prelude.{None}
 use Rattle.zmtp_wire.specs.declared.fault.WireFault.{WireFault}
 use Rattle.zmtp_wire.specs.declared.fault.WireFault.TheVariants.{PeerError}
 use Rattle.zmtp_wire.specs.declared.traffic.Traffic.{Traffic}
 use Rattle.zmtp_wire.specs.Traffic.{is_error}
+use Rattle.zmtp_wire.specs.Decoding.{Decoding, Feeds}
+use Rattle.zmtp_connection.specs.declared.end.ConnectionEnd.{ConnectionEnd}
 use Rattle.zmtp_connection.specs.declared.end.ConnectionEnd.TheVariants.{Wire}
 use Rattle.zmtp_connection.specs.declared.end.Ending.{Ending}
 use Rattle.zmtp_connection.specs.declared.end.Ending.TheVariants.{Connection, Host}
 use Rattle.zmtp_connection.specs.Peer.{IsCalm}
+use Rattle.zmtp_connection.specs.Exchange.{Source, Leg, Reading}
+use Rattle.zmtp_connection.specs.Steps.{IsStop}
 use Rattle.zmtp_connection.specs.Listen.{Hearing, HearsAll}
 
 -- The traffic in front of one was handed on, and none of it ended listening.
@@ -34,10 +39,33 @@ abbrev pub HandsSome : {Listener End : Type 0} → Hearing Listener End → List
 HandsSome hears old traffic new (Ok done) = IsCalm traffic × HearsAll hears old traffic new
 HandsSome hears old traffic new (Err ending) = HandsFront hears old traffic new ending
 
--- what a piece brought was handed on, and then its fault ended listening, if it has one
+-- what a piece brought was handed on, and then its fault ended listening, if it has one; its arguments are those of the
+-- definition above, and the fault
 abbrev pub HandsFed : {Listener End : Type 0} → Hearing Listener End → Listener → List Traffic → Option WireFault
     → Listener → Result Unit (Ending End) → Type 0
 HandsFed hears old traffic fault new (Ok done) = (fault ≡ None) × (IsCalm traffic × HearsAll hears old traffic new)
 HandsFed hears old traffic fault new (Err ending) = HandsFront hears old traffic new ending
     ⊎ ((found : WireFault) × (fault ≡ Some found) × (ending ≡ Connection (Wire found))
     × (IsCalm traffic × HearsAll hears old traffic new))
+
+-- A piece was read in one turn, and what it brought was handed on. The arguments, here and below, are what a listener,
+-- a decoder and what is read from were and are then.
+pub record HandsPiece {Listener End : Type 0} (hears : Hearing Listener End) (old new : Listener)
+    (decoder decoder' : Decoding) (source source' : Source) (result : Result Unit (Ending End)) : Type 0 where
+  pub octets : List ℕ
+  pub traffic : List Traffic
+  pub fault : Option WireFault
+  pub leg : Leg source source' octets
+  pub one : source.turns ≡ source'.turns + 1
+  pub fed : decoder.spent ≡ false → Feeds decoder octets traffic fault decoder'
+  pub same : decoder'.limits ≡ decoder.limits
+  pub hands : HandsFed hears old traffic fault new result
+
+-- a piece was read, and what it brought was handed on; or reading stopped, which ended listening
+abbrev pub HearsPiece : {Listener End : Type 0} → Hearing Listener End → Listener → Listener → Decoding → Decoding
+    → Source → Source → Result Unit (Ending End) → Type 0
+HearsPiece hears old new decoder decoder' source source' (Ok done) =
+    HandsPiece hears old new decoder decoder' source source' (Ok done)
+HearsPiece hears old new decoder decoder' source source' (Err ending) =
+    HandsPiece hears old new decoder decoder' source source' (Err ending)
+    ⊎ ((end : ConnectionEnd) × (ending ≡ Connection end) × IsStop end × Reading source source' [] end × (new ≡ old))

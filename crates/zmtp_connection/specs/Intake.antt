@@ -37,7 +37,8 @@ abbrev pub put_of : Traffic → Result Unit ConnectionEnd → List Traffic
 put_of traffic (Ok done) = traffic ∷ []
 put_of traffic (Err end) = []
 
--- traffic was put or not, and the list of what was put grew by just that
+-- traffic was put or not, and the list of what was put grew by just that; its arguments are those of the definition
+-- above, and the list
 abbrev pub FillsOne : {Intake : Type 0} → Taking Intake → (Intake → Option (List Traffic)) → Intake → Traffic → Intake
     → Result Unit ConnectionEnd → Type 0
 FillsOne takes told old traffic new result =

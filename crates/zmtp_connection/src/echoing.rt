@@ -12,7 +12,7 @@ use std::alloc::{AllocError, Global};
 use zmtp_wire::{Inlet, Message, Outlet, SocketType, write_message};
 
 /// Writes each message back.
-#[derive(Clone, Copy, Debug)]
+#[derive(Clone, Copy)]
 struct Heartbeat;
 
 impl Server for Heartbeat {

@@ -4,7 +4,7 @@ use crate::fault::ConnectionFault;
 use zmtp_wire::WireFault;
 
 /// How a connection with a peer ended.
-#[derive(Clone, Copy, Debug, PartialEq, Eq)]
+#[derive(Clone, Copy, Debug)]
 pub enum ConnectionEnd {
     /// The peer sent its last octet, also inside a greeting or a message.
     Eof,
@@ -16,7 +16,7 @@ pub enum ConnectionEnd {
 }
 
 /// How hearing or serving a peer ended.
-#[derive(Debug, Drop)]
+#[derive(Drop)]
 pub enum Ending<E> {
     /// As the connection did.
     Connection(ConnectionEnd),

@@ -6,7 +6,7 @@ ghost use Rattle.zmtp_connection.specs.Fault.{connection_fault_number};
 use thiserror::Error;
 
 /// Why a connection can't go on.
-#[derive(Clone, Copy, Debug, PartialEq, Eq, Error)]
+#[derive(Clone, Copy, Debug, Error)]
 pub enum ConnectionFault {
     /// No memory was left.
     #[error("out of memory")]

@@ -1,14 +1,12 @@
 //! Listening to a peer: one loop over what it says behind its READY, which hands each whole traffic to a listener.
 
-ghost use Rattle.std.specs.Prelude.{◌≡◌, ◌≤◌, ℕ, List, length, take, false, None};
+ghost use Rattle.std.specs.Prelude.{◌≡◌, ◌<◌, ℕ, List, length, None};
 ghost use Rattle.zmtp_wire.specs.declared.fault.WireFault.{WireFault};
 ghost use Rattle.zmtp_wire.specs.declared.traffic.Traffic.{Traffic};
-ghost use Rattle.zmtp_wire.specs.declared.traffic.decoder.Fed.{Fed};
-ghost use Rattle.zmtp_wire.specs.Decoding.{Feeds};
 ghost use Rattle.zmtp_connection.specs.Exchange.{source_at};
 ghost use Rattle.zmtp_connection.specs.Listen.{Hearing, Listens};
 ghost use Rattle.zmtp_connection.specs.Open.{IsLeftOf, OfUnheard, heard_out};
-ghost use Rattle.zmtp_connection.specs.Handing.{HandsSome, HandsFed};
+ghost use Rattle.zmtp_connection.specs.Handing.{HandsSome, HandsFed, HearsPiece};
 
 use crate::end::{ConnectionEnd, Ending};
 use crate::fault::ConnectionFault;
@@ -92,15 +90,8 @@ fn listen_on<R: Inlet, L: Listener>(
     };
     let mut left = turns;
     loop {
-        let count = match read_turn(reader, &mut piece, &mut left) {
-            Ok(count) => count,
-            Err(end) => {
-                drop(piece);
-                drop(decoder);
-                return Ending::Connection(end);
-            }
-        };
-        if let Err(ending) = hand_piece(alloc, listener, &mut decoder, &piece, count) {
+        let heard = hear_piece(alloc, reader, listener, &mut decoder, &mut piece, &mut left);
+        if let Err(ending) = heard {
             drop(piece);
             drop(decoder);
             return ending;
@@ -108,23 +99,27 @@ fn listen_on<R: Inlet, L: Listener>(
     }
 }
 
-/// Hands on what so many octets at the front of a piece bring.
-fn hand_piece<L: Listener>(
+/// Reads a piece, and hands on what it brings. One read is one turn.
+fn hear_piece<R: Inlet, L: Listener>(
     alloc: Global,
+    reader: &mut R,
     listener: &mut L,
     decoder: &mut Decoder,
-    piece: &[u8],
-    count: usize,
+    piece: &mut [u8],
+    turns: &mut u64,
 ) -> Result<(), Ending<L::End>>
-    requires { count ≤ length piece.now }
+    requires { 0 < length piece.old }
     ensures names { L.names listener.new ≡ L.names listener.old }
-    ensures limits { decoder.new.limits ≡ decoder.old.limits }
-    ensures hands { (fed : Fed) × (decoder.old.spent ≡ false
-        → Feeds decoder.old (take count piece.now) fed.traffic fed.fault decoder.new)
-        × HandsFed L.hears listener.old fed.traffic fed.fault listener.new result }
+    ensures hears { HearsPiece L.hears listener.old listener.new decoder.old decoder.new
+        (source_at (R.inflow reader.old) turns.old) (source_at (R.inflow reader.new) turns.new) result }
 {
-    let (octets, _) = piece.split_at(count);
-    hand_fed(alloc, listener, decoder.feed(octets))
+    match read_turn(reader, piece, turns) {
+        Ok(count) => {
+            let (octets, _) = piece.split_at(count);
+            hand_fed(alloc, listener, decoder.feed(octets))
+        }
+        Err(end) => Err(Ending::Connection(end)),
+    }
 }
 
 /// Hands on what a piece brought, and then its fault.

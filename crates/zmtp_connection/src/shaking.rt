@@ -26,7 +26,7 @@ use zmtp_wire::{
 const FIRST_PIECE: usize = 256;
 
 /// What is left to hear of octets that came from a peer.
-#[derive(Debug, Drop)]
+#[derive(Drop)]
 pub(crate) struct Unheard {
     /// What the octets brought.
     pub(crate) fed: Fed,
@@ -36,7 +36,7 @@ pub(crate) struct Unheard {
 
 /// An open peer: its greeting and its READY were accepted. It is heard once: what came with its READY is left to hear
 /// until then, and nothing afterwards.
-#[derive(Debug, Drop)]
+#[derive(Drop)]
 pub struct OpenPeer {
     /// The socket type of the peer.
     socket: SocketType,

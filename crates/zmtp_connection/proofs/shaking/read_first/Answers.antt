@@ -15,7 +15,8 @@ returns-in_err-count-clause-err g c =
     let (stop, reading) = c.in_err-count.ensures.err in
     rw (p.1, p.2) (stopped_first (source_at (g.R.Inlet.inflow c.args.reader.now) c.args.turns.now)
     (source_at (g.R.Inlet.inflow c.loop-count.reader) c.loop-count.turns)
-    (source_at (g.R.Inlet.inflow c.read_turn.new.reader) c.read_turn.new.turns) c.loop-count.decoder c.in_err-count.field-0.0
+    (source_at (g.R.Inlet.inflow c.read_turn.new.reader) c.read_turn.new.turns) c.loop-count.decoder
+    c.in_err-count.field-0.0
     c.loop-count.invariant stop reading)
 
 pub returns-then-not-is_empty-clause-ok : goal.returns-then-not-is_empty-clause-ok
@@ -25,7 +26,8 @@ returns-then-not-is_empty-clause-ok g c =
       λ none. absurd (let e = rw none at filled in search rules),
       came_first (source_at (g.R.Inlet.inflow c.args.reader.now) c.args.turns.now)
           (source_at (g.R.Inlet.inflow c.loop-count.reader) c.loop-count.turns)
-          (source_at (g.R.Inlet.inflow c.read_turn.new.reader) c.read_turn.new.turns) c.loop-count.decoder c.feed-fed.new.self
+          (source_at (g.R.Inlet.inflow c.read_turn.new.reader) c.read_turn.new.turns) c.loop-count.decoder
+          c.feed-fed.new.self
           (take c.in_ok-count.count c.read_turn.new.into) c.feed-fed.result.traffic c.feed-fed.result.fault
           c.loop-count.invariant leg (c.feed-fed.ensures.fed c.loop-count.invariant.alive) c.feed-fed.ensures.limits
           c.in_ok-count.ensures.one,
