@@ -17,4 +17,3 @@ pub mod ShakeLemmas
 pub mod SightLemmas
 pub mod TrafficLemmas
 pub mod Unfinished
-pub mod UnheardLemmas

@@ -20,8 +20,8 @@ use Rattle.zmtp_connection.specs.Listen.{RunsOut}
 use Rattle.zmtp_connection.specs.Server.{Answering, AnswersAll, Converses, GoesOn, IsLast, Serving, Treats, begins}
 use Rattle.zmtp_connection.specs.Server.{marked}
 use Rattle.zmtp_connection.specs.Laws.{IsDone, IsFunction, IsSettled, IsSettledBy, ServesOnce}
-use Rattle.zmtp_connection.proofs.HearOnce.{Laws, ends_without, no_more, calm_behind, behind_once, away_once, first_once}
-use Rattle.zmtp_connection.proofs.HearOnce.{met_away}
+use Rattle.zmtp_connection.proofs.HearOnce.{Laws, ends_without, no_more, calm_behind, behind_once, away_once}
+use Rattle.zmtp_connection.proofs.HearOnce.{first_once, met_away}
 
 -- one step
 step_once : {Server End : Type 0} (settles : End → Bool) (answers : Answering Server End) → IsFunction settles answers

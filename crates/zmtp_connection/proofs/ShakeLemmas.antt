@@ -319,9 +319,7 @@ peer_met ours one two three before after opening octets fed fed' decoder first p
         comes = record { front = s.front; split = behind_64 opening octets o.whole ∙ s.split; spelled = s.spelled };
         accepted = accepted;
       };
-      unheard = record { fed = fed'; decoder = decoder };
-      waits = unheard_is;
-      keeps = (s.feeds, limits);
+      holds = (record { fed = fed'; decoder = decoder }, unheard_is, (s.feeds, limits));
       prompt = prompt_on one two three opening octets s.behind o.leg
           (ready_prompt two three octets first s.front s.behind late s.split s.spelled);
     }

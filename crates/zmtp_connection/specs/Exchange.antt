@@ -114,7 +114,7 @@ ComesToByEnd Comes octets written (Failed Write) =
     (lost : List ℕ) × (0 < length lost) × IsCut Comes octets (written ++ lost)
 ComesToByEnd Comes octets written (Failed Memory) = IsCut Comes octets written
 
--- A whole exchange, which the connection ended so, or none where something else did: what was read, what was written,
+-- A whole exchange, and how the connection ended it, or none where something else did: what was read, what was written,
 -- and what the one comes to as the other. Any read may fail and any write may, and no end has both; so what is due is
 -- written before a read, and nothing behind one that failed.
 pub record Exchange (Comes : List ℕ → List ℕ → Type 0) (old new : Devices) (end : Option ConnectionEnd)

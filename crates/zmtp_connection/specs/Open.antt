@@ -21,15 +21,13 @@ pub record Open : Type 0 where
   pub socket : SocketType
   pub unheard : Option Unheard
 
--- an open peer that was heard: nothing is left to hear of it
-abbrev pub heard_out : Open → Open
-heard_out peer = record { socket = peer.socket; unheard = None }
+-- an open peer, once it was heard: nothing is left to hear of it
+abbrev pub once_heard : Open → Open
+once_heard peer = record { socket = peer.socket; unheard = None }
 
--- where something is left to hear, it is left of some octets, and of whichever octets it is, this is true
-abbrev pub OfUnheard : Option Unheard → (List ℕ → Type 0) → Type 0
-OfUnheard None is = ⊤
-OfUnheard (Some unheard) is =
-    IsLeft (Some unheard) × ((before : List ℕ) → IsLeftOf unheard before → is before)
+-- what is left to hear of an open peer is left of these octets, which stand behind its READY
+abbrev pub Holds : Open → List ℕ → Type 0
+Holds peer behind = (unheard : Unheard) × (peer.unheard ≡ Some unheard) × IsLeftOf unheard behind
 
 -- Hands were shaken with a peer: these octets were read and written, and these stand behind the peer's READY, of which
 -- something is left to hear. No read was made once that READY had come.
@@ -40,7 +38,5 @@ pub record Meets (ours : SocketType) (old new : Devices) (peer : Open) : Type 0 
   pub leg : Leg old.source new.source read
   pub puts : Puts old.outflow new.outflow written 0
   pub met : IsMet ours read written peer.socket behind
-  pub unheard : Unheard
-  pub waits : peer.unheard ≡ Some unheard
-  pub keeps : IsLeftOf unheard behind
+  pub holds : Holds peer behind
   pub prompt : IsPrompt old.source new.source read behind

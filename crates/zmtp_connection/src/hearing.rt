@@ -4,7 +4,7 @@ ghost use Rattle.std.specs.Prelude.{◌≡◌, ℕ, List, Option, None};
 ghost use Rattle.zmtp_wire.specs.declared.fault.WireFault.{WireFault};
 ghost use Rattle.zmtp_wire.specs.declared.traffic.Traffic.{Traffic};
 ghost use Rattle.zmtp_connection.specs.Exchange.{source_at};
-ghost use Rattle.zmtp_connection.specs.Open.{OfUnheard, heard_out};
+ghost use Rattle.zmtp_connection.specs.Open.{Holds, IsLeft, once_heard};
 ghost use Rattle.zmtp_connection.specs.Intake.{Taking, Grows, put_by, FillsAll};
 
 use crate::end::{ConnectionEnd, Ending};
@@ -77,9 +77,10 @@ pub fn hear<R: Inlet, I: Intake>(
     turns: u64,
 ) -> ConnectionEnd
     ensures names { I.names intake.new ≡ I.names intake.old }
-    ensures over { peer.new ≡ heard_out peer.old }
-    ensures fills { OfUnheard peer.old.unheard (λ before. (left : ℕ) × FillsAll I.takes I.told intake.old before
-        (source_at (R.inflow reader.old) turns) (source_at (R.inflow reader.new) left) intake.new result) }
+    ensures over { peer.new ≡ once_heard peer.old }
+    ensures held { IsLeft peer.old.unheard }
+    ensures fills { (before : List ℕ) → Holds peer.old before → (left : ℕ) × FillsAll I.takes I.told intake.old before
+        (source_at (R.inflow reader.old) turns) (source_at (R.inflow reader.new) left) intake.new result }
     ensures spent { peer.old.unheard ≡ None → (result ≡ ConnectionEnd.Wire WireFault.Spent)
         × (R.inflow reader.new ≡ R.inflow reader.old) × (intake.new ≡ intake.old) × (peer.new ≡ peer.old) }
 {

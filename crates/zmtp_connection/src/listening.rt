@@ -5,7 +5,7 @@ ghost use Rattle.zmtp_wire.specs.declared.fault.WireFault.{WireFault};
 ghost use Rattle.zmtp_wire.specs.declared.traffic.Traffic.{Traffic};
 ghost use Rattle.zmtp_connection.specs.Exchange.{source_at};
 ghost use Rattle.zmtp_connection.specs.Listen.{Hearing, Listens};
-ghost use Rattle.zmtp_connection.specs.Open.{IsLeftOf, OfUnheard, heard_out};
+ghost use Rattle.zmtp_connection.specs.Open.{Holds, IsLeft, IsLeftOf, once_heard};
 ghost use Rattle.zmtp_connection.specs.Handing.{HandsSome, HandsFed, HearsPiece};
 
 use crate::end::{ConnectionEnd, Ending};
@@ -55,9 +55,10 @@ pub fn listen<R: Inlet, L: Listener>(
     turns: u64,
 ) -> Ending<L::End>
     ensures names { L.names listener.new ≡ L.names listener.old }
-    ensures over { peer.new ≡ heard_out peer.old }
-    ensures listens { OfUnheard peer.old.unheard (λ before. (left : ℕ) × Listens L.hears listener.old before
-        (source_at (R.inflow reader.old) turns) (source_at (R.inflow reader.new) left) listener.new result) }
+    ensures over { peer.new ≡ once_heard peer.old }
+    ensures held { IsLeft peer.old.unheard }
+    ensures listens { (before : List ℕ) → Holds peer.old before → (left : ℕ) × Listens L.hears listener.old before
+        (source_at (R.inflow reader.old) turns) (source_at (R.inflow reader.new) left) listener.new result }
     ensures spent { peer.old.unheard ≡ None → (result ≡ Ending.Connection (ConnectionEnd.Wire WireFault.Spent))
         × (R.inflow reader.new ≡ R.inflow reader.old) × (listener.new ≡ listener.old) × (peer.new ≡ peer.old) }
 {
@@ -89,7 +90,7 @@ fn listen_on<R: Inlet, L: Listener>(
         return Ending::Connection(ConnectionEnd::Failed(ConnectionFault::Memory));
     };
     let mut left = turns;
-    loop {
+    'pieces: loop {
         let heard = hear_piece(alloc, reader, listener, &mut decoder, &mut piece, &mut left);
         if let Err(ending) = heard {
             drop(piece);

@@ -1,10 +1,10 @@
 //! Responding to a peer: a server hears what it says, and what the server answers is written.
 
-ghost use Rattle.std.specs.Prelude.{◌≡◌, ℕ, Err, MatchResult};
+ghost use Rattle.std.specs.Prelude.{◌≡◌, ℕ, List, Err, MatchResult};
 ghost use Rattle.zmtp_connection.specs.declared.end.Ending.{Ending};
 ghost use Rattle.zmtp_connection.specs.Exchange.{devices_at};
 ghost use Rattle.zmtp_connection.specs.Server.{marked};
-ghost use Rattle.zmtp_connection.specs.Open.{OfUnheard};
+ghost use Rattle.zmtp_connection.specs.Open.{Holds};
 ghost use Rattle.zmtp_connection.specs.Respond.{ConversesOn, Responds, flat, went};
 
 use crate::end::{ConnectionEnd, Ending};
@@ -142,9 +142,10 @@ pub(crate) fn respond<R: Inlet, W: Outlet, S: Server>(
     turns: u64,
 ) -> (Ending<S::End>, bool)
     ensures names { S.names server.new ≡ S.names server.old }
-    ensures responds { OfUnheard peer.old.unheard (λ before. (left : ℕ) × ConversesOn result.1 S.answers server.old
-        before (devices_at (R.inflow reader.old) turns (W.outflow writer.old))
-        (devices_at (R.inflow reader.new) left (W.outflow writer.new)) server.new result.0) }
+    ensures responds { (before : List ℕ) → Holds peer.old before → (left : ℕ)
+        × ConversesOn result.1 S.answers server.old before
+        (devices_at (R.inflow reader.old) turns (W.outflow writer.old))
+        (devices_at (R.inflow reader.new) left (W.outflow writer.new)) server.new result.0 }
 {
     let mut reply = Vec::new(alloc);
     let mut desk = Desk {

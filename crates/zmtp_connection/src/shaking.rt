@@ -8,7 +8,7 @@ ghost use Rattle.zmtp_wire.specs.Greeting.{IsGreeting, greeting_octets};
 ghost use Rattle.zmtp_wire.specs.Ready.{IsReady, ready_octets};
 ghost use Rattle.zmtp_connection.specs.Exchange.{Leg, Reading, Exchange, devices_at, source_at};
 ghost use Rattle.zmtp_connection.specs.declared.shaking.Unheard.{Unheard};
-ghost use Rattle.zmtp_connection.specs.Open.{IsLeft, Meets, heard_out};
+ghost use Rattle.zmtp_connection.specs.Open.{IsLeft, Meets, once_heard};
 ghost use Rattle.zmtp_connection.specs.Steps.{IsStop, IsFed, TurnsAway, BringsNothing, ComesLate, fresh};
 
 use crate::end::ConnectionEnd;
@@ -65,7 +65,7 @@ impl OpenPeer {
     /// Takes what is left to hear, and leaves nothing.
     pub(crate) fn take(&mut self) -> Option<Unheard>
         ensures taken { result ≡ self.old.unheard }
-        ensures none { self.new ≡ heard_out self.old }
+        ensures none { self.new ≡ once_heard self.old }
         ensures left { IsLeft result }
     {
         self.unheard.take()

@@ -22,8 +22,8 @@ returns-in_default-vec-clause-listens g c before came =
           c.args.unheard.decoder source before came c.in_default.ensures.hands),
     )
 
-pub loop-ending-init : goal.loop-ending-init
-loop-ending-init g c = record {
+pub pieces-init : goal.pieces-init
+pieces-init g c = record {
   room = let long = c.in-Ok.ensures.len in omega arith;
   same = c.in_default.ensures.names;
   so_far = λ before came. listening_begins g.L.Listener.hears c.args.listener.now c.hand_fed.new.listener
@@ -34,32 +34,33 @@ loop-ending-init g c = record {
 pub returns-in-Err-heard-clause-listens : goal.returns-in-Err-heard-clause-listens
 returns-in-Err-heard-clause-listens g c before came = (
   c.hear_piece-heard.new.turns,
-  listening_ended g.L.Listener.hears c.args.listener.now c.loop-ending.listener c.hear_piece-heard.new.listener
-      c.loop-ending.decoder c.hear_piece-heard.new.decoder
+  listening_ended g.L.Listener.hears c.args.listener.now c.pieces.listener c.hear_piece-heard.new.listener
+      c.pieces.decoder c.hear_piece-heard.new.decoder
       (source_at (g.R.Inlet.inflow c.args.reader.now) c.args.turns)
-      (source_at (g.R.Inlet.inflow c.loop-ending.reader) c.loop-ending.left)
+      (source_at (g.R.Inlet.inflow c.pieces.reader) c.pieces.left)
       (source_at (g.R.Inlet.inflow c.hear_piece-heard.new.reader) c.hear_piece-heard.new.turns) before
-      c.in-Err-heard.ending (c.loop-ending.invariant.so_far before came) c.in-Err-heard.ensures.hears,
+      c.in-Err-heard.ending (c.pieces.invariant.so_far before came) c.in-Err-heard.ensures.hears,
 )
 
-pub loop-ending-preserved : goal.loop-ending-preserved
-loop-ending-preserved g c =
-    let so_far = c.loop-ending.invariant in
-    let long : length c.hear_piece-heard.new.piece ≡ length c.loop-ending.piece.items =
+pub pieces-preserved : goal.pieces-preserved
+pieces-preserved g c =
+    let so_far = c.pieces.invariant in
+    let into = c.hear_piece-heard.new.piece in
+    let long : length into ≡ length c.pieces.piece.items =
     c.hear_piece-heard.auto.piece ∙ ap length c.deref_mut.ensures.value in
-    let len = c.loop-ending.piece.ok.0 in
+    let len = c.pieces.piece.ok.0 in
     record {
-      room = let all = c.hear_piece-heard.new.piece ++ drop (length c.hear_piece-heard.new.piece) c.loop-ending.piece.items in
-          let whole = length-append c.hear_piece-heard.new.piece
-          (drop (length c.hear_piece-heard.new.piece) c.loop-ending.piece.items) in
+      room = let behind = drop (length into) c.pieces.piece.items in
+          let all = into ++ behind in
+          let whole = length-append into behind in
           let some = so_far.room in
-          let taken = length-take-le c.loop-ending.piece.len all (omega (arith, long, whole, len)) in
+          let taken = length-take-le c.pieces.piece.len all (omega (arith, long, whole, len)) in
           omega (arith, taken, some, len);
       same = c.in_default-heard.ensures.names ∙ so_far.same;
-      so_far = λ before came. listening_goes_on g.L.Listener.hears c.args.listener.now c.loop-ending.listener
-          c.hear_piece-heard.new.listener c.loop-ending.decoder c.hear_piece-heard.new.decoder
+      so_far = λ before came. listening_goes_on g.L.Listener.hears c.args.listener.now c.pieces.listener
+          c.hear_piece-heard.new.listener c.pieces.decoder c.hear_piece-heard.new.decoder
           (source_at (g.R.Inlet.inflow c.args.reader.now) c.args.turns)
-          (source_at (g.R.Inlet.inflow c.loop-ending.reader) c.loop-ending.left)
+          (source_at (g.R.Inlet.inflow c.pieces.reader) c.pieces.left)
           (source_at (g.R.Inlet.inflow c.hear_piece-heard.new.reader) c.hear_piece-heard.new.turns) before
           (so_far.so_far before came) c.in_default-heard.ensures.hears;
     }

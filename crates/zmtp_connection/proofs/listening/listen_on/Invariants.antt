@@ -4,8 +4,8 @@ use Rattle.zmtp_connection.specs.Open.{IsLeftOf}
 use Rattle.zmtp_connection.proofs.ListenLemmas.{ListeningSoFar}
 use Rattle.zmtp_connection.proofs.listening.listen_on.Given as goal
 
-abbrev pub invariant-loop-ending : goal.invariant-loop-ending
-invariant-loop-ending g l = record {
+abbrev pub invariant-pieces : goal.invariant-pieces
+invariant-pieces g l = record {
   room : 0 < length l.piece.items;
   same : g.L.Listener.names l.listener ≡ g.L.Listener.names l.fn.listener;
   so_far : (before : List ℕ) → IsLeftOf l.fn.unheard before
@@ -13,5 +13,5 @@ invariant-loop-ending g l = record {
       (source_at (g.R.Inlet.inflow l.fn.reader) l.fn.turns) (source_at (g.R.Inlet.inflow l.reader) l.left) before;
 }
 
-abbrev pub decreases-loop-ending : goal.decreases-loop-ending
-decreases-loop-ending g l = l.left
+abbrev pub decreases-pieces : goal.decreases-pieces
+decreases-pieces g l = l.left

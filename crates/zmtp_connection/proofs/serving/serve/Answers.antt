@@ -2,7 +2,6 @@ use Rattle.std.proofs.Common.{false, refl}
 use Rattle.zmtp_connection.specs.Exchange.{devices_at}
 use Rattle.zmtp_connection.specs.declared.end.Ending.TheVariants.{Connection}
 use Rattle.zmtp_connection.proofs.ServeLemmas.{serve_met, serve_away}
-use Rattle.zmtp_connection.proofs.UnheardLemmas.{said_of}
 use Rattle.zmtp_connection.proofs.serving.serve.Goals as goal
 
 pub returns-in-Err-clause-serves : goal.returns-in-Err-clause-serves
@@ -20,8 +19,7 @@ returns-in-Err-clause-serves g c = (
 pub returns-clause-serves : goal.returns-clause-serves
 returns-clause-serves g c =
     let meets = c.in-Ok.ensures.met in
-    let (left, said) = said_of c.in-Ok.peer.unheard meets.unheard meets.waits meets.behind meets.keeps _
-    c.respond-ending.ensures.responds in (
+    let (left, said) = c.respond-ending.ensures.responds meets.behind meets.holds in (
       left,
       c.respond-ending.result.1,
       c.respond-ending.result.0,
