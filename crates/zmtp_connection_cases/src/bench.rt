@@ -5,9 +5,9 @@ use crate::names::Names;
 use crate::peer::Peer;
 use crate::shelf::Shelf;
 use crate::sink::Sink;
-use zmtp_connection::{ConnectionEnd, Ending, OpenPeer, echo, hear, serve, shake};
 use std::alloc::Global;
 use std::{io, mem};
+use zmtp_connection::{ConnectionEnd, Ending, OpenPeer, echo, hear, serve, shake};
 use zmtp_wire::{Counted, SocketType};
 
 /// A peer, and what meets it.
