@@ -8,7 +8,7 @@ use engine_examples::{After, Letters, Refusing, Scarce};
 use interp_core::Interpreter;
 use iopub_event::Event;
 use jmsg_envelope::{Envelope, Signer};
-use kernel_block::{Engine, EngineEnd, EngineFault, Handled};
+use kernel_engine::{Engine, EngineEnd, EngineFault, Handled};
 use std::alloc::{AllocError, Global};
 use std::io;
 

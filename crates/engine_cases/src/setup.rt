@@ -1,6 +1,6 @@
 //! What engine a block has.
 
-use kernel_block::Side;
+use kernel_engine::Side;
 use std::io;
 
 /// The language of an engine.

@@ -5,10 +5,11 @@ use crate::setup::Setup;
 use arith_shell::ShellArith;
 use engine_examples::{After, Refusing, Scarce};
 use jmsg_envelope::Signer;
-use kernel_block::{Engine, EngineFault};
-use kernel_engine::{SessionEnd, session};
+use kernel_engine::{Engine, EngineFault};
+use kernel_session::{SessionEnd, session};
 use std::alloc::Global;
 use std::io;
+use zmtp_connection::{ConnectionEnd, Ending};
 use zmtp_wire::Counted;
 
 /// In how many reads a peer is to be read.
@@ -72,15 +73,20 @@ fn serve(
 }
 
 /// Adds how a session ended; where a request comes back, its type.
-fn add_end(alloc: Global, text: &mut String, end: &SessionEnd) -> io::Result<()> {
+fn add_end(alloc: Global, text: &mut String, end: &Ending<SessionEnd>) -> io::Result<()> {
     let word = match end {
-        SessionEnd::Eof => String::from_str(alloc, "eof")?,
-        SessionEnd::Shutdown(restart) => format!(in alloc; "shutdown {restart}")?,
-        SessionEnd::Failed(EngineFault::OwedIdle(request)) => {
+        Ending::Connection(ConnectionEnd::Eof) => String::from_str(alloc, "eof")?,
+        Ending::Connection(ConnectionEnd::Wire(fault)) => {
+            format!(in alloc; "fault {}", fault.number())?
+        }
+        Ending::Connection(ConnectionEnd::Failed(fault)) => {
+            format!(in alloc; "fault {}", fault.number())?
+        }
+        Ending::Host(SessionEnd::Shutdown(restart)) => format!(in alloc; "shutdown {restart}")?,
+        Ending::Host(SessionEnd::Failed(EngineFault::OwedIdle(request))) => {
             format!(in alloc; "{} comes back", request.msg_type.as_str())?
         }
-        SessionEnd::Failed(fault) => format!(in alloc; "fault {}", fault.number())?,
-        SessionEnd::Wire(fault) => format!(in alloc; "fault {}", fault.number())?,
+        Ending::Host(SessionEnd::Failed(fault)) => format!(in alloc; "fault {}", fault.number())?,
     };
     Ok(writeln!(text, "    ends by {word}")?)
 }

@@ -1,6 +1,6 @@
 //! A stop that says yes.
 
-use kernel_block::Stop;
+use kernel_engine::Stop;
 use std::cell::Cell;
 
 /// Says yes each time but so many at first.

@@ -38,11 +38,11 @@ impl Publish for Refusing {
 
     type Item = Event<()>;
 
-    ghost items_of = { λ sink. map Some sink.items.items };
-
-    ghost may_refuse = { λ _. Unit };
-
-    ghost is_same = { λ _ _. Unit };
+    ghost sink = { record {
+      items = λ sink. map Some sink.items.items;
+      may_refuse = λ _. Unit;
+      is_same = λ _ _. Unit;
+    } };
 
     fn publish(&mut self, item: Event<()>) -> Result<(), Refused<Event<()>>> {
         self.pushes = self.pushes.saturating_add(1);
@@ -55,9 +55,9 @@ impl Publish for Refusing {
         }
     }
 
-    ghost same_itself = { λ _. tt };
-
-    ghost same_on = { λ _ _ _ _ _. tt };
-
-    ghost same_may_refuse = { λ _ _ _. (λ _. tt, λ _. tt) };
+    ghost laws = { record {
+      same_itself = λ _. tt;
+      same_on = λ _ _ _ _ _. tt;
+      same_may_refuse = λ _ _ _. (λ _. tt, λ _. tt);
+    } };
 }

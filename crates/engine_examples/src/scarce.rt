@@ -41,11 +41,11 @@ impl Stamp for Scarce {
     ghost use Rattle.std.specs.Prelude.{codes, true};
     ghost use Rattle.jmsg_envelope.specs.Stamp.{numbered, numbered-differ};
 
-    ghost meaning = { λ _. record { session = codes "s"; label = codes "s" } };
-
-    ghost id_text = { numbered };
-
-    ghost is_date = { λ _ _. true };
+    ghost stamp = { record {
+      meaning = λ _. record { session = codes "s"; label = codes "s" };
+      id_text = numbered;
+      is_date = λ _ _. true;
+    } };
 
     ghost ids_differ = { numbered-differ };
 

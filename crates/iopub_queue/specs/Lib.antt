@@ -7,6 +7,7 @@ pub mod Laws
 pub mod Marks
 pub mod Rule
 pub mod Running
+pub mod Sink
 pub mod Steps
 pub mod Values
 pub mod Views

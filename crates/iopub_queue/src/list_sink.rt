@@ -49,15 +49,11 @@ impl<T> ListSink<T> {
 }
 
 impl<T> Publish for ListSink<T> {
-    ghost use Rattle.std.specs.Prelude.{Some, map};
+    ghost use Rattle.iopub_queue.specs.Sink.{list_sink};
 
     type Item = T;
 
-    ghost items_of = { map Some };
-
-    ghost may_refuse = { λ _. Unit };
-
-    ghost is_same = { λ _ _. Unit };
+    ghost sink = { list_sink };
 
     fn publish(&mut self, item: T) -> Result<(), Refused<T>>
         ensures published { OnOk result (self.new ≡ self.old ++ item ∷ []) }
@@ -70,9 +66,9 @@ impl<T> Publish for ListSink<T> {
         }
     }
 
-    ghost same_itself = { λ _. tt };
-
-    ghost same_on = { λ _ _ _ _ _. tt };
-
-    ghost same_may_refuse = { λ _ _ _. (λ _. tt, λ _. tt) };
+    ghost laws = { record {
+      same_itself = λ _. tt;
+      same_on = λ _ _ _ _ _. tt;
+      same_may_refuse = λ _ _ _. (λ _. tt, λ _. tt);
+    } };
 }

@@ -1,6 +1,7 @@
 //! The interface of a sink.
 
-ghost use Rattle.std.specs.Prelude.{◌≡◌, ◌++◌, ◌∷◌, [], ◌↔◌, List, Option, IfErr, OnErr, OnOk};
+ghost use Rattle.std.specs.Prelude.{◌≡◌, ◌++◌, ◌∷◌, [], Some, IfErr, OnErr, OnOk};
+ghost use Rattle.iopub_queue.specs.Sink.{Sink, SinkLaws};
 
 use crate::refused::Refused;
 
@@ -9,14 +10,8 @@ pub trait Publish {
     /// What is published.
     type Item;
 
-    /// The list published so far, in its order. `None` is a close.
-    ghost items_of: { Self → List (Option Self.Item) };
-
-    /// Whether the sink may refuse an item.
-    ghost may_refuse: { Self → Type 0 };
-
-    /// Whether the second is the sink that the first was, whatever was published in between.
-    ghost is_same: { Self → Self → Type 0 };
+    /// What is published so far, whether the sink may refuse, and which value is the same sink later.
+    ghost sink: { Sink Self Self.Item };
 
     /// Publishes an item: it stands at the end of the list. The sink stays the same sink, also where it refuses.
     ///
@@ -24,18 +19,12 @@ pub trait Publish {
     ///
     /// Where the sink refused. The list is as it was, and the item comes back.
     fn publish(&mut self, item: Self::Item) -> Result<(), Refused<Self::Item>>
-        ensures published { OnOk result (items_of self.new ≡ items_of self.old ++ Some item ∷ []) }
-        ensures unpublished { OnErr result (items_of self.new ≡ items_of self.old) }
+        ensures published { OnOk result (sink.items self.new ≡ sink.items self.old ++ Some item ∷ []) }
+        ensures unpublished { OnErr result (sink.items self.new ≡ sink.items self.old) }
         ensures returned { IfErr result (λ refused. refused.item ≡ item) }
-        ensures allowed { OnErr result (may_refuse self.old) }
-        ensures same { is_same self.old self.new };
+        ensures allowed { OnErr result (sink.may_refuse self.old) }
+        ensures same { sink.is_same self.old self.new };
 
-    /// Each sink is the same as itself.
-    ghost same_itself: { (a : Self) → is_same a a };
-
-    /// What is the same as the same sink is the same.
-    ghost same_on: { (a b c : Self) → is_same a b → is_same b c → is_same a c };
-
-    /// While a sink is the same, whether it may refuse stays.
-    ghost same_may_refuse: { (a b : Self) → is_same a b → may_refuse a ↔ may_refuse b };
+    /// A sink stays the same sink, and while it does, whether it may refuse stays.
+    ghost laws: { SinkLaws sink };
 }

@@ -134,24 +134,21 @@ impl<T, R: Wait + Drop> Publisher<T, R> {
 }
 
 impl<T, R: Wait> Publish for Publisher<T, R> {
-    ghost use Rattle.std.specs.Prelude.{◌≡◌, refl};
+    ghost use Rattle.std.specs.Prelude.{refl};
     ghost use Rattle.std.proofs.Common.{◌∙◌};
+    ghost use Rattle.iopub_queue.specs.Sink.{publisher_sink};
 
     type Item = T;
 
-    ghost items_of = { λ publisher. publisher.published };
-
-    ghost may_refuse = { λ publisher. ⊥ };
-
-    ghost is_same = { λ a b. (b.queue ≡ a.queue) × (b.number ≡ a.number) };
+    ghost sink = { publisher_sink };
 
     fn publish(&mut self, item: T) -> Result<(), Refused<T>> {
         Publisher::publish(self, item)
     }
 
-    ghost same_itself = { λ _. (refl, refl) };
-
-    ghost same_on = { λ a b c ab bc. (bc.0 ∙ ab.0, bc.1 ∙ ab.1) };
-
-    ghost same_may_refuse = { λ _ _ _. (λ none. none, λ none. none) };
+    ghost laws = { record {
+      same_itself = λ _. (refl, refl);
+      same_on = λ a b c ab bc. (bc.0 ∙ ab.0, bc.1 ∙ ab.1);
+      same_may_refuse = λ _ _ _. (λ none. none, λ none. none);
+    } };
 }

@@ -5,7 +5,7 @@ use Rattle.std.proofs.lemmas.List.{append-nil}
 use Rattle.std.proofs.lemmas.Slice.Eq.{bytes_eq-Decides}
 use Rattle.std.specs.Global.{Vec}
 use Rattle.std.specs.List.{flat_map}
-use Rattle.std.specs.Io.KnownBytes.{Appends}
+use Rattle.std.specs.Io.KnownBytes.{Appends, Consumes, IsAtEnd}
 use Rattle.std.specs.Prelude.{bytes_eq, codes}
 use Rattle.zmtp_wire.specs.Device.{Inflow, Outflow}
 use Rattle.zmtp_wire.specs.Frame.{text}
@@ -13,19 +13,28 @@ use Rattle.arith_value.specs.Variables.{Bindings}
 use Rattle.arith_shell.specs.ShellArithmetic.{shell_meaning}
 use Rattle.iopub_event.specs.declared.event.Event.{Event}
 use Rattle.iopub_event.specs.declared.event.Event.TheVariants as events
-use Rattle.jmsg_envelope.specs.Stamp.{StampMeaning, numbered}
-use Rattle.kernel_block.specs.declared.fault.EngineFault.{EngineFault}
-use Rattle.kernel_block.specs.declared.parts.Parts.{Parts}
-use Rattle.kernel_block.specs.declared.side.Side.TheVariants.{Shell}
-use Rattle.kernel_block.specs.Block.{Message, starting}
-use Rattle.kernel_block.specs.Growth.{item_of}
-use Rattle.kernel_block.specs.Starts.{SaysNothing, SaysStarting}
-use Rattle.kernel_engine.specs.declared.end.SessionEnd.{SessionEnd}
-use Rattle.kernel_engine.specs.declared.end.SessionEnd.TheVariants.{Eof, Shutdown, Wire, Failed}
-use Rattle.kernel_engine.specs.Exchange.{Exchange}
-use Rattle.kernel_engine.specs.Laws.{IsSettled, SessionStays}
-use Rattle.kernel_engine.specs.Session.{IsSession, IsTold, Run}
-use Rattle.kernel_engine.specs.Work.{TellsSession, all_items}
+use Rattle.iopub_queue.specs.Sink.{list_sink}
+use Rattle.jmsg_envelope.specs.Stamp.{StampMeaning, Stamping, numbered}
+use Rattle.jkernel.specs.declared.replay.ReplayFault.{ReplayFault}
+use Rattle.kernel_engine.specs.declared.parts.Parts.{Parts}
+use Rattle.kernel_engine.specs.declared.side.Side.TheVariants.{Shell}
+use Rattle.kernel_engine.specs.Block.{Message, starting}
+use Rattle.kernel_engine.specs.Growth.{item_of}
+use Rattle.kernel_engine.specs.Starts.{SaysNothing, SaysStarting}
+use Rattle.kernel_engine.specs.World.{world_of}
+use Rattle.kernel_session.specs.declared.end.SessionEnd.{SessionEnd}
+use Rattle.kernel_session.specs.declared.end.SessionEnd.TheVariants.{Shutdown, Failed}
+use Rattle.zmtp_connection.specs.declared.end.ConnectionEnd.{ConnectionEnd}
+use Rattle.zmtp_connection.specs.declared.end.ConnectionEnd.TheVariants.{Eof, Wire}
+use Rattle.zmtp_connection.specs.declared.end.ConnectionEnd.TheVariants as closed
+use Rattle.zmtp_connection.specs.declared.end.Ending.{Ending}
+use Rattle.zmtp_connection.specs.declared.end.Ending.TheVariants.{Connection, Host}
+use Rattle.zmtp_connection.specs.Ending.{of_connection}
+use Rattle.zmtp_connection.specs.Exchange.{Exchange, ReadingOf, Source, devices_at}
+use Rattle.zmtp_connection.specs.Laws.{IsFinal}
+use Rattle.kernel_session.specs.Laws.{IsSettled, SessionStays}
+use Rattle.kernel_session.specs.Session.{IsSession, IsTold, Run}
+use Rattle.kernel_session.specs.Work.{TellsSession, all_items}
 use Rattle.jkernel.specs.Lines.{ending_text, event_text, printed_lines}
 use Rattle.jkernel.specs.Replay.{PrintsAll, PrintsPeer}
 use Rattle.jkernel.specs.Session.{IsPrinted, begun, begun_engine, with_starting}
@@ -38,6 +47,10 @@ replay_meaning stamp = record { session = codes "replay"; label = codes "replay_
 -- which texts are its dates
 abbrev replay_dates : StampMeaning → List ℕ → Bool
 replay_dates meaning text = bytes_eq text (codes "2000-01-01T00:00:00.000000Z")
+
+-- a replay's stamp
+abbrev replay_stamp : {S : Type 0} → Stamping S
+replay_stamp = record { meaning = replay_meaning; id_text = numbered; is_date = replay_dates }
 
 -- lists are equal where they are, as what a sink published
 some_once : {A : Type 0} (one other : List A) → map Some one ≡ map Some other → one ≡ other
@@ -62,7 +75,7 @@ texts_of {W} (first ∷ others) (second ∷ more) is =
     ∙ ap (λ o. text second ++ o) (texts_of others more tails)
 
 -- an engine of the shell that published nothing, and has started
-pub begun_as : {S W : Type 0} (is_same : List (Event W) → List (Event W) → Type 0) (key : List ℕ) (stamp : S)
+pub begun_as : {S W : Type 0} (key : List ℕ) (stamp : S)
     (fresh started : Parts Bindings (List (Event W)) S W)
     → fresh ≡ record {
       side = Shell;
@@ -71,14 +84,14 @@ pub begun_as : {S W : Type 0} (is_same : List (Event W) → List (Event W) → T
       publishing = record { sink = []; signer = key; stamp = stamp; next = 1 };
       owed = None;
     }
-    → SaysStarting (map Some) is_same replay_meaning numbered replay_dates fresh started
-    ⊎ SaysNothing (map Some) is_same replay_meaning numbered replay_dates fresh started
+    → SaysStarting list_sink replay_stamp fresh started
+    ⊎ SaysNothing list_sink replay_stamp fresh started
     → started ≡ begun_engine key started.publishing.stamp
-begun_as {S} {W} is_same key stamp fresh started is (inr nothing) = elim nothing.other [
+begun_as {S} {W} key stamp fresh started is (inr nothing) = elim nothing.other [
   | inl control ↦ absurd (let e = sym (ap (λ (p : Parts Bindings (List (Event W)) S W). p.side) is) ∙ control in cc)
   | inr some ↦ absurd (some (ap (λ (p : Parts Bindings (List (Event W)) S W). map Some p.publishing.sink) is))
 ]
-begun_as {S} {W} is_same key stamp fresh started is (inl says) =
+begun_as {S} {W} key stamp fresh started is (inl says) =
     let s = says.starts in
     let dated : s.date ≡ replay_date = (bytes_eq-Decides s.date replay_date).0 s.dated in
     let sink : started.publishing.sink ≡ events.Message (starting (replay_sealing key) replay_date) ∷ [] =
@@ -106,25 +119,45 @@ begun_as {S} {W} is_same key stamp fresh started is (inl says) =
     }) sink
 
 -- an ending that is printed is told
-told_of : (end : SessionEnd) → IsSettled end → IsTold end
-told_of Eof settled = tt
-told_of (Shutdown restart) settled = tt
-told_of (Wire fault) settled = settled
-told_of (Failed fault) settled = absurd settled
+told_of : (end : Ending SessionEnd) → IsSettled end → IsTold end
+told_of (Connection Eof) settled = tt
+told_of (Connection (Wire fault)) settled = settled
+told_of (Connection (closed.Failed fault)) settled = absurd settled
+told_of (Host (Shutdown restart)) settled = tt
+told_of (Host (Failed fault)) settled = absurd (let e = settled in cc)
+
+-- what was read was taken from what was left
+was_taken : (one two : Source) (octets : List ℕ) (ending : Ending SessionEnd)
+    → ReadingOf one two octets (of_connection ending) → Consumes one.inflow.left two.inflow.left octets
+was_taken one two octets (Connection end) reading = reading.draws.taken
+was_taken one two octets (Host end) leg = leg.draws.taken
+
+-- nothing is left where the peer's last octet ended it
+was_read_out : (one two : Source) (octets : List ℕ) (ending : Ending SessionEnd)
+    → ReadingOf one two octets (of_connection ending) → ending ≡ Connection Eof → IsAtEnd two.inflow.left
+was_read_out one two octets (Connection end) reading is = reading.read_out (let e = is in cc)
+was_read_out one two octets (Host end) leg is = absurd (let e = is in cc)
+
+-- an ending that is settled, and not by the peer's last octet, is for good
+final_of : (ending : Ending SessionEnd) → IsSettled ending → ending ≢ Connection Eof → IsFinal ending
+final_of (Connection end) settled other = (settled, λ eof. other (ap Connection eof))
+final_of (Host end) settled other = tt
 
 -- the lines of the session with the peer whose octets were read
 pub prints_peer : {S W : Type 0} (key : List ℕ) (begun_with after : Parts Bindings (List (Event W)) S W)
     (one two : Inflow) (out last : Outflow) (turns : ℕ) (shell output words : List ℕ) (events : List (Event W))
-    (end : SessionEnd) → begun_with ≡ begun_engine key begun_with.publishing.stamp
-    → (IsTold end → (left : ℕ) × Exchange (TellsSession shell_meaning (map Some) replay_meaning numbered replay_dates ⊥
-    begun_with) one two out last turns left after end)
-    → out.written ≡ Some [] → last.written ≡ Some shell → map Some events ≡ all_items (map Some) after
+    (end : Ending SessionEnd) → begun_with ≡ begun_engine key begun_with.publishing.stamp
+    → (IsTold end → (left : ℕ) × Exchange (λ octets written.
+    TellsSession (world_of shell_meaning list_sink replay_stamp) ⊥ begun_with octets written after end)
+    (devices_at one turns out) (devices_at two left last) (of_connection end))
+    → out.written ≡ Some [] → last.written ≡ Some shell → map Some events ≡ all_items list_sink after
     → IsSettled end → words ≡ ending_text end → output ≡ printed_lines shell (flat_map event_text events) words
     → PrintsPeer key one.left two.left output
 prints_peer {S} {W} key begun_with after one two out last turns shell output words events end is tells fresh stands
     published settled worded printed =
-    let (left, e) = subst (λ (b : Parts Bindings (List (Event W)) S W). (left : ℕ) × Exchange (TellsSession
-    shell_meaning (map Some) replay_meaning numbered replay_dates ⊥ b) one two out last turns left after end) is
+    let (left, e) = subst (λ (b : Parts Bindings (List (Event W)) S W). (left : ℕ) × Exchange (λ octets written.
+    TellsSession (world_of shell_meaning list_sink replay_stamp) ⊥ b octets written after end)
+    (devices_at one turns out) (devices_at two left last) (of_connection end)) is
     (tells (told_of end settled)) in
     let told = e.outcome in
     let wrote : shell ≡ e.written = subst (λ w. Appends (Some []) w e.written) stands
@@ -133,7 +166,7 @@ prints_peer {S} {W} key begun_with after one two out last turns shell output wor
     record {
       runs = told.runs;
       octets = e.read;
-      taken = e.reading.draws.taken;
+      taken = was_taken _ _ e.read end e.reading;
       printed = record {
         written = e.written;
         left = record {
@@ -151,13 +184,13 @@ prints_peer {S} {W} key begun_with after one two out last turns shell output wor
             ∙ ap (λ o. printed_lines e.written o words) texts
             ∙ ap (printed_lines e.written (flat_map text (with_starting key told.published))) worded;
       };
-      read_out = e.reading.read_out;
+      read_out = was_read_out _ _ e.read end e.reading;
     }
 
 -- a session that ended holds of all that its peer sends
 prints_on : {T : Type 0} (stop : T) → SessionStays shell_meaning (λ (t : T). ⊥) → (key : List ℕ)
     (runs : List (Run Bindings)) (octets output rest read : List ℕ) → octets ≡ read ++ rest
-    → (p : IsPrinted key runs read output) → p.ending ≢ Eof → IsPrinted key runs octets output
+    → (p : IsPrinted key runs read output) → p.ending ≢ Connection Eof → IsPrinted key runs octets output
 prints_on stop stays key runs octets output rest read is p ended = record {
   written = p.written;
   left = p.left;
@@ -165,23 +198,24 @@ prints_on stop stays key runs octets output rest read is p ended = record {
   settled = p.settled;
   session = subst (λ o. IsSession shell_meaning ⊥ (replay_setting key) (begun runs) o
       p.written p.left p.ending) (sym is)
-      (stays stop (replay_setting key) (begun runs) p.left read rest p.written p.ending p.settled ended p.session);
+      (stays stop (replay_setting key) (begun runs) p.left read rest p.written p.ending
+      (final_of p.ending p.settled ended) p.session);
   used = p.used;
   printed = p.printed;
 }
 
 prints_rest : {T : Type 0} (stop : T) → SessionStays shell_meaning (λ (t : T). ⊥) → (key : List ℕ)
     (runs : List (Run Bindings)) (octets output rest read : List ℕ) → octets ≡ read ++ rest
-    → (p : IsPrinted key runs read output) (end : SessionEnd) → p.ending ≡ end → (p.ending ≡ Eof → rest ≡ [])
-    → IsPrinted key runs octets output
-prints_rest stop stays key runs octets output rest read is p Eof ends read_out =
+    → (p : IsPrinted key runs read output) (end : Ending SessionEnd) → p.ending ≡ end
+    → (p.ending ≡ Connection Eof → rest ≡ []) → IsPrinted key runs octets output
+prints_rest stop stays key runs octets output rest read is p (Connection Eof) ends read_out =
     let whole : octets ≡ read = is ∙ ap (λ o. read ++ o) (read_out ends) ∙ append-nil read in
     subst (λ o. IsPrinted key runs o output) (sym whole) p
-prints_rest stop stays key runs octets output rest read is p (Shutdown restart) ends read_out =
+prints_rest stop stays key runs octets output rest read is p (Connection (Wire fault)) ends read_out =
     prints_on stop stays key runs octets output rest read is p (λ eof. let e = sym ends ∙ eof in cc)
-prints_rest stop stays key runs octets output rest read is p (Wire fault) ends read_out =
+prints_rest stop stays key runs octets output rest read is p (Connection (closed.Failed fault)) ends read_out =
     prints_on stop stays key runs octets output rest read is p (λ eof. let e = sym ends ∙ eof in cc)
-prints_rest stop stays key runs octets output rest read is p (Failed fault) ends read_out =
+prints_rest stop stays key runs octets output rest read is p (Host end) ends read_out =
     prints_on stop stays key runs octets output rest read is p (λ eof. let e = sym ends ∙ eof in cc)
 
 -- the lines of the session with a peer that sends these octets
@@ -194,7 +228,7 @@ prints_all stop stays key octets output (Some rest) p = (
 )
 
 pub prints_all_ok : {T : Type 0} (stop : T) → SessionStays shell_meaning (λ (t : T). ⊥) → (key octets : List ℕ)
-    (left' : Option (List ℕ)) (answer : Result (Vec ℕ) EngineFault)
+    (left' : Option (List ℕ)) (answer : Result (Vec ℕ) ReplayFault)
     → IfOk answer (λ lines. PrintsPeer key (Some octets) left' lines.items)
     → IfOk answer (λ lines. PrintsAll key octets lines.items)
 prints_all_ok stop stays key octets left' (Ok lines) p = prints_all stop stays key octets lines.items left' p

@@ -4,8 +4,8 @@ use Rattle.std.specs.List.{flat_map}
 use Rattle.zmtp_wire.specs.Frame.{text}
 use Rattle.arith_value.specs.Variables.{Bindings}
 use Rattle.arith_shell.specs.ShellArithmetic.{shell_meaning}
-use Rattle.kernel_engine.specs.Laws.{SessionOnce}
-use Rattle.kernel_engine.specs.Session.{IsSession, Standing}
+use Rattle.kernel_session.specs.Laws.{SessionOnce}
+use Rattle.kernel_session.specs.Session.{IsSession, Standing}
 use Rattle.jkernel.specs.Lines.{ending_text, printed_lines}
 use Rattle.jkernel.specs.Session.{LinesHaveOneValue, begun, with_starting}
 use Rattle.jkernel.specs.Stamp.{replay_setting}

@@ -6,10 +6,13 @@ use Rattle.iopub_event.specs.declared.event.Event.{Event}
 use Rattle.iopub_event.specs.declared.event.Event.TheVariants.{Message, Attach, Subscribe, Cancel, Detach}
 use Rattle.zmtp_wire.specs.Frame.{text}
 use Rattle.zmtp_wire.specs.Fault.{wire_fault_number}
-use Rattle.jkernel.specs.declared.lines.Ending.{Ending}
-use Rattle.jkernel.specs.declared.lines.Ending.TheVariants as ended
-use Rattle.kernel_engine.specs.declared.end.SessionEnd.{SessionEnd}
-use Rattle.kernel_engine.specs.declared.end.SessionEnd.TheVariants.{Eof, Shutdown, Wire, Failed}
+use Rattle.jkernel.specs.declared.lines.PrintedEnd.{PrintedEnd}
+use Rattle.jkernel.specs.declared.lines.PrintedEnd.TheVariants as ended
+use Rattle.kernel_session.specs.declared.end.SessionEnd.{SessionEnd}
+use Rattle.kernel_session.specs.declared.end.SessionEnd.TheVariants.{Shutdown, Failed}
+use Rattle.zmtp_connection.specs.declared.end.ConnectionEnd.TheVariants as closed
+use Rattle.zmtp_connection.specs.declared.end.Ending.{Ending}
+use Rattle.zmtp_connection.specs.declared.end.Ending.TheVariants.{Connection, Host}
 
 -- Whether an octet is ASCII white space: a tab, a line feed, a form feed, a carriage return or a space.
 abbrev pub is_white_space : ℕ → Bool
@@ -25,14 +28,15 @@ hex_octets text = result_ok (decode_of (without_white_space text))
 
 -- The words for how a session ended: the peer sent its last octet, asked for a shutdown, or broke the protocol, with
 -- the fault's number. A session that failed has none, and isn't printed.
-abbrev pub ending_text : SessionEnd → List ℕ
-ending_text Eof = codes "eof"
-ending_text (Shutdown restart) = codes "shutdown"
-ending_text (Wire fault) = codes "fault " ++ decimal (wire_fault_number fault)
-ending_text (Failed fault) = []
+abbrev pub ending_text : Ending SessionEnd → List ℕ
+ending_text (Connection closed.Eof) = codes "eof"
+ending_text (Connection (closed.Wire fault)) = codes "fault " ++ decimal (wire_fault_number fault)
+ending_text (Connection (closed.Failed fault)) = []
+ending_text (Host (Shutdown restart)) = codes "shutdown"
+ending_text (Host (Failed fault)) = []
 
 -- the words for an ending
-abbrev pub ending_words : Ending → List ℕ
+abbrev pub ending_words : PrintedEnd → List ℕ
 ending_words ended.Eof = codes "eof"
 ending_words ended.Shutdown = codes "shutdown"
 ending_words (ended.Fault fault) = codes "fault " ++ decimal (wire_fault_number fault)

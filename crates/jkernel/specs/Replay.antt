@@ -2,8 +2,9 @@
 use Rattle.std.specs.Prelude.{◌≡◌, ℕ, List, [], Option, Some, None, IfSome, ⊤}
 use Rattle.std.specs.Io.KnownBytes.{Appends, Consumes, IsAtEnd}
 use Rattle.arith_value.specs.Variables.{Bindings}
-use Rattle.kernel_engine.specs.declared.end.SessionEnd.TheVariants.{Eof}
-use Rattle.kernel_engine.specs.Session.{Run}
+use Rattle.zmtp_connection.specs.declared.end.ConnectionEnd.TheVariants.{Eof}
+use Rattle.zmtp_connection.specs.declared.end.Ending.TheVariants.{Connection}
+use Rattle.kernel_session.specs.Session.{Run}
 use Rattle.jkernel.specs.declared.status.Status.{Status}
 use Rattle.jkernel.specs.declared.status.Status.TheVariants.{Done, Failed, WordsRefused, FileUnreadable, FileRefused}
 use Rattle.jkernel.specs.declared.status.Status.TheVariants.{CannotBind, Incomplete, InputRefused}
@@ -17,7 +18,7 @@ pub record PrintsPeer (key : List ℕ) (left left' : Option (List ℕ)) (output 
   pub octets : List ℕ
   pub taken : Consumes left left' octets
   pub printed : IsPrinted key runs octets output
-  pub read_out : printed.ending ≡ Eof → IsAtEnd left'
+  pub read_out : printed.ending ≡ Connection Eof → IsAtEnd left'
 
 -- the lines that are printed for all the octets that a peer sends, for some courses and dates
 abbrev pub PrintsAll : List ℕ → List ℕ → List ℕ → Type 0

@@ -7,12 +7,13 @@ use Rattle.arith_value.specs.Variables.{Bindings}
 use Rattle.arith_shell.specs.ShellArithmetic.{shell_meaning}
 use Rattle.iopub_event.specs.declared.event.Event.{Event}
 use Rattle.iopub_event.specs.declared.event.Event.TheVariants as events
-use Rattle.kernel_block.specs.declared.parts.Parts.{Parts}
-use Rattle.kernel_block.specs.declared.side.Side.TheVariants.{Shell}
-use Rattle.kernel_block.specs.Block.{Message, starting}
-use Rattle.kernel_engine.specs.declared.end.SessionEnd.{SessionEnd}
-use Rattle.kernel_engine.specs.Laws.{IsSettled}
-use Rattle.kernel_engine.specs.Session.{IsSession, Run, Standing}
+use Rattle.kernel_engine.specs.declared.parts.Parts.{Parts}
+use Rattle.kernel_engine.specs.declared.side.Side.TheVariants.{Shell}
+use Rattle.kernel_engine.specs.Block.{Message, starting}
+use Rattle.kernel_session.specs.declared.end.SessionEnd.{SessionEnd}
+use Rattle.zmtp_connection.specs.declared.end.Ending.{Ending}
+use Rattle.kernel_session.specs.Laws.{IsSettled}
+use Rattle.kernel_session.specs.Session.{IsSession, Run, Standing}
 use Rattle.jkernel.specs.Lines.{ending_text, hex_octets, printed_lines}
 use Rattle.jkernel.specs.Stamp.{replay_date, replay_sealing, replay_setting}
 
@@ -45,7 +46,7 @@ with_starting key messages = starting (replay_sealing key) replay_date ∷ messa
 pub record IsPrinted (key : List ℕ) (runs : List (Run Bindings)) (octets output : List ℕ) : Type 0 where
   pub written : List ℕ
   pub left : Standing Bindings
-  pub ending : SessionEnd
+  pub ending : Ending SessionEnd
   pub settled : IsSettled ending
   pub session : IsSession shell_meaning ⊥ (replay_setting key) (begun runs) octets written left ending
   pub used : left.runs ≡ []

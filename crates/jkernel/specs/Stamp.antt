@@ -1,8 +1,8 @@
 -- What stays in a replay: its channel, its session, its ids and its one date.
 use Rattle.std.specs.Prelude.{ℕ, List, ◌++◌, codes, decimal, bytes_eq}
-use Rattle.kernel_block.specs.declared.side.Side.TheVariants.{Shell}
-use Rattle.kernel_block.specs.Block.{Sealing}
-use Rattle.kernel_engine.specs.Session.{Setting}
+use Rattle.kernel_engine.specs.declared.side.Side.TheVariants.{Shell}
+use Rattle.kernel_engine.specs.Block.{Sealing}
+use Rattle.kernel_session.specs.Session.{Setting}
 
 -- the session of a replay
 abbrev pub replay_session : List ℕ

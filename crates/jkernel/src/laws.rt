@@ -4,7 +4,7 @@ ghost use Rattle.jkernel.specs.Session.{LinesHaveOneValue};
 
 use crate::replay::Unstopped;
 use arith_shell::ShellArith;
-use kernel_engine::one_session;
+use kernel_session::one_session;
 
 /// The lines of an input are one text, for given courses and dates.
 pub fn one_text()

@@ -14,7 +14,7 @@ const WORDS: usize = 28;
 
 /// How a session ended whose lines are printed.
 #[derive(Clone, Copy, Debug)]
-pub(crate) enum Ending {
+pub(crate) enum PrintedEnd {
     /// The peer sent its last octet.
     Eof,
     /// The peer asked for a shutdown.
@@ -36,13 +36,13 @@ fn append_hex(text: &mut Vec<u8>, octets: &[u8]) -> Result<(), AllocError>
 }
 
 /// Adds how a session ended to a text.
-fn append_ending(alloc: Global, text: &mut Vec<u8>, ending: Ending) -> Result<(), AllocError>
+fn append_ending(alloc: Global, text: &mut Vec<u8>, ending: PrintedEnd) -> Result<(), AllocError>
     ensures { OnOk result (text.new.items ≡ text.old.items ++ ending_words ending) }
 {
     match ending {
-        Ending::Eof => text.extend_from_slice(b"eof"),
-        Ending::Shutdown => text.extend_from_slice(b"shutdown"),
-        Ending::Fault(fault) => {
+        PrintedEnd::Eof => text.extend_from_slice(b"eof"),
+        PrintedEnd::Shutdown => text.extend_from_slice(b"shutdown"),
+        PrintedEnd::Fault(fault) => {
             text.extend_from_slice(b"fault ")?;
             text.extend_from_slice(fault.number().to_string(alloc)?.as_bytes())
         }
@@ -54,7 +54,7 @@ pub(crate) fn lines_text(
     alloc: Global,
     shell: &[u8],
     iopub: &[u8],
-    ending: Ending,
+    ending: PrintedEnd,
 ) -> Result<Vec<u8>, AllocError>
     ensures { IfOk result (λ text. text.items ≡ printed_lines shell.now iopub.now
         (ending_words ending)) }
@@ -77,7 +77,7 @@ fn write_lines(
     text: &mut Vec<u8>,
     shell: &[u8],
     iopub: &[u8],
-    ending: Ending,
+    ending: PrintedEnd,
 ) -> Result<(), AllocError>
     requires { text.old.items ≡ [] }
     ensures { OnOk result (text.new.items ≡ printed_lines shell.now iopub.now (ending_words ending)) }

@@ -3,23 +3,26 @@
 
 ghost use Rattle.std.specs.Prelude.{◌≡◌, ◌⊎◌, [], Some, None, IfOk, IfErr, IfSome, OnOk, ◌++◌, map};
 ghost use Rattle.std.specs.List.{flat_map};
-ghost use Rattle.kernel_engine.specs.Laws.{IsSettled};
-ghost use Rattle.kernel_engine.specs.Work.{all_items};
+ghost use Rattle.iopub_queue.specs.Sink.{list_sink};
+ghost use Rattle.kernel_session.specs.Laws.{IsSettled};
+ghost use Rattle.kernel_session.specs.Work.{all_items};
 ghost use Rattle.jkernel.specs.Lines.{ending_text, ending_words, event_text, hex_octets, printed_lines};
 ghost use Rattle.jkernel.specs.Session.{begun_engine};
 ghost use Rattle.jkernel.specs.Replay.{IsNotHex, IsReplayed, PrintsAll, PrintsPeer, Replays};
 
 use crate::input::{HexFault, octets_of, read_all};
-use crate::lines::{Ending, lines_text, write_out};
+use crate::lines::{PrintedEnd, lines_text, write_out};
 use crate::stamp::ReplayStamp;
 use crate::status::Status;
 use arith_shell::ShellArith;
 use iopub_event::Event;
 use iopub_queue::ListSink;
 use jmsg_envelope::Signer;
-use kernel_engine::{Engine, EngineFault, SessionEnd, Side, Stop, one_session, session};
+use kernel_engine::{Engine, EngineFault, Side, Stop};
+use kernel_session::{SessionEnd, one_session, session};
 use std::alloc::{AllocError, Global};
 use std::io::{Read, Write};
+use zmtp_connection::{ConnectionEnd, ConnectionFault, Ending};
 use zmtp_wire::{Counted, Inlet, WireFault, write_message};
 
 /// The most reads of one session.
@@ -35,6 +38,15 @@ impl Stop for Unstopped {
     fn asked(&self) -> bool {
         false
     }
+}
+
+/// Why a replay has no lines.
+#[derive(Debug, Drop)]
+pub(crate) enum ReplayFault {
+    /// Its connection couldn't go on.
+    Connection(ConnectionFault),
+    /// Its engine couldn't go on.
+    Engine(EngineFault),
 }
 
 /// The engine of a replay, whose subscribers have nothing that they are written to.
@@ -112,7 +124,7 @@ fn read_octets<R: Read>(alloc: Global, reader: &mut R) -> Result<Vec<u8>, Status
 }
 
 /// The lines of the session with a peer that sends these octets.
-fn answer_octets(alloc: Global, key: Vec<u8>, octets: &[u8]) -> Result<Vec<u8>, EngineFault>
+fn answer_octets(alloc: Global, key: Vec<u8>, octets: &[u8]) -> Result<Vec<u8>, ReplayFault>
     ensures { IfOk result (λ lines. PrintsAll key.items octets.now lines.items) }
 {
     // A session that ended before the last octet is that of all octets: what stands behind changes nothing.
@@ -125,7 +137,7 @@ pub(crate) fn answer_peer<R: Inlet>(
     alloc: Global,
     key: Vec<u8>,
     reader: &mut R,
-) -> Result<Vec<u8>, EngineFault>
+) -> Result<Vec<u8>, ReplayFault>
     ensures { IfOk result (λ lines. PrintsPeer key.items (R.inflow reader.old).left (R.inflow reader.new).left
         lines.items) }
 {
@@ -143,7 +155,7 @@ pub(crate) fn answer_peer<R: Inlet>(
 }
 
 /// An engine of the shell that has said that the kernel starts.
-fn begun(alloc: Global, key: Vec<u8>) -> Result<ReplayEngine, EngineFault>
+fn begun(alloc: Global, key: Vec<u8>) -> Result<ReplayEngine, ReplayFault>
     ensures { IfOk result (λ engine. engine ≡ begun_engine key.items engine.publishing.stamp) }
 {
     let interp = ShellArith::new(alloc);
@@ -153,7 +165,7 @@ fn begun(alloc: Global, key: Vec<u8>) -> Result<ReplayEngine, EngineFault>
         Ok(()) => Ok(engine),
         Err(fault) => {
             drop(engine);
-            Err(fault)
+            Err(ReplayFault::Engine(fault))
         }
     }
 }
@@ -162,16 +174,16 @@ fn begun(alloc: Global, key: Vec<u8>) -> Result<ReplayEngine, EngineFault>
 #[derive(Drop)]
 struct Outcome {
     /// How it ended.
-    ending: Ending,
+    ending: PrintedEnd,
     /// All that was published.
     events: Vec<Event<Vec<u8>>>,
 }
 
 /// What a session that ended so came to, where its peer ended it and no idle is owed in the end; else its fault.
-fn outcome_of(end: SessionEnd, engine: ReplayEngine) -> Result<Outcome, EngineFault>
+fn outcome_of(end: Ending<SessionEnd>, engine: ReplayEngine) -> Result<Outcome, ReplayFault>
     ensures ending { IfOk result (λ outcome. ending_words outcome.ending ≡ ending_text end) }
     ensures settled { OnOk result (IsSettled end) }
-    ensures published { IfOk result (λ outcome. map Some outcome.events.items ≡ all_items (map Some) engine) }
+    ensures published { IfOk result (λ outcome. map Some outcome.events.items ≡ all_items list_sink engine) }
 {
     match settled(end) {
         Ok(ending) => match published(engine) {
@@ -186,7 +198,7 @@ fn outcome_of(end: SessionEnd, engine: ReplayEngine) -> Result<Outcome, EngineFa
 }
 
 /// The lines of a session, of what was written and what it came to.
-fn outcome_lines(alloc: Global, shell: Vec<u8>, outcome: Outcome) -> Result<Vec<u8>, EngineFault>
+fn outcome_lines(alloc: Global, shell: Vec<u8>, outcome: Outcome) -> Result<Vec<u8>, ReplayFault>
     ensures { IfOk result (λ lines. lines.items ≡ printed_lines shell.items
         (flat_map event_text outcome.events.items) (ending_words outcome.ending)) }
 {
@@ -195,31 +207,34 @@ fn outcome_lines(alloc: Global, shell: Vec<u8>, outcome: Outcome) -> Result<Vec<
     drop(outcome);
     match lines {
         Ok(lines) => Ok(lines),
-        Err(AllocError) => Err(EngineFault::Memory),
+        Err(AllocError) => Err(ReplayFault::Connection(ConnectionFault::Memory)),
     }
 }
 
 /// The printed ending of a session that its peer ended; else its fault.
-fn settled(end: SessionEnd) -> Result<Ending, EngineFault>
+fn settled(end: Ending<SessionEnd>) -> Result<PrintedEnd, ReplayFault>
     ensures { IfOk result (λ ending. (ending_words ending ≡ ending_text end) × IsSettled end) }
 {
     match end {
-        SessionEnd::Eof => Ok(Ending::Eof),
-        SessionEnd::Shutdown(_restart) => Ok(Ending::Shutdown),
-        SessionEnd::Wire(WireFault::OutOfMemory) => Err(EngineFault::Memory),
-        SessionEnd::Wire(fault) => Ok(Ending::Fault(fault)),
-        SessionEnd::Failed(fault) => Err(fault),
+        Ending::Connection(ConnectionEnd::Eof) => Ok(PrintedEnd::Eof),
+        Ending::Connection(ConnectionEnd::Wire(WireFault::OutOfMemory)) => {
+            Err(ReplayFault::Connection(ConnectionFault::Memory))
+        }
+        Ending::Connection(ConnectionEnd::Wire(fault)) => Ok(PrintedEnd::Fault(fault)),
+        Ending::Connection(ConnectionEnd::Failed(fault)) => Err(ReplayFault::Connection(fault)),
+        Ending::Host(SessionEnd::Shutdown(_restart)) => Ok(PrintedEnd::Shutdown),
+        Ending::Host(SessionEnd::Failed(fault)) => Err(ReplayFault::Engine(fault)),
     }
 }
 
 /// All that an engine published, where no idle is owed in the end.
-fn published(engine: ReplayEngine) -> Result<Vec<Event<Vec<u8>>>, EngineFault>
-    ensures { IfOk result (λ events. map Some events.items ≡ all_items (map Some) engine) }
+fn published(engine: ReplayEngine) -> Result<Vec<Event<Vec<u8>>>, ReplayFault>
+    ensures { IfOk result (λ events. map Some events.items ≡ all_items list_sink engine) }
 {
     let end = engine.close();
     if end.owed() {
         drop(end);
-        return Err(EngineFault::Memory);
+        return Err(ReplayFault::Engine(EngineFault::Memory));
     }
     let parts = end.into_parts();
     let publishing = parts.publishing;
@@ -232,7 +247,7 @@ fn session_lines(
     alloc: Global,
     shell: &[u8],
     events: &[Event<Vec<u8>>],
-    ending: Ending,
+    ending: PrintedEnd,
 ) -> Result<Vec<u8>, AllocError>
     ensures { IfOk result (λ lines. lines.items ≡ printed_lines shell.now (flat_map event_text events.now)
         (ending_words ending)) }

@@ -12,14 +12,14 @@ use std::alloc::{AllocError, Global};
 pub(crate) struct ReplayStamp;
 
 impl Stamp for ReplayStamp {
-    ghost meaning = { λ _. record {
-      session = codes "replay";
-      label = codes "replay_s";
+    ghost stamp = { record {
+      meaning = λ _. record {
+        session = codes "replay";
+        label = codes "replay_s";
+      };
+      id_text = numbered;
+      is_date = λ _ text. bytes_eq text (codes "2000-01-01T00:00:00.000000Z");
     } };
-
-    ghost id_text = { numbered };
-
-    ghost is_date = { λ _ text. bytes_eq text (codes "2000-01-01T00:00:00.000000Z") };
 
     ghost ids_differ = { numbered-differ };
 

@@ -161,9 +161,9 @@ signature-signed [] octets = inl refl
 signature-signed (first ∷ rest) octets = inr (lower-encode_lower (hmac (first ∷ rest) octets))
 
 pub sealed_is_opened_law : SealedIsOpened
-sealed_is_opened_law key prefix header parent metadata content buffers id kind free named = record {
-  digits = signature key (header ++ parent ++ metadata ++ content);
+sealed_is_opened_law key prefix parts id kind free named = record {
+  digits = signature key (parts.header ++ parts.parent ++ parts.metadata ++ parts.content);
   split = record { whole = refl; first = free };
-  signed = signature-signed key (header ++ parent ++ metadata ++ content);
+  signed = signature-signed key (parts.header ++ parts.parent ++ parts.metadata ++ parts.content);
   named = named;
 }

@@ -6,6 +6,7 @@ use Rattle.jmsg_envelope.specs.Hmac.{hmac}
 use Rattle.jmsg_envelope.specs.Header.{header_names}
 use Rattle.jmsg_envelope.specs.declared.envelope.Envelope.{Envelope}
 use Rattle.jmsg_envelope.specs.declared.fault.EnvelopeFault.{EnvelopeFault}
+use Rattle.jmsg_envelope.specs.declared.message_parts.MessageParts.{MessageParts}
 use Rattle.jmsg_envelope.specs.declared.fault.EnvelopeFault.TheVariants.{NoDelimiter, TooFewParts, BadSignature}
 use Rattle.jmsg_envelope.specs.declared.fault.EnvelopeFault.TheVariants.{BadHeader, OutOfMemory}
 
@@ -36,22 +37,21 @@ abbrev pub signature : List ℕ → List ℕ → List ℕ
 signature [] octets = []
 signature (first ∷ rest) octets = encode_lower (hmac (first ∷ rest) octets)
 
--- the parts of a message that is signed under a key
-abbrev pub sealed_parts : List ℕ → List (List ℕ) → List ℕ → List ℕ → List ℕ → List ℕ → List (List ℕ) → Parts
-sealed_parts key prefix header parent metadata content buffers = record {
+-- the parts of a message that is signed under a key, behind a prefix
+abbrev pub sealed_parts : List ℕ → List (List ℕ) → MessageParts → Parts
+sealed_parts key prefix parts = record {
   identities = prefix;
-  signature = signature key (header ++ parent ++ metadata ++ content);
-  header = header;
-  parent = parent;
-  metadata = metadata;
-  content = content;
-  buffers = buffers;
+  signature = signature key (parts.header ++ parts.parent ++ parts.metadata ++ parts.content);
+  header = parts.header;
+  parent = parts.parent;
+  metadata = parts.metadata;
+  content = parts.content;
+  buffers = parts.buffers;
 }
 
 -- the frames of a message that is signed under a key, behind a prefix
-abbrev pub sealed : List ℕ → List (List ℕ) → List ℕ → List ℕ → List ℕ → List ℕ → List (List ℕ) → List (List ℕ)
-sealed key prefix header parent metadata content buffers =
-    joined (sealed_parts key prefix header parent metadata content buffers)
+abbrev pub sealed : List ℕ → List (List ℕ) → MessageParts → List (List ℕ)
+sealed key prefix parts = joined (sealed_parts key prefix parts)
 
 -- the frames are these parts, cut at the first frame that equals the delimiter
 pub record IsSplit (frames : List (List ℕ)) (parts : Parts) : Type 0 where

@@ -4,6 +4,7 @@ use Rattle.jmsg_envelope.specs.Envelope.{Opened, IsNoEnvelope, delimiter, sealed
 use Rattle.jmsg_envelope.specs.Header.{header_names}
 use Rattle.jmsg_envelope.specs.declared.envelope.Envelope.{Envelope}
 use Rattle.jmsg_envelope.specs.declared.fault.EnvelopeFault.{EnvelopeFault}
+use Rattle.jmsg_envelope.specs.declared.message_parts.MessageParts.{MessageParts}
 
 -- no frames are refused under a key and opened under it
 abbrev pub RefusedIsNotOpened : Type 0
@@ -27,17 +28,16 @@ OpenedOnce =
 -- was made of
 abbrev pub SealedIsOpened : Type 0
 SealedIsOpened =
-    (key : List ℕ) (prefix : List (List ℕ)) (header parent metadata content : List ℕ) (buffers : List (List ℕ))
-    (id kind : List ℕ)
-    → ¬ Contains prefix delimiter → (named : header_names header ≡ Some (id, kind))
-    → Opened key (sealed key prefix header parent metadata content buffers) record {
+    (key : List ℕ) (prefix : List (List ℕ)) (parts : MessageParts) (id kind : List ℕ)
+    → ¬ Contains prefix delimiter → (named : header_names parts.header ≡ Some (id, kind))
+    → Opened key (sealed key prefix parts) record {
       identities = prefix;
-      header = header;
+      header = parts.header;
       msg_id = id;
       msg_type = kind;
-      parent = parent;
-      metadata = metadata;
-      content = content;
-      buffers = buffers;
+      parent = parts.parent;
+      metadata = parts.metadata;
+      content = parts.content;
+      buffers = parts.buffers;
       named = named;
     }

@@ -1,5 +1,5 @@
 -- What a source of message ids and dates stands for.
-use Rattle.std.specs.Prelude.{◌≡◌, ◌<◌, ◌^◌, ◌++◌, ℕ, List, decimal}
+use Rattle.std.specs.Prelude.{◌≡◌, ◌<◌, ◌^◌, ◌++◌, ℕ, List, Bool, decimal}
 use Rattle.std.proofs.lemmas.Fmt.{decimal_injective}
 use Rattle.std.proofs.lemmas.List.{append_cancel_left}
 
@@ -7,6 +7,13 @@ use Rattle.std.proofs.lemmas.List.{append_cancel_left}
 pub record StampMeaning : Type 0 where
   pub session : List ℕ
   pub label : List ℕ
+
+-- What is known of a stamp: the data of it that no call changes, and by these the text of each number's id and whether
+-- a text may be a date of it.
+pub record Stamping (Self : Type 0) : Type 0 where
+  pub meaning : Self → StampMeaning
+  pub id_text : StampMeaning → ℕ → List ℕ
+  pub is_date : StampMeaning → List ℕ → Bool
 
 -- ids of one stamp differ: two numbers below 2 ^ 64 with the same id are the same number
 abbrev pub IdsDiffer : (StampMeaning → ℕ → List ℕ) → Type 0

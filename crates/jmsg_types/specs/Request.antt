@@ -10,6 +10,10 @@ use Rattle.jmsg_types.specs.Field.{required, optional, and_then, as_text, as_tru
 use Rattle.jmsg_types.specs.Field.{as_texts, members_in, NamesRise}
 use Rattle.jmsg_types.specs.declared.request.Request.{Request}
 use Rattle.jmsg_types.specs.declared.request.Request.TheVariants as asks
+use Rattle.jmsg_types.specs.declared.message_type.ErrorForm.{ErrorForm}
+use Rattle.jmsg_types.specs.declared.message_type.ErrorForm.TheVariants.{NoError, Plain, Counted}
+use Rattle.jmsg_types.specs.declared.message_type.Heard.{Heard}
+use Rattle.jmsg_types.specs.declared.message_type.Heard.TheVariants.{Everywhere, OnShell, Nowhere}
 use Rattle.jmsg_types.specs.declared.message_type.MessageType.{MessageType}
 use Rattle.jmsg_types.specs.declared.message_type.MessageType.TheVariants.{KernelInfoRequest, ExecuteRequest}
 use Rattle.jmsg_types.specs.declared.message_type.MessageType.TheVariants.{CompleteRequest, InspectRequest}
@@ -19,18 +23,25 @@ use Rattle.jmsg_types.specs.declared.message_type.MessageType.TheVariants.{CommC
 use Rattle.jmsg_types.specs.declared.message_type.MessageType.TheVariants.{InterruptRequest}
 
 -- A row of the table of requests: the name of the message type; its fields, in the order in which they are judged, and
--- the request that they mean; the type of the message that replies.
+-- the request that they mean; the type of the message that replies; on which channels it has a meaning; which error
+-- replies to it.
 pub record RequestRow : Type 0 where
   pub msg_type : List ℕ
   pub fields : Members → Result Request Refusal
   pub reply : Option (List ℕ)
+  pub heard : Heard
+  pub error : ErrorForm
 
--- The table of requests. Silence keeps a cell out of the history; a cursor past the code's end is at its end.
+-- The table of requests. Silence keeps a cell out of the history; a cursor past the code's end is at its end. Shell and
+-- control both hear what a kernel is asked to tell of itself, to shut down and to interrupt, and shell the others. Of
+-- comms a kernel that has none only hears that one is opened.
 abbrev pub row_of : MessageType → RequestRow
 row_of KernelInfoRequest = record {
   msg_type = codes "kernel_info_request";
   fields = λ members. Ok asks.KernelInfo;
   reply = Some (codes "kernel_info_reply");
+  heard = Everywhere;
+  error = Plain;
 }
 row_of ExecuteRequest = record {
   msg_type = codes "execute_request";
@@ -43,6 +54,8 @@ row_of ExecuteRequest = record {
       and_then (optional as_truth true (codes "stop_on_error") members) (λ stop_on_error.
       Ok (asks.Execute code silent (store_history && not silent) user_expressions allow_stdin stop_on_error)))))));
   reply = Some (codes "execute_reply");
+  heard = OnShell;
+  error = Counted;
 }
 row_of CompleteRequest = record {
   msg_type = codes "complete_request";
@@ -51,6 +64,8 @@ row_of CompleteRequest = record {
       and_then (optional_cursor code (codes "cursor_pos") members) (λ cursor.
       Ok (asks.Complete code cursor)));
   reply = Some (codes "complete_reply");
+  heard = OnShell;
+  error = Plain;
 }
 row_of InspectRequest = record {
   msg_type = codes "inspect_request";
@@ -60,6 +75,8 @@ row_of InspectRequest = record {
       and_then (optional as_level 0 (codes "detail_level") members) (λ level.
       Ok (asks.Inspect code cursor level))));
   reply = Some (codes "inspect_reply");
+  heard = OnShell;
+  error = Plain;
 }
 row_of IsCompleteRequest = record {
   msg_type = codes "is_complete_request";
@@ -67,16 +84,22 @@ row_of IsCompleteRequest = record {
       and_then (required as_text (codes "code") members) (λ code.
       Ok (asks.IsComplete code));
   reply = Some (codes "is_complete_reply");
+  heard = OnShell;
+  error = Plain;
 }
 row_of HistoryRequest = record {
   msg_type = codes "history_request";
   fields = λ members. Ok asks.History;
   reply = Some (codes "history_reply");
+  heard = OnShell;
+  error = Plain;
 }
 row_of CommInfoRequest = record {
   msg_type = codes "comm_info_request";
   fields = λ members. Ok asks.CommInfo;
   reply = Some (codes "comm_info_reply");
+  heard = OnShell;
+  error = Plain;
 }
 row_of CommOpen = record {
   msg_type = codes "comm_open";
@@ -84,16 +107,22 @@ row_of CommOpen = record {
       and_then (required as_text (codes "comm_id") members) (λ comm_id.
       Ok (asks.CommOpen comm_id));
   reply = None;
+  heard = OnShell;
+  error = NoError;
 }
 row_of CommMsg = record {
   msg_type = codes "comm_msg";
   fields = λ members. Ok asks.CommMsg;
   reply = None;
+  heard = Nowhere;
+  error = NoError;
 }
 row_of CommClose = record {
   msg_type = codes "comm_close";
   fields = λ members. Ok asks.CommClose;
   reply = None;
+  heard = Nowhere;
+  error = NoError;
 }
 row_of ShutdownRequest = record {
   msg_type = codes "shutdown_request";
@@ -101,11 +130,15 @@ row_of ShutdownRequest = record {
       and_then (optional as_truth false (codes "restart") members) (λ restart.
       Ok (asks.Shutdown restart));
   reply = Some (codes "shutdown_reply");
+  heard = Everywhere;
+  error = Plain;
 }
 row_of InterruptRequest = record {
   msg_type = codes "interrupt_request";
   fields = λ members. Ok asks.Interrupt;
   reply = Some (codes "interrupt_reply");
+  heard = Everywhere;
+  error = Plain;
 }
 
 -- The types of the table, all of them.

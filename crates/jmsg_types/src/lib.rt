@@ -16,7 +16,7 @@ mod request;
 
 pub use fault::{ContentFault, content_words};
 pub use laws::{each_type_is_found, replies_are_named_for_requests};
-pub use message_type::{MessageType, reply_type};
+pub use message_type::{ErrorForm, Heard, MessageType, reply_type};
 pub use publication::{
     Publication, State, content_of_publication, content_text_of_publication, topic_of, type_of,
 };

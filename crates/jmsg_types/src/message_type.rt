@@ -32,6 +32,28 @@ pub enum MessageType {
     InterruptRequest,
 }
 
+/// On which channels a type of message has a meaning.
+#[derive(Clone, Copy, Debug, PartialEq, Eq)]
+pub enum Heard {
+    /// On shell and on control.
+    Everywhere,
+    /// On shell alone.
+    OnShell,
+    /// On none.
+    Nowhere,
+}
+
+/// Which error replies to a type of message ("Request-Reply").
+#[derive(Clone, Copy, Debug, PartialEq, Eq)]
+pub enum ErrorForm {
+    /// None, since no message replies to it.
+    NoError,
+    /// The name and the value of the error.
+    Plain,
+    /// These, and the execution count.
+    Counted,
+}
+
 impl MessageType {
     /// The type of this name.
     pub fn from_name(name: &str) -> Option<MessageType>
@@ -54,21 +76,108 @@ impl MessageType {
         }
     }
 
+    /// The columns of its row in the table of requests.
+    fn columns(self) -> Columns
+        ensures reply { option_map (λ name. name.now) result.reply ≡ (row_of self).reply }
+        ensures heard { result.heard ≡ (row_of self).heard }
+        ensures error { result.error ≡ (row_of self).error }
+    {
+        match self {
+            MessageType::KernelInfoRequest => {
+                Columns::new(
+                    Some("kernel_info_reply"),
+                    Heard::Everywhere,
+                    ErrorForm::Plain,
+                )
+            }
+            MessageType::ExecuteRequest => Columns::new(
+                Some("execute_reply"),
+                Heard::OnShell,
+                ErrorForm::Counted,
+            ),
+            MessageType::CompleteRequest => Columns::new(
+                Some("complete_reply"),
+                Heard::OnShell,
+                ErrorForm::Plain,
+            ),
+            MessageType::InspectRequest => Columns::new(
+                Some("inspect_reply"),
+                Heard::OnShell,
+                ErrorForm::Plain,
+            ),
+            MessageType::IsCompleteRequest => Columns::new(
+                Some("is_complete_reply"),
+                Heard::OnShell,
+                ErrorForm::Plain,
+            ),
+            MessageType::HistoryRequest => Columns::new(
+                Some("history_reply"),
+                Heard::OnShell,
+                ErrorForm::Plain,
+            ),
+            MessageType::CommInfoRequest => Columns::new(
+                Some("comm_info_reply"),
+                Heard::OnShell,
+                ErrorForm::Plain,
+            ),
+            MessageType::CommOpen => Columns::new(None, Heard::OnShell, ErrorForm::NoError),
+            MessageType::CommMsg => Columns::new(None, Heard::Nowhere, ErrorForm::NoError),
+            MessageType::CommClose => Columns::new(None, Heard::Nowhere, ErrorForm::NoError),
+            MessageType::ShutdownRequest => Columns::new(
+                Some("shutdown_reply"),
+                Heard::Everywhere,
+                ErrorForm::Plain,
+            ),
+            MessageType::InterruptRequest => Columns::new(
+                Some("interrupt_reply"),
+                Heard::Everywhere,
+                ErrorForm::Plain,
+            ),
+        }
+    }
+
+    /// On which channels it has a meaning.
+    pub fn heard(self) -> Heard
+        ensures { result ≡ (row_of self).heard }
+    {
+        self.columns().heard
+    }
+
+    /// Which error replies to it.
+    pub fn error(self) -> ErrorForm
+        ensures { result ≡ (row_of self).error }
+    {
+        self.columns().error
+    }
+
     /// The type of the message that replies to it.
     fn reply(self) -> Option<&'static str>
         ensures { option_map (λ name. name.now) result ≡ (row_of self).reply }
     {
-        match self {
-            MessageType::KernelInfoRequest => Some("kernel_info_reply"),
-            MessageType::ExecuteRequest => Some("execute_reply"),
-            MessageType::CompleteRequest => Some("complete_reply"),
-            MessageType::InspectRequest => Some("inspect_reply"),
-            MessageType::IsCompleteRequest => Some("is_complete_reply"),
-            MessageType::HistoryRequest => Some("history_reply"),
-            MessageType::CommInfoRequest => Some("comm_info_reply"),
-            MessageType::ShutdownRequest => Some("shutdown_reply"),
-            MessageType::InterruptRequest => Some("interrupt_reply"),
-            MessageType::CommOpen | MessageType::CommMsg | MessageType::CommClose => None,
+        self.columns().reply
+    }
+}
+
+/// What the table of requests says of a type, beside its name and its fields.
+#[derive(Clone, Copy)]
+struct Columns {
+    /// The type of the message that replies to it, where any does.
+    reply: Option<&'static str>,
+    /// On which channels it has a meaning.
+    heard: Heard,
+    /// Which error replies to it.
+    error: ErrorForm,
+}
+
+impl Columns {
+    /// These columns.
+    fn new(reply: Option<&'static str>, heard: Heard, error: ErrorForm) -> Columns
+        ensures { (result.reply ≡ reply.entry) × (result.heard ≡ heard) × (result.error ≡ error) }
+    {
+        Columns {
+            reply,
+            heard,
+            error,
         }
     }
 }

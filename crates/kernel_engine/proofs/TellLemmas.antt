@@ -1,497 +1,158 @@
--- A session of an engine, as its definition tells it: each step of the engine is one of the session, for some course
--- and date.
-use Rattle.std.proofs.Common.{◌≡◌, ◌⊎◌, inl, inr, ℕ, ◌+◌, List, [], ◌∷◌, ◌++◌, length, Bool, true, false, Option}
-use Rattle.std.proofs.Common.{Some, None, Result, Ok, Err, refl, sym, ◌∙◌, ap, subst, append_assoc, map, arith}
-use Rattle.std.proofs.Common.{length-append}
-use Rattle.std.proofs.lemmas.List.{append-nil, map-append}
-use Rattle.zmtp_wire.specs.declared.handshake.socket_type.SocketType.TheVariants.{Router}
-use Rattle.zmtp_wire.specs.declared.traffic.Traffic.{Traffic}
-use Rattle.zmtp_wire.specs.declared.traffic.Traffic.TheVariants as traffic
-use Rattle.zmtp_wire.specs.Device.{Inflow, Outflow}
+-- Cells that are published: the cell itself, what it wrote, and what came of it.
+use Rattle.std.proofs.Common.{arith, ◌≡◌, ◌≢◌, inl, inr, ℕ, List, [], ◌∷◌, ◌++◌, length, map, Bool, true, false, Option}
+use Rattle.std.proofs.Common.{Result, Ok, Err, MatchResult}
+use Rattle.std.proofs.Common.{refl, sym, ◌∙◌, ap, subst, append_assoc}
+use Rattle.std.proofs.lemmas.Bool.{false≢true}
+use Rattle.std.proofs.lemmas.List.{append-nil, length-append}
 use Rattle.interp_core.specs.Interpreter.{Meaning}
-use Rattle.iopub_event.specs.declared.event.Event.{Event}
-use Rattle.iopub_event.specs.declared.event.Event.TheVariants as events
-use Rattle.jmsg_envelope.specs.Stamp.{StampMeaning}
-use Rattle.kernel_block.specs.declared.fault.EngineFault.TheVariants.{OwedIdle, Memory, Read, Write, Turns, Worn}
-use Rattle.kernel_block.specs.declared.handled.Handled.{Handled}
-use Rattle.kernel_block.specs.declared.parts.Parts.{Parts}
-use Rattle.kernel_block.specs.declared.side.Side.{Side}
-use Rattle.kernel_block.specs.Block.{Message, block, idle, opened, reply_message}
-use Rattle.kernel_block.specs.Growth.{item_of, sealing_of}
-use Rattle.kernel_block.specs.Handles.{answer_with, owed_items}
-use Rattle.kernel_block.specs.Opens.{ids_of_reply}
-use Rattle.kernel_block.specs.WellBlocked.{heading_of, past, where_published}
-use Rattle.kernel_engine.specs.declared.end.SessionEnd.{SessionEnd}
-use Rattle.kernel_engine.specs.declared.end.SessionEnd.TheVariants.{Eof, Shutdown, Wire, Failed}
-use Rattle.kernel_engine.specs.declared.server.Answered.{Answered}
-use Rattle.kernel_engine.specs.declared.server.Answered.TheVariants.{Done, Dropped}
-use Rattle.kernel_engine.specs.Exchange.{Exchange}
-use Rattle.kernel_engine.specs.Fault.{IsServerEnd}
-use Rattle.kernel_engine.specs.Laws.{IsDone}
-use Rattle.kernel_engine.specs.Listen.{RunsOut}
-use Rattle.kernel_engine.specs.Server.{Serving, Treats, GoesOn, AnswersAll, IsLast, IsServed, Serves, ServesPeer}
-use Rattle.kernel_engine.specs.Server.{BreaksIn, begins, marked, told}
-use Rattle.kernel_engine.specs.Session.{DoesMessage, IsTold, Performs, Run, Setting, Standing}
-use Rattle.kernel_engine.specs.Session.{heading_by, number_behind, reply_text}
-use Rattle.kernel_engine.specs.Work.{TellsSession, Works, WorksOne, all_items, setting_of}
-use Rattle.kernel_engine.specs.Work.{standing_of}
-use Rattle.kernel_engine.specs.Steps.{TurnsAway}
-use Rattle.kernel_engine.proofs.ServeOnce.{undropped, unmarked}
+use Rattle.interp_core.specs.declared.answer.Output.{Output}
+use Rattle.interp_core.specs.declared.fault.InterpFault.{InterpFault}
+use Rattle.interp_core.specs.declared.fault.InterpFault.TheVariants.{Interrupted, OutOfMemory}
+use Rattle.jmsg_types.specs.declared.publication.Publication.{Publication}
+use Rattle.jmsg_types.specs.declared.publication.Publication.TheVariants.{ExecuteInput}
+use Rattle.kernel_engine.specs.Course.{Course, Ending, own, interrupted, memory, Outcome, Ends, MayEnd, TextRuns}
+use Rattle.kernel_engine.specs.Publications.{publication_of, last_of}
+use Rattle.kernel_engine.specs.Growth.{unless_silent}
+use Rattle.kernel_engine.specs.Runs.{MayBeCut, RunsWhole, RunsCut, TellsWhole, TellsCut, failure_of}
+use Rattle.kernel_engine.specs.Runs.{cell_publications}
+use Rattle.kernel_engine.proofs.PuttingLemmas.{told_none}
 
--- what was published of a block, and its idle where that is owed, is all of the block
-block_items : {W : Type 0} (front owed : List (Option (Event W))) (opening : List Message) (last : Message)
-    (closed : Bool) (items : List (Option (Event W))) (owes : Option (Event W))
-    → items ≡ front ++ (owed ++ map item_of (opening ++ where_published closed last))
-    → ((closed ≡ true) × (owes ≡ None)) ⊎ ((closed ≡ false) × (owes ≡ Some (events.Message last)))
-    → items ++ owed_items owes ≡ (front ++ owed) ++ map item_of (opening ++ last ∷ [])
-block_items {W} front owed opening last true items owes is (inl (closed, none)) =
-    ap (λ o. items ++ owed_items o) none ∙ append-nil items ∙ is
-    ∙ sym (append_assoc front owed (map item_of (opening ++ last ∷ [])))
-block_items {W} front owed opening last false items owes is (inr (isnt, some)) =
-    ap (λ o. items ++ owed_items o) some
-    ∙ ap (λ i. i ++ item_of last ∷ []) (is ∙ ap (λ o. front ++ (owed ++ map item_of o)) (append-nil opening))
-    ∙ ap (λ i. i ++ item_of last ∷ []) (sym (append_assoc front owed (map item_of opening)))
-    ∙ append_assoc (front ++ owed) (map item_of opening) (item_of last ∷ [])
-    ∙ ap (λ i. (front ++ owed) ++ i) (sym (map-append item_of opening (last ∷ [])))
-block_items {W} front owed opening last true items owes is (inr (isnt, some)) = absurd (let e = isnt in cc)
-block_items {W} front owed opening last false items owes is (inl (closed, none)) = absurd (let e = closed in cc)
-
--- what stays, by its parts
-abbrev setting_by : (StampMeaning → ℕ → List ℕ) → (StampMeaning → List ℕ → Bool) → Side → List ℕ → StampMeaning
-    → Setting
-setting_by id_text is_date side key stamp = record {
-  side = side;
-  sealing = record { key = key; session = stamp.session; id = id_text stamp };
-  is_date = is_date stamp;
+-- nothing was published, and nothing ran
+pub tells_nothing : {State Cell : Type 0} (m : Meaning State Cell) (state : State) (code : List ℕ) (count : ℕ)
+    (Grew : List Publication → Type 0) (silent : Bool) (may : Type 0) → Grew []
+    → TellsCut (TextRuns m state code) may code count state Grew silent
+tells_nothing m state code count Grew silent may grew = record {
+  course = record { steps = 0; ending = memory state };
+  outputs = [];
+  outcome = Err OutOfMemory;
+  runs = inr (inl (record { course_is = refl; quiet = refl; outcome_is = refl; same = refl }));
+  grew = record {
+    front = [];
+    rest = cell_publications code count [] (Err OutOfMemory);
+    whole = refl;
+    grew = subst Grew (sym (told_none silent)) grew;
+  };
+  ending = tt;
 }
 
-same_setting : (id_text : StampMeaning → ℕ → List ℕ) (is_date : StampMeaning → List ℕ → Bool) (side other : Side)
-    (key also : List ℕ) (stamp same : StampMeaning) → side ≡ other → key ≡ also → stamp ≡ same
-    → setting_by id_text is_date side key stamp ≡ setting_by id_text is_date other also same
-same_setting id_text is_date side other key also stamp same a b c =
-    ap (λ s. setting_by id_text is_date s key stamp) a ∙ ap (λ k. setting_by id_text is_date other k stamp) b
-    ∙ ap (λ t. setting_by id_text is_date other also t) c
+-- a list with something at its end isn't empty
+not_empty : {A : Type 0} (l : List A) (last : A) → l ++ last ∷ [] ≢ []
+not_empty l last none =
+    let long = length-append l (last ∷ []) in
+    let length_none = ap length none in absurd (omega (arith, long, length_none))
 
--- a write doesn't fail in nothing
-no_break : (before reply written : List ℕ) → BreaksIn before reply written → reply ≡ [] → ⊥
-no_break before reply written (front, lost, split, some, wrote) none =
-    omega (arith, some, ap length (sym split ∙ none), length-append front lost)
+-- a course that may end so may be cut so
+pub may_be_cut : {State : Type 0} (may : Type 0) (ending : Ending State) (publications rest : List Publication)
+    → MayEnd may ending → MayBeCut may ending publications rest
+may_be_cut may own publications rest ends = tt
+may_be_cut may interrupted publications rest ends = inl ends
+may_be_cut may (memory left) publications rest ends = tt
 
--- a message that wasn't dropped was done
-answered_done : (answered : Answered) → IsDone (Ok answered) → answered ≡ Done
-answered_done Done done = refl
-answered_done Dropped done = absurd done
+-- the error of an interruption that wasn't published
+error_left : (count : ℕ) (outcome : Outcome) (rest : List Publication) → outcome ≡ Err Interrupted
+    → rest ++ last_of count outcome ≢ []
+error_left count outcome rest is = subst (λ o. rest ++ last_of count o ≢ []) (sym is) (not_empty rest _)
 
-module _ {I P S W Cell : Type 0} (m : Meaning I Cell) (items_of : P → List (Option (Event W)))
-    (may_refuse : P → Type 0) (is_same : P → P → Type 0) (meaning : S → StampMeaning)
-    (id_text : StampMeaning → ℕ → List ℕ) (is_date : StampMeaning → List ℕ → Bool) (may : Type 0) where
-  -- a message was done as a request by a run, and what was published is this
-  record WasRun (old : Parts I P S W) (message : Message) (handled : Handled) (reply : List ℕ) (new : Parts I P S W)
-      : Type 0 where
-    run : Run I
-    messages : List Message
-    listed : all_items items_of new ≡ all_items items_of old ++ map item_of messages
-    stays : setting_of meaning id_text is_date new ≡ setting_of meaning id_text is_date old
-    does : (published : List Message) (later : List (Run I))
-        → (done : DoesMessage m may (setting_of meaning id_text is_date old) (standing_of old published (run ∷ later))
-        message reply (standing_of new (published ++ messages) later))
-        × (done.answer.end ≡ handled.end) × (done.answer.restart ≡ handled.restart)
+-- whether a course ended by an interruption
+abbrev is_interrupted : {State : Type 0} → Ending State → Bool
+is_interrupted own = false
+is_interrupted interrupted = true
+is_interrupted (memory left) = false
 
-  is_done : (old : Parts I P S W) (message : Message) (handled : Handled) (reply : List ℕ) (new : Parts I P S W)
-      → Works m items_of may_refuse is_same meaning id_text is_date may old message handled new
-      → reply ≡ reply_text handled.reply → WasRun old message handled reply new
-  is_done old message handled reply new works is =
-      let ok = works.does in
-      let request = works.request in
-      let sealing = sealing_of meaning id_text old.publishing in
-      let publications = ok.block.publications in
-      let run : Run I = record { course = ok.course; date = ok.block.date } in
-      let headed : heading_of ok.block ≡ heading_by run request =
-      ap (λ p. record { date = ok.block.date; parent = p }) ok.parent in
-      let next : past ok.block ≡ number_behind old.publishing.next publications =
-      ap (λ n. number_behind n publications) ok.adds.number in
-      let whole : block sealing (heading_of ok.block) ok.block.number publications
-      ≡ block sealing (heading_by run request) old.publishing.next publications =
-      ap (λ h. block sealing h ok.block.number publications) headed
-      ∙ ap (λ n. block sealing (heading_by run request) n publications) ok.adds.number in
-      record {
-        run = run;
-        messages = block sealing (heading_by run request) old.publishing.next publications;
-        listed = block_items (items_of old.publishing.sink) (owed_items old.owed)
-            (opened sealing (heading_of ok.block) ok.block.number publications)
-            (idle sealing (heading_of ok.block) ok.block.number) ok.block.closed (items_of new.publishing.sink)
-            new.owed ok.adds.items (elim ok.adds.owed [
-              | inl closed ↦ inl closed
-              | inr (isnt, owed, refused) ↦ inr (isnt, owed)
-            ])
-            ∙ ap (λ b. all_items items_of old ++ map item_of b) whole;
-        stays = same_setting id_text is_date new.side old.side new.publishing.signer old.publishing.signer
-            (meaning new.publishing.stamp) (meaning old.publishing.stamp) ok.adds.side ok.adds.signer ok.adds.meant;
-        does = λ published later. (
-          record {
-            request = request;
-            opened = works.opened;
-            answer = answer_with handled ok.reply new;
-            does = record {
-              run = run;
-              runs = refl;
-              dated = ok.adds.dated;
-              ending = ok.ending;
-              publications = publications;
-              publishes = ok.publishes;
-              answers = ok.answers;
-              replied = is ∙ ap reply_text (ok.replied
-                  ∙ ap (λ h. reply_message sealing h request.identities (past ok.block) request.msg_type ok.reply)
-                  headed
-                  ∙ ap (λ n. reply_message sealing (heading_by run request) request.identities n request.msg_type
-                  ok.reply) next);
-              became = ap (λ n. record {
-                state = new.interp;
-                count = new.count;
-                next = n;
-                published = published ++ block sealing (heading_by run request) old.publishing.next publications;
-                runs = later;
-              }) (ok.next ∙ ap (λ n. n + ids_of_reply ok.reply) next);
-            };
-          },
-          refl,
-          refl,
-        );
-      }
+-- a cell that was interrupted has this outcome
+interrupted_outcome : {State Cell : Type 0} (m : Meaning State Cell) (state : State) (code : List ℕ)
+    (course : Course State) (outputs : List Output) (outcome : Outcome) (after : State)
+    → TextRuns m state code course outputs outcome after → course.ending ≡ interrupted → outcome ≡ Err Interrupted
+interrupted_outcome {State} m state code course outputs outcome after (inl no_cell) is =
+    absurd (false≢true (sym (ap (λ (c : Course State). is_interrupted c.ending) no_cell.course_is)
+    ∙ ap is_interrupted is))
+interrupted_outcome {State} m state code course outputs outcome after (inr (inl unread)) is =
+    absurd (false≢true (sym (ap (λ (c : Course State). is_interrupted c.ending) unread.course_is)
+    ∙ ap is_interrupted is))
+interrupted_outcome m state code course outputs outcome after (inr (inr begins)) is =
+    (subst (λ e. Ends m e begins.runs.more begins.runs.at begins.runs.left begins.runs.last outcome after) is
+    begins.runs.ends).1.outcome_is
 
-  -- an engine in a session in which nothing was dropped, as the session tells it
-  abbrev tells : Parts I P S W → List Message → List (Run I) → Serving (Standing I)
-  tells parts published runs = record { server = standing_of parts published runs; dropped = false }
+-- so it is by the ending of the course
+by_ending : {State Cell : Type 0} (m : Meaning State Cell) (state : State) (code : List ℕ) (may : Type 0)
+    (count : ℕ) (ending : Ending State) (course : Course State) → course.ending ≡ ending → (outputs : List Output)
+    (outcome : Outcome) (after : State) (publications rest : List Publication)
+    → TextRuns m state code course outputs outcome after
+    → MayBeCut may ending publications (rest ++ last_of count outcome)
+by_ending m state code may count own course is outputs outcome after publications rest runs = tt
+by_ending m state code may count interrupted course is outputs outcome after publications rest runs =
+    inr (inl (error_left count outcome rest
+    (interrupted_outcome m state code course outputs outcome after runs is)))
+by_ending m state code may count (memory left) course is outputs outcome after publications rest runs = tt
 
-  -- traffic was treated by some runs, and what was published is this
-  record IsTreated (old : Parts I P S W) (items : List Traffic) (replies : List ℕ) (new : Parts I P S W) : Type 0 where
-    runs : List (Run I)
-    messages : List Message
-    listed : all_items items_of new ≡ all_items items_of old ++ map item_of messages
-    stays : setting_of meaning id_text is_date new ≡ setting_of meaning id_text is_date old
-    all : (published : List Message) (later : List (Run I))
-        → AnswersAll (GoesOn (Performs m may (setting_of meaning id_text is_date old)))
-        (tells old published (runs ++ later)) items replies (tells new (published ++ messages) later)
+-- what is left of a cell that was cut before what came of it was published
+pub cut_before_last : {State Cell : Type 0} (m : Meaning State Cell) (state : State) (code : List ℕ) (may : Type 0)
+    (count : ℕ) (course : Course State) (outputs : List Output) (outcome : Outcome) (after : State)
+    (publications rest : List Publication) → TextRuns m state code course outputs outcome after
+    → MayBeCut may course.ending publications (rest ++ last_of count outcome)
+cut_before_last m state code may count course outputs outcome after publications rest runs =
+    by_ending m state code may count course.ending course refl outputs outcome after publications rest runs
 
-  treated_none : (old new : Parts I P S W) (replies : List ℕ) → replies ≡ [] → new ≡ old
-      → IsTreated old [] replies new
-  treated_none old new replies none same = record {
-    runs = [];
-    messages = [];
-    listed = ap (all_items items_of) same ∙ sym (append-nil (all_items items_of old));
-    stays = ap (setting_of meaning id_text is_date) same;
-    all = λ published later. (
-      none,
-      ap (λ (e : Parts I P S W). tells e (published ++ []) later) same
-          ∙ ap (λ p. tells old p later) (append-nil published),
-    );
+module _ {State : Type 0} (Runs : Course State → List Output → Outcome → State → Type 0) (may : Type 0)
+    (code : List ℕ) (count : ℕ) (after : State) (A B C : List Publication → Type 0) (silent : Bool)
+    (join : (xs ys : List Publication) → A (unless_silent silent xs) → B (unless_silent silent ys)
+    → C (unless_silent silent (xs ++ ys))) where
+  -- the cell was published, and a beginning of what it wrote
+  pub tells_cut : A (unless_silent silent (ExecuteInput code count ∷ [])) → (ran : RunsCut Runs after B silent)
+      → ((publications rest : List Publication)
+      → MayBeCut may ran.course.ending publications (rest ++ last_of count ran.outcome))
+      → TellsCut Runs may code count after C silent
+  tells_cut input ran before = record {
+    course = ran.course;
+    outputs = ran.outputs;
+    outcome = ran.outcome;
+    runs = ran.runs;
+    grew = record {
+      front = ExecuteInput code count ∷ ran.grew.front;
+      rest = ran.grew.rest ++ last_of count ran.outcome;
+      whole = ap (λ l. ExecuteInput code count ∷ l) (ap (λ l. l ++ last_of count ran.outcome) ran.grew.whole
+          ∙ append_assoc ran.grew.front ran.grew.rest (last_of count ran.outcome));
+      grew = join (ExecuteInput code count ∷ []) ran.grew.front input ran.grew.grew;
+    };
+    ending = before _ ran.grew.rest;
   }
 
-  -- the engine stayed at the first, and treated the others
-  treated_past : (old middle new : Parts I P S W) (first : Traffic) (items : List Traffic)
-      (reply later replies : List ℕ) → middle ≡ old → reply ≡ []
-      → ((standing : Standing I) → Treats (Performs m may (setting_of meaning id_text is_date old)) standing first []
-      standing (Ok Done))
-      → IsTreated middle items later new → replies ≡ reply ++ later → IsTreated old (first ∷ items) replies new
-  treated_past old middle new first items reply later replies same none stay rest is =
-      let next = subst (λ (e : Parts I P S W). IsTreated e items later new) same rest in
-      record {
-        runs = next.runs;
-        messages = next.messages;
-        listed = next.listed;
-        stays = next.stays;
-        all = λ published more. (
-          tells old published (next.runs ++ more),
-          [],
-          later,
-          (Done, stay (standing_of old published (next.runs ++ more)), refl),
-          next.all published more,
-          is ∙ ap (λ o. o ++ later) none,
-        );
+  module _ (L F : List Publication → Type 0)
+      (behind : (xs ys : List Publication) → C (unless_silent silent xs) → L (unless_silent silent ys)
+      → F (unless_silent silent (xs ++ ys)))
+    where
+      -- what came of the cell was published, or it wasn't
+      pub tells_last : (outcome : Outcome) {E : Type 0} (result : Result (Option InterpFault) E)
+          → A (unless_silent silent (ExecuteInput code count ∷ [])) → RunsWhole Runs may outcome after B silent
+          → MatchResult result
+          (λ failure. (failure ≡ failure_of outcome) × L (unless_silent silent (last_of count outcome)))
+          (λ _. L [])
+          → MatchResult result (λ failure. TellsWhole Runs may code count failure after F silent)
+          (λ _. TellsCut Runs may code count after F silent)
+      tells_last outcome (Ok failure) input ran (is, last) = record {
+        course = ran.course;
+        outputs = ran.outputs;
+        outcome = outcome;
+        runs = ran.runs;
+        ending = ran.ending;
+        failure_is = is;
+        grew = behind (ExecuteInput code count ∷ map publication_of ran.outputs) (last_of count outcome)
+            (join (ExecuteInput code count ∷ []) (map publication_of ran.outputs) input ran.grew) last;
       }
-
-  -- the first was done as a request, and the others were treated
-  treated_on : (old middle new : Parts I P S W) (message : Message) (items : List Traffic)
-      (reply later replies : List ℕ) (handled : Handled) → WasRun old message handled reply middle
-      → handled.end ≡ false → IsTreated middle items later new → replies ≡ reply ++ later
-      → IsTreated old (traffic.Message message ∷ items) replies new
-  treated_on old middle new message items reply later replies handled one ends rest is = record {
-    runs = one.run ∷ rest.runs;
-    messages = one.messages ++ rest.messages;
-    listed = rest.listed ∙ ap (λ o. o ++ map item_of rest.messages) one.listed
-        ∙ append_assoc (all_items items_of old) (map item_of one.messages) (map item_of rest.messages)
-        ∙ ap (λ o. all_items items_of old ++ o) (sym (map-append item_of one.messages rest.messages));
-    stays = rest.stays ∙ one.stays;
-    all = λ published more.
-        let (done, end_is, restart_is) = one.does published (rest.runs ++ more) in (
-          tells middle (published ++ one.messages) (rest.runs ++ more),
-          reply,
-          later,
-          (Done, inr (done, end_is ∙ ends), refl),
-          subst (λ p. AnswersAll (GoesOn (Performs m may (setting_of meaning id_text is_date old)))
-              (tells middle (published ++ one.messages) (rest.runs ++ more)) items later (tells new p more))
-              (append_assoc published one.messages rest.messages)
-              (subst (λ s. AnswersAll (GoesOn (Performs m may s)) (tells middle (published ++ one.messages)
-              (rest.runs ++ more)) items later (tells new ((published ++ one.messages) ++ rest.messages) more))
-              one.stays (rest.all (published ++ one.messages) more)),
-          is,
-        );
-  }
-
-  treated_one : (old middle new : Parts I P S W) (first : Traffic) (items : List Traffic)
-      (reply later replies : List ℕ) (answered : Answered)
-      → Treats (WorksOne m items_of may_refuse is_same meaning id_text is_date may) old first reply middle (Ok answered)
-      → answered ≡ Done → IsTreated middle items later new → replies ≡ reply ++ later
-      → IsTreated old (first ∷ items) replies new
-  treated_one old middle new (traffic.Message message) items reply later replies Done (inl ignores) done rest is =
-      treated_past old middle new (traffic.Message message) items reply later replies ignores.same ignores.silent
-      (λ standing. inl (ignores.refused, refl, refl)) rest is
-  treated_one old middle new (traffic.Message message) items reply later replies Done (inr through) done rest is =
-      treated_on old middle new message items reply later replies through.handled
-      (is_done old message through.handled reply middle through.works through.replied) through.end rest is
-  treated_one old middle new (traffic.Message message) items reply later replies Dropped step done rest is =
-      absurd (let e = done in cc)
-  treated_one old middle new (traffic.Command name said) items reply later replies answered (none, same, goes) done rest
-      is =
-      treated_past old middle new (traffic.Command name said) items reply later replies same none
-      (λ standing. (refl, refl, refl)) rest is
-
-  treated_all : (old new : Serving (Parts I P S W)) (items : List Traffic) (replies : List ℕ)
-      → AnswersAll (GoesOn (WorksOne m items_of may_refuse is_same meaning id_text is_date may)) old items replies new
-      → new.dropped ≡ false → IsTreated old.server items replies new.server
-  treated_all old new [] replies (none, same) kept =
-      treated_none old.server new.server replies none (ap (λ (s : Serving (Parts I P S W)). s.server) same)
-  treated_all old new (first ∷ items) replies (middle, reply, later, (answered, step, mark), rest, is) kept =
-      let calm = undropped (WorksOne m items_of may_refuse is_same meaning id_text is_date may) middle new items later
-      rest kept in
-      let (before, done) = unmarked old.dropped answered middle.dropped mark calm in
-      treated_one old.server middle.server new.server first items reply later replies answered step
-      (answered_done answered done) (treated_all middle new items later rest kept) is
-
-  -- a peer that was turned away
-  told_away : (old new : Parts I P S W) (octets written : List ℕ) (end : SessionEnd)
-      → TurnsAway Router octets written tt end → new ≡ old
-      → TellsSession m items_of meaning id_text is_date may old octets written new end
-  told_away old new octets written end away same = record {
-    runs = [];
-    published = [];
-    session = inl (away, ap (λ (e : Parts I P S W). standing_of e [] []) same, refl);
-    listed = ap (all_items items_of) same ∙ sym (append-nil (all_items items_of old));
-    stays = ap (setting_of meaning id_text is_date) same;
-  }
-
-  -- a session that ended with what was read
-  told_out : (old new : Parts I P S W) (octets written : List ℕ) (end : SessionEnd)
-      (served : IsServed false (WorksOne m items_of may_refuse is_same meaning id_text is_date may) Router old octets
-      written new end)
-      → RunsOut served.converses.rest end → served.replies ≡ served.converses.replies
-      → served.converses.now ≡ record { server = new; dropped = false }
-      → TellsSession m items_of meaning id_text is_date may old octets written new end
-  told_out old new octets written end served runs wrote is =
-      let talk = served.converses in
-      let became : talk.now.server ≡ new = ap (λ (s : Serving (Parts I P S W)). s.server) is in
-      let treated = subst (λ e. IsTreated old talk.traffic talk.replies e) became
-      (treated_all (begins old) talk.now talk.traffic talk.replies talk.answered
-      (ap (λ (s : Serving (Parts I P S W)). s.dropped) is)) in
-      record {
-        runs = treated.runs ++ [];
-        published = treated.messages;
-        session = inr (record {
-          opening = served.opening;
-          peer = served.peer;
-          behind = served.behind;
-          replies = served.replies;
-          met = served.met;
-          converses = record {
-            traffic = talk.traffic;
-            rest = talk.rest;
-            read = talk.read;
-            calm = talk.calm;
-            now = tells new treated.messages [];
-            replies = talk.replies;
-            answered = treated.all [] [];
-            ends = inl (runs, wrote, refl);
-          };
-          all = served.all;
-        });
-        listed = treated.listed;
-        stays = treated.stays;
+      tells_last outcome (Err refused) input ran last = record {
+        course = ran.course;
+        outputs = ran.outputs;
+        outcome = outcome;
+        runs = ran.runs;
+        grew = record {
+          front = ExecuteInput code count ∷ map publication_of ran.outputs;
+          rest = last_of count outcome;
+          whole = refl;
+          grew = subst (λ l. F (unless_silent silent l))
+              (append-nil (ExecuteInput code count ∷ map publication_of ran.outputs))
+              (behind (ExecuteInput code count ∷ map publication_of ran.outputs) []
+              (join (ExecuteInput code count ∷ []) (map publication_of ran.outputs) input ran.grew)
+              (subst L (sym (told_none silent)) last));
+        };
+        ending = may_be_cut may ran.course.ending _ _ ran.ending;
       }
-
-  -- a session that ended at one message, which was done as a request
-  told_at : (old new : Parts I P S W) (octets written : List ℕ) (end : SessionEnd)
-      (served : IsServed false (WorksOne m items_of may_refuse is_same meaning id_text is_date may) Router old octets
-      written new end)
-      (last : IsLast (WorksOne m items_of may_refuse is_same meaning id_text is_date may) served.converses.now
-      served.converses.rest served.converses.replies served.replies (record { server = new; dropped = false }) end)
-      → (message : Message) → last.last ≡ traffic.Message message → served.converses.now.dropped ≡ false
-      → (handled : Handled)
-      → Works m items_of may_refuse is_same meaning id_text is_date may served.converses.now.server message handled new
-      → last.reply ≡ reply_text handled.reply → (answered : Result Answered SessionEnd)
-      → ((one two : Standing I)
-      (done : DoesMessage m may (setting_of meaning id_text is_date served.converses.now.server) one message last.reply
-      two) → done.answer.end ≡ handled.end → done.answer.restart ≡ handled.restart
-      → Performs m may (setting_of meaning id_text is_date served.converses.now.server) one message last.reply two
-      answered)
-      → false ≡ marked false answered
-      → ((answered ≡ Err end) × IsServerEnd end × (served.replies ≡ served.converses.replies ++ last.reply))
-      ⊎ ((end ≡ Failed Write) × BreaksIn served.converses.replies last.reply served.replies)
-      → TellsSession m items_of meaning id_text is_date may old octets written new end
-  told_at old new octets written end served last message named kept handled works replied answered performs mark how =
-      let talk = served.converses in
-      let treated = treated_all (begins old) talk.now talk.traffic talk.replies talk.answered kept in
-      let one = is_done talk.now.server message handled last.reply new works replied in
-      let before = standing_of talk.now.server treated.messages (one.run ∷ []) in
-      let after = standing_of new (treated.messages ++ one.messages) [] in
-      let (done, end_is, restart_is) = one.does treated.messages [] in
-      record {
-        runs = treated.runs ++ one.run ∷ [];
-        published = treated.messages ++ one.messages;
-        session = inr (record {
-          opening = served.opening;
-          peer = served.peer;
-          behind = served.behind;
-          replies = served.replies;
-          met = served.met;
-          converses = record {
-            traffic = talk.traffic;
-            rest = talk.rest;
-            read = talk.read;
-            calm = talk.calm;
-            now = tells talk.now.server treated.messages (one.run ∷ []);
-            replies = talk.replies;
-            answered = treated.all [] (one.run ∷ []);
-            ends = inr (record {
-              last = last.last;
-              comes = last.comes;
-              harmless = last.harmless;
-              reply = last.reply;
-              answered = answered;
-              step = subst (λ t. Treats (Performs m may (setting_of meaning id_text is_date old)) before t last.reply
-                  after answered) (sym named)
-                  (subst (λ s. Performs m may s before message last.reply after answered) treated.stays
-                  (performs before after done end_is restart_is));
-              mark = mark;
-              how = how;
-            });
-          };
-          all = served.all;
-        });
-        listed = one.listed ∙ ap (λ o. o ++ map item_of one.messages) treated.listed
-            ∙ append_assoc (all_items items_of old) (map item_of treated.messages) (map item_of one.messages)
-            ∙ ap (λ o. all_items items_of old ++ o) (sym (map-append item_of treated.messages one.messages));
-        stays = one.stays ∙ treated.stays;
-      }
-
-  -- a session that ended where the reply to one traffic couldn't be written
-  told_cut : (old new : Parts I P S W) (octets written : List ℕ) (end : SessionEnd) → end ≡ Failed Write
-      → (served : IsServed false (WorksOne m items_of may_refuse is_same meaning id_text is_date may) Router old octets
-      written new end)
-      (last : IsLast (WorksOne m items_of may_refuse is_same meaning id_text is_date may) served.converses.now
-      served.converses.rest served.converses.replies served.replies (record { server = new; dropped = false }) end)
-      → (item : Traffic) → last.last ≡ item → (answered : Result Answered SessionEnd)
-      → Treats (WorksOne m items_of may_refuse is_same meaning id_text is_date may) served.converses.now.server item
-      last.reply new answered → false ≡ marked served.converses.now.dropped answered
-      → BreaksIn served.converses.replies last.reply served.replies
-      → TellsSession m items_of meaning id_text is_date may old octets written new end
-  told_cut old new octets written end is served last (traffic.Command name rest) named answered (none, same, goes) mark
-      breaks =
-      absurd (no_break served.converses.replies last.reply served.replies breaks none)
-  told_cut old new octets written end is served last (traffic.Message message) named (Ok Done) (inl ignores) mark
-      breaks =
-      absurd (no_break served.converses.replies last.reply served.replies breaks ignores.silent)
-  told_cut old new octets written end is served last (traffic.Message message) named (Ok Done) (inr through) mark
-      breaks =
-      told_at old new octets written end served last message named (sym mark) through.handled through.works
-      through.replied (Ok Done) (λ one two done end_is restart_is. inr (done, end_is ∙ through.end)) refl
-      (inr (is, breaks))
-  told_cut old new octets written end is served last (traffic.Message message) named (Ok Dropped) loses mark breaks =
-      absurd (let e = mark in cc)
-  told_cut old new octets written end is served last (traffic.Message message) named (Err Eof) step mark breaks =
-      absurd step
-  told_cut old new octets written end is served last (traffic.Message message) named (Err (Wire fault)) step mark
-      breaks =
-      absurd step
-  told_cut old new octets written end is served last (traffic.Message message) named (Err (Shutdown restart))
-      (through, again) mark breaks =
-      told_at old new octets written end served last message named (sym mark) through.handled through.works
-      through.replied (Err (Shutdown restart))
-      (λ one two done end_is restart_is. (done, end_is ∙ through.end, ap Shutdown (again ∙ sym restart_is))) refl
-      (inr (is, breaks))
-  told_cut old new octets written end is served last (traffic.Message message) named (Err (Failed fault)) (inl refuses)
-      mark breaks =
-      absurd (no_break served.converses.replies last.reply served.replies breaks refuses.silent)
-  told_cut old new octets written end is served last (traffic.Message message) named (Err (Failed fault)) (inr vain)
-      mark breaks =
-      absurd (no_break served.converses.replies last.reply served.replies breaks vain.silent)
-
-  -- a session that the engine ended at one traffic
-  told_last : (old new : Parts I P S W) (octets written : List ℕ) (end : SessionEnd) → IsTold end
-      → (served : IsServed false (WorksOne m items_of may_refuse is_same meaning id_text is_date may) Router old octets
-      written new end)
-      (last : IsLast (WorksOne m items_of may_refuse is_same meaning id_text is_date may) served.converses.now
-      served.converses.rest served.converses.replies served.replies (record { server = new; dropped = false }) end)
-      → (item : Traffic) → last.last ≡ item → last.answered ≡ Err end → IsServerEnd end
-      → Treats (WorksOne m items_of may_refuse is_same meaning id_text is_date may) served.converses.now.server item
-      last.reply new (Err end) → served.replies ≡ served.converses.replies ++ last.reply
-      → TellsSession m items_of meaning id_text is_date may old octets written new end
-  told_last old new octets written Eof settled served last item named is ends step wrote = absurd ends
-  told_last old new octets written (Wire fault) settled served last item named is ends step wrote = absurd ends
-  told_last old new octets written (Failed (OwedIdle request)) settled served last item named is ends step wrote =
-      absurd settled
-  told_last old new octets written (Failed Memory) settled served last item named is ends step wrote = absurd settled
-  told_last old new octets written (Failed Read) settled served last item named is ends step wrote = absurd ends
-  told_last old new octets written (Failed Write) settled served last item named is ends step wrote = absurd ends
-  told_last old new octets written (Failed Turns) settled served last item named is ends step wrote = absurd ends
-  told_last old new octets written (Failed Worn) settled served last item named is ends step wrote = absurd settled
-  told_last old new octets written (Shutdown restart) settled served last (traffic.Command name rest) named is ends
-      (none, same, goes) wrote =
-      absurd (let e = goes in cc)
-  told_last old new octets written (Shutdown restart) settled served last (traffic.Message message) named is ends
-      (through, again) wrote =
-      told_at old new octets written (Shutdown restart) served last message named
-      (sym (last.mark ∙ ap (marked served.converses.now.dropped) is)) through.handled through.works through.replied
-      (Err (Shutdown restart))
-      (λ one two done end_is restart_is. (done, end_is ∙ through.end, ap Shutdown (again ∙ sym restart_is))) refl
-      (inl (refl, tt, wrote))
-
-  told_served : (old new : Parts I P S W) (octets written : List ℕ) (end : SessionEnd) → IsTold end
-      → Serves false (WorksOne m items_of may_refuse is_same meaning id_text is_date may) Router old octets written new
-      end
-      → TellsSession m items_of meaning id_text is_date may old octets written new end
-  told_served old new octets written end settled (inl (away, same, none)) =
-      told_away old new octets written end away same
-  told_served old new octets written end settled (inr served) = elim served.converses.ends [
-    | inl (runs, wrote, is) ↦ told_out old new octets written end served runs wrote is
-    | inr last ↦ elim last.how [
-      | inl (is, ends, wrote) ↦
-          told_last old new octets written end settled served last last.last refl is ends
-          (subst (λ a. Treats (WorksOne m items_of may_refuse is_same meaning id_text is_date may)
-          served.converses.now.server last.last last.reply new a) is last.step) wrote
-      | inr (is, breaks) ↦
-          told_cut old new octets written end is served last last.last refl last.answered last.step last.mark breaks
-    ]
-  ]
-
-  -- what is told of a session, from what the engine made of each message
-  pub tells_session : (old new : Parts I P S W) (one two : Inflow) (out last : Outflow) (turns : ℕ) (given : SessionEnd)
-      → (left : ℕ) × (dropped : Bool) × (ended : SessionEnd)
-      × ServesPeer dropped (WorksOne m items_of may_refuse is_same meaning id_text is_date may) Router old one two out
-      last turns left new ended × (given ≡ told dropped ended)
-      → IsTold given
-      → (left : ℕ) × Exchange (TellsSession m items_of meaning id_text is_date may old) one two out last turns left new
-      given
-  tells_session old new one two out last turns given (left, true, ended, peer, is) settled =
-      absurd (subst IsTold is settled)
-  tells_session old new one two out last turns given (left, false, ended, peer, is) settled =
-      let e = peer.exchange in (
-        left,
-        subst (λ end. Exchange (TellsSession m items_of meaning id_text is_date may old) one two out last turns left new
-            end) (sym is) (record {
-              read = e.read;
-              written = e.written;
-              reading = e.reading;
-              puts = e.puts;
-              outcome = told_served old new e.read e.written ended (subst IsTold is settled) e.outcome;
-            }),
-      )

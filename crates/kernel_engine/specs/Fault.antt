@@ -1,18 +1,10 @@
--- How a server may end a session.
-use Rattle.std.specs.Prelude.{⊤}
-use Rattle.kernel_block.specs.declared.fault.EngineFault.TheVariants.{OwedIdle, Memory, Read, Write, Turns, Worn}
-use Rattle.kernel_engine.specs.declared.end.SessionEnd.{SessionEnd}
-use Rattle.kernel_engine.specs.declared.end.SessionEnd.TheVariants.{Eof, Shutdown, Wire, Failed}
+-- The numbers of the faults of an engine.
+use Rattle.std.specs.Prelude.{ℕ}
+use Rattle.kernel_engine.specs.declared.fault.EngineFault.{EngineFault}
+use Rattle.kernel_engine.specs.declared.fault.EngineFault.TheVariants.{OwedIdle, Memory, Worn}
 
--- a server may end a session so: a message asked for a shutdown, an idle is owed,
--- memory was refused, or no id is left
-abbrev pub IsServerEnd : SessionEnd → Type 0
-IsServerEnd Eof = ⊥
-IsServerEnd (Shutdown restart) = ⊤
-IsServerEnd (Wire fault) = ⊥
-IsServerEnd (Failed (OwedIdle request)) = ⊤
-IsServerEnd (Failed Memory) = ⊤
-IsServerEnd (Failed Read) = ⊥
-IsServerEnd (Failed Write) = ⊥
-IsServerEnd (Failed Turns) = ⊥
-IsServerEnd (Failed Worn) = ⊤
+-- the number of a fault
+abbrev pub engine_fault_number : EngineFault → ℕ
+engine_fault_number (OwedIdle request) = 70
+engine_fault_number Memory = 71
+engine_fault_number Worn = 75

@@ -1,26 +1,40 @@
-//! Connections of a kernel with its peers: shaking hands, hearing what a peer says, and answering it, over any
-//! inlet and outlet.
+//! What one request makes of a kernel: the course of its cell, its publications between busy and idle, and its reply,
+//! over any interpreter and any sink.
 #![tactic(auto)]
 
-mod echoing;
-mod end;
-mod hearing;
+mod asked;
+mod block;
+mod cell;
+mod does;
+mod engine;
+mod engine_end;
+mod execute;
+mod expressions;
+mod fault;
+mod handled;
+mod heading;
 mod laws;
-mod listening;
-mod responding;
-mod server;
-mod serving;
-mod shaking;
-mod turn;
-mod working;
+mod open_block;
+mod parts;
+mod publishing;
+mod respond;
+mod response;
+mod side;
+mod stop;
+mod words;
 
-pub use echoing::echo;
-pub use end::SessionEnd;
-pub use hearing::{Intake, hear};
-pub use kernel_block::{Engine, EngineEnd, EngineFault, Handled, Side, Stop};
-pub use laws::{one_hearing, one_serving, one_session};
-pub use listening::{Listener, listen};
-pub use server::{Answered, Server};
-pub use serving::serve;
-pub use shaking::{Shaken, shake};
-pub use working::session;
+pub use asked::{Asked, Done, Unread};
+pub use does::{Does, Look, Order, comes_to};
+pub use engine::Engine;
+pub use engine_end::EngineEnd;
+pub use fault::EngineFault;
+pub use handled::Handled;
+pub use heading::Heading;
+pub use laws::one_course;
+pub use open_block::OpenBlock;
+pub use parts::Parts;
+pub use publishing::Publishing;
+pub use respond::{Answered, read_does};
+pub use response::Response;
+pub use side::Side;
+pub use stop::Stop;

@@ -2,13 +2,13 @@
 
 use crate::socket::Socket;
 use crossbeam_channel::{Receiver, SendError, Sender, unbounded};
-use kernel_engine::{Intake, Shaken, hear, shake};
 use kernel_workers::{Job, Note};
 use listed::Frames;
 use std::alloc::{AllocError, Global};
 use std::sync::Wait;
 use std::thread;
 use std::thread::{JoinHandle, Threads};
+use zmtp_connection::{Intake, OpenPeer, hear, shake};
 use zmtp_wire::{Counted, SocketType, Traffic, write_all, write_message};
 
 /// The most reads of one handshake, and of hearing behind it.
@@ -75,11 +75,11 @@ impl<R: Wait> Requests<R> {
 pub(crate) fn hear_out<T: Intake>(
     alloc: Global,
     reader: &mut Counted<Socket>,
-    mut shaken: Shaken,
+    mut peer: OpenPeer,
     intake: &mut T,
 ) {
-    drop(hear(alloc, reader, &mut shaken, intake, TURNS));
-    drop(shaken);
+    drop(hear(alloc, reader, &mut peer, intake, TURNS));
+    drop(peer);
 }
 
 /// Serves a peer of shell or control as a ROUTER: shakes hands with it, and puts each message that it sends into the
@@ -98,7 +98,7 @@ where
     let mut reader = Counted::new(reader);
     let mut writer = Counted::new(writer);
     match shake(alloc, &mut reader, &mut writer, SocketType::Router, TURNS) {
-        Ok(shaken) => serve_shaken(rt, alloc, reader, shaken, writer, inbox),
+        Ok(peer) => serve_open(rt, alloc, reader, peer, writer, inbox),
         Err(end) => {
             drop(end);
             drop(reader);
@@ -109,11 +109,11 @@ where
 }
 
 /// Serves a peer with whom hands were shaken.
-fn serve_shaken<R>(
+fn serve_open<R>(
     rt: R,
     alloc: Global,
     mut reader: Counted<Socket>,
-    shaken: Shaken,
+    peer: OpenPeer,
     writer: Counted<Socket>,
     inbox: Sender<Note<Job>>,
 )
@@ -121,12 +121,12 @@ where
     R: Threads + Wait + Copy + Send + Sync + Drop + 'static,
 {
     let Some((replies, writing)) = start_replies(rt, alloc, writer) else {
-        drop(shaken);
+        drop(peer);
         drop(inbox);
         return;
     };
     let mut requests = Requests { rt, inbox, replies };
-    hear_out(alloc, &mut reader, shaken, &mut requests);
+    hear_out(alloc, &mut reader, peer, &mut requests);
     // The writing thread ends once nobody is left who could reply.
     drop(requests);
     writing.join(&rt);

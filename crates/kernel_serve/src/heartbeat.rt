@@ -2,8 +2,8 @@
 
 use crate::connection::TURNS;
 use crate::socket::Socket;
-use kernel_engine::echo;
 use std::alloc::Global;
+use zmtp_connection::echo;
 use zmtp_wire::Counted;
 
 /// Serves a peer of the heartbeat as a REP: shakes hands with it, and writes each message back. Returns when its octets

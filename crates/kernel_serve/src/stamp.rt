@@ -36,14 +36,14 @@ impl<C> KernelStamp<C> {
 }
 
 impl<C: Clock> Stamp for KernelStamp<C> {
-    ghost meaning = { λ stamp. record {
-      session = string_bytes stamp.session;
-      label = string_bytes stamp.label;
+    ghost stamp = { record {
+      meaning = λ stamp. record {
+        session = string_bytes stamp.session;
+        label = string_bytes stamp.label;
+      };
+      id_text = numbered;
+      is_date = λ _ text. is_utc_date text;
     } };
-
-    ghost id_text = { numbered };
-
-    ghost is_date = { λ _ text. is_utc_date text };
 
     ghost ids_differ = { numbered-differ };
 

@@ -7,12 +7,12 @@ use crate::socket::Socket;
 use crossbeam_channel::{SendError, Sender};
 use iopub_event::Event;
 use iopub_relay::door_event;
-use kernel_engine::{Intake, Shaken, shake};
 use kernel_workers::Note;
 use std::alloc::{AllocError, Global};
 use std::sync::{Arc, Wait};
 use std::thread;
 use std::thread::{JoinHandle, Threads};
+use zmtp_connection::{Intake, OpenPeer, shake};
 use zmtp_wire::{Counted, SocketType, Traffic};
 
 /// What a subscriber's messages are written to.
@@ -110,14 +110,14 @@ where
     let mut reader = Counted::new(reader);
     let mut writer = Counted::new(writer);
     match shake(alloc, &mut reader, &mut writer, SocketType::Pub, TURNS) {
-        Ok(shaken) => {
+        Ok(peer) => {
             let subscriptions = Subscriptions {
                 rt,
                 alloc,
                 id,
                 door,
             };
-            serve_shaken(reader, shaken, writer.into_inner(), subscriptions);
+            serve_open(reader, peer, writer.into_inner(), subscriptions);
         }
         Err(end) => {
             drop(end);
@@ -129,9 +129,9 @@ where
 }
 
 /// Serves a subscriber with whom hands were shaken.
-fn serve_shaken<R>(
+fn serve_open<R>(
     mut reader: Counted<Socket>,
-    shaken: Shaken,
+    peer: OpenPeer,
     writer: Socket,
     mut subscriptions: Subscriptions<R>,
 )
@@ -140,15 +140,15 @@ where
 {
     let (rt, alloc) = (subscriptions.rt, subscriptions.alloc);
     let Some((feed, writing)) = start_feed(rt, alloc, writer) else {
-        drop(shaken);
+        drop(peer);
         drop(subscriptions);
         return;
     };
     if subscriptions.attach(feed) {
-        hear_out(alloc, &mut reader, shaken, &mut subscriptions);
+        hear_out(alloc, &mut reader, peer, &mut subscriptions);
         subscriptions.detach();
     } else {
-        drop(shaken);
+        drop(peer);
     }
     // The writing thread ends once the feed is dropped, which may be only with the last owner of the door's inbox.
     drop(subscriptions);

@@ -1,3 +1,4 @@
 mod RelayingLemmas
 mod EndingLemmas
 pub mod RunningLemmas
+mod JobLemmas

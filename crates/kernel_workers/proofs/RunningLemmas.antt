@@ -12,9 +12,9 @@ use Rattle.iopub_queue.specs.Calls.{IsCapacity, Settles}
 use Rattle.iopub_queue.specs.declared.taken.Settled.{Settled}
 use Rattle.iopub_queue.specs.declared.taken.Settled.TheVariants.{Whole, Beginning}
 use Rattle.iopub_relay.specs.Relay.{Relaying, Meets, AreWhole, HasNumber, AreOfNumbers, AreAllClosed, IsLeftOf}
-use Rattle.jmsg_envelope.specs.Stamp.{StampMeaning}
-use Rattle.kernel_block.specs.declared.side.Side.{Side}
-use Rattle.kernel_block.specs.declared.side.Side.TheVariants.{Shell, Control}
+use Rattle.jmsg_envelope.specs.Stamp.{Stamping}
+use Rattle.kernel_engine.specs.declared.side.Side.{Side}
+use Rattle.kernel_engine.specs.declared.side.Side.TheVariants.{Shell, Control}
 use Rattle.kernel_workers.specs.declared.fault.KernelFault.{KernelFault}
 use Rattle.kernel_workers.specs.declared.parts.Parts.{Parts}
 use Rattle.kernel_workers.specs.declared.running.KernelEnd.{KernelEnd}
@@ -92,30 +92,31 @@ module _ {W : Type 0} (outflow : W → Outflow) where
         left = left;
       }
 
-module _ {I S W Cell : Type 0} (m : Meaning I Cell) (meaning : S → StampMeaning)
-    (id_text : StampMeaning → ℕ → List ℕ) (is_date : StampMeaning → List ℕ → Bool) where
+module _ {I S W Cell : Type 0} (m : Meaning I Cell) (stamps : Stamping S) where
   -- what is well blocked by one channel, key and stamp is so by those that they are
   pub blocked_by : (side other : Side) (key another : List ℕ) (stamp given : S) (items : List (Option (Event W)))
       → side ≡ other → key ≡ another → stamp ≡ given
-      → IsBlockedAndClosed m (is_date (meaning stamp)) side (sealing_by meaning id_text key stamp) items
-      → IsBlockedAndClosed m (is_date (meaning given)) other (sealing_by meaning id_text another given) items
-  blocked_by side other key another stamp given items sides keys stamps blocked =
-      subst (λ (s : S). IsBlockedAndClosed m (is_date (meaning s)) other (sealing_by meaning id_text another s) items)
-      stamps
-      (subst (λ (k : List ℕ). IsBlockedAndClosed m (is_date (meaning stamp)) other (sealing_by meaning id_text k stamp)
+      → IsBlockedAndClosed m (stamps.is_date (stamps.meaning stamp)) side (sealing_by stamps key stamp) items
+      → IsBlockedAndClosed m (stamps.is_date (stamps.meaning given)) other (sealing_by stamps another given) items
+  blocked_by side other key another stamp given items sides keys same blocked =
+      subst (λ (s : S). IsBlockedAndClosed m (stamps.is_date (stamps.meaning s)) other (sealing_by stamps another s)
+      items)
+      same
+      (subst (λ (k : List ℕ). IsBlockedAndClosed m (stamps.is_date (stamps.meaning stamp)) other (sealing_by stamps k
+      stamp)
       items) keys
-      (subst (λ (s : Side). IsBlockedAndClosed m (is_date (meaning stamp)) s (sealing_by meaning id_text key stamp)
+      (subst (λ (s : Side). IsBlockedAndClosed m (stamps.is_date (stamps.meaning stamp)) s (sealing_by stamps key stamp)
       items) sides blocked))
 
   -- a kernel that took all ends well
   pub ends_well : (outflow : W → Outflow) (parts : Parts I S W) (shell control door : List (Option (Event W)))
       (ended : Result (KernelEnd W) KernelFault) → IsCapacity parts.capacity
-      → IsBlockedAndClosed m (is_date (meaning parts.shell.1)) Shell
-      (sealing_by meaning id_text parts.key.items parts.shell.1) shell
-      → IsBlockedAndClosed m (is_date (meaning parts.control.1)) Control
-      (sealing_by meaning id_text parts.key.items parts.control.1) control
+      → IsBlockedAndClosed m (stamps.is_date (stamps.meaning parts.shell.1)) Shell
+      (sealing_by stamps parts.key.items parts.shell.1) shell
+      → IsBlockedAndClosed m (stamps.is_date (stamps.meaning parts.control.1)) Control
+      (sealing_by stamps parts.key.items parts.control.1) control
       → All IsNoMessage door → IfOk ended (TookAll outflow shell control door)
-      → IfOk ended (EndsWell m meaning id_text is_date outflow parts)
+      → IfOk ended (EndsWell m stamps outflow parts)
   ends_well outflow parts shell control door (Err fault) capacity by_shell by_control by_door took = tt
   ends_well outflow parts shell control door (Ok ended) capacity by_shell by_control by_door took = record {
     capacity = capacity;

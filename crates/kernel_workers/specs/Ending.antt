@@ -5,16 +5,15 @@ use Rattle.iopub_event.specs.declared.event.Event.{Event}
 use Rattle.iopub_event.specs.declared.event.Event.TheVariants as events
 use Rattle.iopub_queue.specs.Entries.{EndsWithClose}
 use Rattle.iopub_queue.specs.Values.{Publishing}
-use Rattle.jmsg_envelope.specs.Stamp.{StampMeaning}
-use Rattle.kernel_block.specs.declared.side.Side.{Side}
-use Rattle.kernel_block.specs.Block.{Sealing}
-use Rattle.kernel_block.specs.WellBlocked.{IsWellBlocked}
+use Rattle.jmsg_envelope.specs.Stamp.{Stamping}
+use Rattle.kernel_engine.specs.declared.side.Side.{Side}
+use Rattle.kernel_engine.specs.Block.{Sealing}
+use Rattle.kernel_engine.specs.WellBlocked.{IsWellBlocked}
 
 -- what all messages of an engine share that was given a key and a stamp
-abbrev pub sealing_by : {S : Type 0} → (S → StampMeaning) → (StampMeaning → ℕ → List ℕ) → List ℕ → S
-    → Sealing
-sealing_by meaning id_text key stamp =
-    record { key = key; session = (meaning stamp).session; id = id_text (meaning stamp) }
+abbrev pub sealing_by : {S : Type 0} → Stamping S → List ℕ → S → Sealing
+sealing_by stamps key stamp =
+    record { key = key; session = (stamps.meaning stamp).session; id = stamps.id_text (stamps.meaning stamp) }
 
 -- What a worker of shell or control published, all of it: it is well blocked, no idle is owed, and last stands its
 -- close.

@@ -2,7 +2,6 @@ pub mod Causes
 pub mod Ending
 pub mod Jobs
 pub mod Opening
-pub mod Requests
 pub mod Running
 pub mod Staging
 pub mod Staying

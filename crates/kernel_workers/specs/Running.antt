@@ -8,8 +8,8 @@ use Rattle.iopub_queue.specs.Entries.{Entry, of, CloseIsLast, IsComplete}
 use Rattle.iopub_queue.specs.Fault.{open_fault_number}
 use Rattle.iopub_queue.specs.declared.fault.OpenFault.TheVariants.{Count, Capacity, OutOfMemory}
 use Rattle.iopub_relay.specs.Relay.{AreOfNumbers, IsLeftOf}
-use Rattle.jmsg_envelope.specs.Stamp.{StampMeaning}
-use Rattle.kernel_block.specs.declared.side.Side.TheVariants.{Shell, Control}
+use Rattle.jmsg_envelope.specs.Stamp.{Stamping}
+use Rattle.kernel_engine.specs.declared.side.Side.TheVariants.{Shell, Control}
 use Rattle.kernel_workers.specs.declared.fault.KernelFault.{KernelFault}
 use Rattle.kernel_workers.specs.declared.fault.KernelFault.TheVariants.{Queue, NoThread}
 use Rattle.kernel_workers.specs.declared.parts.Parts.{Parts}
@@ -53,16 +53,15 @@ pub record TookAll {W : Type 0} (outflow : W → Outflow) (shell control door : 
 -- each request's messages stand between its busy and its idle, signed with the kernel's key, under the ids and dates of
 -- the channel's stamp. The door published no message. Each subscriber that is left got the texts of the messages of its
 -- life that match its topics, or a beginning of that where it failed.
-pub record EndsWell {I S W Cell : Type 0} (m : Meaning I Cell) (meaning : S → StampMeaning)
-    (id_text : StampMeaning → ℕ → List ℕ) (is_date : StampMeaning → List ℕ → Bool) (outflow : W → Outflow)
+pub record EndsWell {I S W Cell : Type 0} (m : Meaning I Cell) (stamps : Stamping S) (outflow : W → Outflow)
     (parts : Parts I S W) (ended : KernelEnd W) : Type 0 where
   pub capacity : IsCapacity parts.capacity
   pub shell : List (Option (Event W))
   pub control : List (Option (Event W))
   pub door : List (Option (Event W))
   pub took : TookAll outflow shell control door ended
-  pub shell_blocked : IsBlockedAndClosed m (is_date (meaning parts.shell.1)) Shell
-      (sealing_by meaning id_text parts.key.items parts.shell.1) shell
-  pub control_blocked : IsBlockedAndClosed m (is_date (meaning parts.control.1)) Control
-      (sealing_by meaning id_text parts.key.items parts.control.1) control
+  pub shell_blocked : IsBlockedAndClosed m (stamps.is_date (stamps.meaning parts.shell.1)) Shell
+      (sealing_by stamps parts.key.items parts.shell.1) shell
+  pub control_blocked : IsBlockedAndClosed m (stamps.is_date (stamps.meaning parts.control.1)) Control
+      (sealing_by stamps parts.key.items parts.control.1) control
   pub door_silent : All IsNoMessage door

@@ -1,6 +1,6 @@
 -- A kernel that is set up, and the promises under which its workers begin.
 use Rattle.std.specs.Prelude.{◌≡◌}
-use Rattle.kernel_block.specs.declared.side.Side.{Side}
+use Rattle.kernel_engine.specs.declared.side.Side.{Side}
 use Rattle.kernel_workers.specs.declared.parts.ChannelParts.{ChannelParts}
 use Rattle.kernel_workers.specs.declared.parts.Parts.{Parts}
 use Rattle.kernel_workers.specs.declared.promises.ClosesBlocked.{ClosesBlocked}

@@ -1,9 +1,11 @@
 //! Control's worker.
 
 ghost use Rattle.std.specs.Prelude.{◌≡◌, [], true};
-ghost use Rattle.kernel_block.specs.declared.side.Side.TheVariants.{Control};
+ghost use Rattle.kernel_engine.specs.declared.side.Side.TheVariants.{Control};
 ghost use Rattle.kernel_workers.specs.Ending.{EndsBlocked, sealing_by};
-ghost use Rattle.kernel_workers.specs.Jobs.{DoesJob};
+ghost use Rattle.kernel_engine.specs.World.{world_of};
+ghost use Rattle.iopub_queue.specs.Sink.{publisher_sink};
+ghost use Rattle.kernel_workers.specs.Jobs.{TakesJob};
 ghost use Rattle.kernel_workers.specs.Staying.{IsSameEngine};
 
 use crate::ended::{Cause, Ended};
@@ -11,13 +13,13 @@ use crate::flags::{Flags, Never};
 use crate::inbox::{Note, tell_end};
 use crate::job::{Job, next_job};
 use crate::parts::ChannelParts;
-use crate::request::{after_fault, close, is_shutdown, open_request, reply};
+use crate::request::{close, conclude};
 use crate::waking::Waking;
 use crossbeam_channel::{Receiver, Sender};
 use interp_core::Interpreter;
 use iopub_event::Event;
 use jmsg_envelope::Stamp;
-use kernel_block::{Engine, Side};
+use kernel_engine::{Engine, Side, Unread};
 use listed::Frames;
 use std::alloc::Global;
 use std::sync::Wait;
@@ -77,8 +79,8 @@ where
     W: Drop,
     R: Wait + Drop,
     requires { parts.sink.published ≡ [] }
-    ensures { EndsBlocked I.meaning (S.is_date (S.meaning parts.stamp)) Control
-        (sealing_by S.meaning S.id_text parts.signer parts.stamp) parts.sink result.closed }
+    ensures { EndsBlocked I.meaning (S.stamp.is_date (S.stamp.meaning parts.stamp)) Control
+        (sealing_by S.stamp parts.signer parts.stamp) parts.sink result.closed }
 {
     let ChannelParts {
         interp,
@@ -112,7 +114,7 @@ where
     S: Stamp,
     W: Drop,
     R: Wait,
-    ensures { IsSameEngine S.meaning engine.old engine.new }
+    ensures { IsSameEngine S.stamp engine.old engine.new }
 {
     for _ in rt.forever() {
         match next_job(rt, &lines.inbox) {
@@ -141,8 +143,8 @@ where
     S: Stamp,
     W: Drop,
     R: Wait,
-    ensures does { DoesJob I.meaning S.meaning S.id_text S.is_date ⊥ job.frames engine.old result engine.new }
-    ensures same { IsSameEngine S.meaning engine.old engine.new }
+    ensures does { TakesJob (world_of I.meaning publisher_sink S.stamp) ⊥ job.frames engine.old result engine.new }
+    ensures same { IsSameEngine S.stamp engine.old engine.new }
 {
     let Job { frames, reply } = job;
     let cause = answer(rt, alloc, engine, frames, &reply, lines, shell_ended);
@@ -150,8 +152,8 @@ where
     cause
 }
 
-/// Has the request handled that the frames of a job are, and sends the reply. Where it asks for a shutdown, shell is
-/// ended first; where it asks for an interrupt, the flag is raised before the reply is sent.
+/// Takes the frames of a job, and sends the reply. Where they ask for a shutdown, shell is ended first; where they ask
+/// for an interrupt, the flag is raised before the reply is sent.
 fn answer<I, S, W, R>(
     rt: &R,
     alloc: Global,
@@ -166,20 +168,15 @@ where
     S: Stamp,
     W: Drop,
     R: Wait,
-    ensures does { DoesJob I.meaning S.meaning S.id_text S.is_date ⊥ frames engine.old result engine.new }
-    ensures same { IsSameEngine S.meaning engine.old engine.new }
+    ensures does { TakesJob (world_of I.meaning publisher_sink S.stamp) ⊥ frames engine.old result engine.new }
+    ensures same { IsSameEngine S.stamp engine.old engine.new }
 {
-    let request = open_request(alloc, engine.signer(), frames)?;
-    let Ok(is_last) = is_shutdown(alloc, &request) else {
-        drop(request);
-        return None;
+    let asked = match engine.read(alloc, frames) {
+        Ok(asked) => asked,
+        Err(Unread::NoRequest | Unread::NoMemory) => return None,
     };
-    lines.end_shell_where(rt, is_last, shell_ended);
-    match engine.handle(alloc, request, &Never) {
-        Ok(handled) => {
-            lines.interrupt_where(handled.interrupt);
-            reply(rt, handled, to)
-        }
-        Err(fault) => after_fault(fault),
-    }
+    lines.end_shell_where(rt, asked.ends(), shell_ended);
+    let done = engine.finish(alloc, asked, &Never);
+    lines.interrupt_where(done.interrupts());
+    conclude(rt, done, to)
 }

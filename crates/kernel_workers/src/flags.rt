@@ -1,6 +1,6 @@
 //! The flags by which control stops what shell does.
 
-use kernel_block::Stop;
+use kernel_engine::Stop;
 use std::alloc::{AllocError, Global};
 use std::sync::Arc;
 use std::sync::atomic::{AtomicBool, Ordering};

@@ -10,7 +10,7 @@ use iopub_event::Event;
 use iopub_queue::Closed;
 use iopub_relay::Relay;
 use jmsg_envelope::{Signer, Stamp};
-use kernel_block::Side;
+use kernel_engine::Side;
 use std::marker::PhantomData;
 use std::snapshot::Snapshot;
 use std::thread::Promise;
@@ -51,8 +51,8 @@ impl<I: Interpreter, S: Stamp, W, R> Promise<Ended<W>> for ClosesBlocked<I, S, W
     ghost use Rattle.kernel_workers.specs.Ending.{EndsBlocked, sealing_by};
 
     ghost kept_by = { λ promise ended. EndsBlocked I.meaning
-        (S.is_date (S.meaning promise.stamp.value)) promise.side
-        (sealing_by S.meaning S.id_text promise.signer.value promise.stamp.value) promise.sink.value ended.closed };
+        (S.stamp.is_date (S.stamp.meaning promise.stamp.value)) promise.side
+        (sealing_by S.stamp promise.signer.value promise.stamp.value) promise.sink.value ended.closed };
 }
 
 /// The promise of the door's worker: it leaves the closing token of its publisher, whose list has no message and ends

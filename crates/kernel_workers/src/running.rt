@@ -206,7 +206,7 @@ where
     S: Stamp + Drop + Send + 'static,
     W: Outlet + Drop + Send + 'static,
     R: Threads + Wait + Copy + Send + Sync + Drop + 'static,
-    ensures ends { IfOk result (EndsWell I.meaning S.meaning S.id_text S.is_date W.outflow parts) }
+    ensures ends { IfOk result (EndsWell I.meaning S.stamp W.outflow parts) }
     ensures refused { IfErr result (FailsBy parts.capacity) }
 {
     let begun = begin(&rt, alloc, parts)?;
@@ -246,13 +246,13 @@ where
     S: Stamp,
     W: Outlet,
     R: Threads,
-    ensures shell { EndsBlocked I.meaning (S.is_date (S.meaning workers.shell.promise.stamp.value))
+    ensures shell { EndsBlocked I.meaning (S.stamp.is_date (S.stamp.meaning workers.shell.promise.stamp.value))
         workers.shell.promise.side
-        (sealing_by S.meaning S.id_text workers.shell.promise.signer.value workers.shell.promise.stamp.value)
+        (sealing_by S.stamp workers.shell.promise.signer.value workers.shell.promise.stamp.value)
         workers.shell.promise.sink.value result.shell.closed }
-    ensures control { EndsBlocked I.meaning (S.is_date (S.meaning workers.control.promise.stamp.value))
+    ensures control { EndsBlocked I.meaning (S.stamp.is_date (S.stamp.meaning workers.control.promise.stamp.value))
         workers.control.promise.side
-        (sealing_by S.meaning S.id_text workers.control.promise.signer.value workers.control.promise.stamp.value)
+        (sealing_by S.stamp workers.control.promise.signer.value workers.control.promise.stamp.value)
         workers.control.promise.sink.value result.control.closed }
     ensures door { EndsSilent workers.door.promise.sink.value result.door }
     ensures queue { result.relay.taker.queue ≡ workers.relay.promise.relay.value.taker.queue }

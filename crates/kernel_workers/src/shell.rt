@@ -1,9 +1,11 @@
 //! Shell's worker.
 
 ghost use Rattle.std.specs.Prelude.{◌≡◌, []};
-ghost use Rattle.kernel_block.specs.declared.side.Side.TheVariants.{Shell};
+ghost use Rattle.kernel_engine.specs.declared.side.Side.TheVariants.{Shell};
 ghost use Rattle.kernel_workers.specs.Ending.{EndsBlocked, sealing_by};
-ghost use Rattle.kernel_workers.specs.Jobs.{DoesJob};
+ghost use Rattle.kernel_engine.specs.World.{world_of};
+ghost use Rattle.iopub_queue.specs.Sink.{publisher_sink};
+ghost use Rattle.kernel_workers.specs.Jobs.{DoesJob, TakesJob};
 ghost use Rattle.kernel_workers.specs.Staying.{IsSameEngine};
 
 use crate::ended::{Cause, Ended};
@@ -11,13 +13,13 @@ use crate::flags::Flags;
 use crate::inbox::{Note, tell_end};
 use crate::job::{Job, next_job};
 use crate::parts::ChannelParts;
-use crate::request::{after_fault, close, open_request, reply};
+use crate::request::{close, conclude};
 use crate::waking::Waking;
 use crossbeam_channel::{Receiver, Sender};
 use interp_core::Interpreter;
 use iopub_event::Event;
 use jmsg_envelope::Stamp;
-use kernel_block::{Engine, Side};
+use kernel_engine::{Engine, Side};
 use listed::Frames;
 use std::alloc::Global;
 use std::sync::Wait;
@@ -51,8 +53,8 @@ where
     W: Drop,
     R: Wait + Drop,
     requires { parts.sink.published ≡ [] }
-    ensures { EndsBlocked I.meaning (S.is_date (S.meaning parts.stamp)) Shell
-        (sealing_by S.meaning S.id_text parts.signer parts.stamp) parts.sink result.closed }
+    ensures { EndsBlocked I.meaning (S.stamp.is_date (S.stamp.meaning parts.stamp)) Shell
+        (sealing_by S.stamp parts.signer parts.stamp) parts.sink result.closed }
 {
     let ChannelParts {
         interp,
@@ -80,7 +82,7 @@ where
     S: Stamp,
     W: Drop,
     R: Wait,
-    ensures { IsSameEngine S.meaning engine.old engine.new }
+    ensures { IsSameEngine S.stamp engine.old engine.new }
 {
     drop(engine.start(alloc));
 }
@@ -97,7 +99,7 @@ where
     S: Stamp,
     W: Drop,
     R: Wait,
-    ensures { IsSameEngine S.meaning engine.old engine.new }
+    ensures { IsSameEngine S.stamp engine.old engine.new }
 {
     for _ in rt.forever() {
         match next_job(rt, &lines.inbox) {
@@ -125,8 +127,9 @@ where
     S: Stamp,
     W: Drop,
     R: Wait,
-    ensures does { DoesJob I.meaning S.meaning S.id_text S.is_date Unit job.frames engine.old result engine.new }
-    ensures same { IsSameEngine S.meaning engine.old engine.new }
+    ensures does { DoesJob (world_of I.meaning publisher_sink S.stamp) Unit job.frames engine.old result
+        engine.new }
+    ensures same { IsSameEngine S.stamp engine.old engine.new }
 {
     if !flags.may_begin() {
         drop(job);
@@ -138,7 +141,7 @@ where
     cause
 }
 
-/// Has the request handled that the frames of a job are, and sends the reply.
+/// Takes the frames of a job, and sends the reply.
 fn answer<I, S, W, R>(
     rt: &R,
     alloc: Global,
@@ -152,12 +155,9 @@ where
     S: Stamp,
     W: Drop,
     R: Wait,
-    ensures does { DoesJob I.meaning S.meaning S.id_text S.is_date Unit frames engine.old result engine.new }
-    ensures same { IsSameEngine S.meaning engine.old engine.new }
+    ensures does { TakesJob (world_of I.meaning publisher_sink S.stamp) Unit frames engine.old result engine.new }
+    ensures same { IsSameEngine S.stamp engine.old engine.new }
 {
-    let request = open_request(alloc, engine.signer(), frames)?;
-    match engine.handle(alloc, request, flags) {
-        Ok(handled) => reply(rt, handled, to),
-        Err(fault) => after_fault(fault),
-    }
+    let done = engine.take(alloc, frames, flags);
+    conclude(rt, done, to)
 }

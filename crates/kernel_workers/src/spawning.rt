@@ -2,7 +2,7 @@
 //! that nests as deep as may be, 127 deep: 96 KiB.
 
 ghost use Rattle.std.specs.Prelude.{◌≡◌, [], IfSome};
-ghost use Rattle.kernel_block.specs.declared.side.Side.TheVariants.{Shell, Control};
+ghost use Rattle.kernel_engine.specs.declared.side.Side.TheVariants.{Shell, Control};
 ghost use Rattle.kernel_workers.specs.Staging.{Promises};
 
 use crate::control::{ControlLines, work_control};
@@ -20,7 +20,7 @@ use iopub_event::Event;
 use iopub_queue::Closed;
 use iopub_relay::Relay;
 use jmsg_envelope::Stamp;
-use kernel_block::Side;
+use kernel_engine::Side;
 use std::alloc::Global;
 use std::snapshot::Snapshot;
 use std::sync::Wait;

@@ -2,7 +2,7 @@
 //! joined, the last first: each function does so with what it started itself.
 
 ghost use Rattle.std.specs.Prelude.{◌≡◌, [], IfErr, IfOk, IfSome};
-ghost use Rattle.kernel_block.specs.declared.side.Side.TheVariants.{Shell, Control};
+ghost use Rattle.kernel_engine.specs.declared.side.Side.TheVariants.{Shell, Control};
 ghost use Rattle.kernel_workers.specs.Staging.{Promises};
 
 use crate::ended::Ended;

@@ -50,16 +50,13 @@ impl<T: Drop, R: Wait + Drop> Waking<T, R> {
 }
 
 impl<T, R: Wait> Publish for Waking<T, R> {
-    ghost use Rattle.std.specs.Prelude.{◌≡◌, refl};
+    ghost use Rattle.std.specs.Prelude.{refl};
     ghost use Rattle.std.proofs.Common.{◌∙◌};
+    ghost use Rattle.iopub_queue.specs.Sink.{publisher_sink};
 
     type Item = T;
 
-    ghost items_of = { λ waking. waking.published };
-
-    ghost may_refuse = { λ waking. ⊥ };
-
-    ghost is_same = { λ a b. (b.queue ≡ a.queue) × (b.number ≡ a.number) };
+    ghost sink = { publisher_sink };
 
     fn publish(&mut self, item: T) -> Result<(), Refused<T>> {
         let published = self.publisher.publish(item);
@@ -67,9 +64,9 @@ impl<T, R: Wait> Publish for Waking<T, R> {
         published
     }
 
-    ghost same_itself = { λ _. (refl, refl) };
-
-    ghost same_on = { λ a b c ab bc. (bc.0 ∙ ab.0, bc.1 ∙ ab.1) };
-
-    ghost same_may_refuse = { λ _ _ _. (λ none. none, λ none. none) };
+    ghost laws = { record {
+      same_itself = λ _. (refl, refl);
+      same_on = λ a b c ab bc. (bc.0 ∙ ab.0, bc.1 ∙ ab.1);
+      same_may_refuse = λ _ _ _. (λ none. none, λ none. none);
+    } };
 }

@@ -66,7 +66,8 @@ pub record IsBrokenOff {Listener End : Type 0} (hears : Hearing Listener End) (o
   pub ends : hears now last new (Err end)
   pub prompt : (octets ≡ []) ⊎ IsPrompt source source' octets comes.behind
 
--- what a listener heard of octets that are read behind these, and how it ended
+-- what a listener heard of octets that are read behind these, and how it ended; the arguments are what one call begins
+-- with and ends with
 abbrev pub Listens : {Listener End : Type 0} → Hearing Listener End → Listener → List ℕ → Source → Source → Listener
     → Ending End → Type 0
 Listens hears old before source source' new (Connection end) = IsHeardOut hears old before source source' new end

@@ -111,7 +111,8 @@ pub record IsServed {Server End : Type 0} (dropped : Bool) (answers : Answering 
   pub converses : Converses dropped answers old behind replies new ending
   pub all : written ≡ opening ++ replies
 
--- what a peer comes to with a server: it was turned away, and the server stayed, or it was served
+-- what a peer comes to with a server: it was turned away, and the server stayed, or it was served; it has the arguments
+-- of the definition above
 abbrev pub Serves : {Server End : Type 0} → Bool → Answering Server End → SocketType → Server → List ℕ → List ℕ
     → Server → Ending End → Type 0
 Serves dropped answers ours old octets written new ending =

@@ -1,6 +1,7 @@
-//! `zmtp_connection_cases`: exchanges of `zmtp_connection` with peers whose octets, reads and writes are told beforehand.
-//! Each line of standard input is printed. One that is empty or begins with `#` says nothing; `NAME = WORD..` gives
-//! octets a name; and each other line is a case, whose answers are printed behind it, each on a line of its own.
+//! `zmtp_connection_cases`: exchanges of `zmtp_connection` with peers whose octets, reads and writes are told
+//! beforehand. Each line of standard input is printed. One that is empty or begins with `#` says nothing;
+//! `NAME = WORD..` gives octets a name; and each other line is a case, whose answers are printed behind it, each on
+//! a line of its own.
 //!
 //! A case is a row of words, done one after another:
 //!

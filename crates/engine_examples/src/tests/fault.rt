@@ -1,7 +1,7 @@
 //! The numbers and the words of the faults.
 
 use super::request;
-use kernel_block::EngineFault;
+use kernel_engine::EngineFault;
 use std::alloc::Global;
 use std::process::Abort;
 use std::test::Fail;
@@ -34,9 +34,6 @@ fn faults_have_numbers_and_words(rt: HostRuntime) -> Result<(), Fail> {
         "an idle is owed",
     )?;
     expect(&rt, alloc, EngineFault::Memory, 71, "out of memory")?;
-    expect(&rt, alloc, EngineFault::Read, 72, "a read failed")?;
-    expect(&rt, alloc, EngineFault::Write, 73, "a write failed")?;
-    expect(&rt, alloc, EngineFault::Turns, 74, "no turn is left")?;
     expect(
         &rt,
         alloc,

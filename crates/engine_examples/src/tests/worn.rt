@@ -5,13 +5,13 @@ use crate::{After, DATE, Refusing, Scarce};
 use arith_shell::ShellArith;
 use jmsg_envelope::Signer;
 use jmsg_types::{Publication, Reply, State};
-use kernel_block::{EngineFault, Handled, Heading, Parts, Publishing, Side};
+use kernel_engine::{EngineFault, Heading, Parts, Publishing, Response, Side};
 use listed::{Frames, Octets, Text};
 use std::alloc::{AllocError, Global};
 use std::test::Fail;
 
 /// The number of the fault by which a request was refused, or 0.
-fn number_of(handled: Result<Handled, EngineFault>) -> u8 {
+fn number_of(handled: Result<Response, EngineFault>) -> u8 {
     match handled {
         Ok(_) => 0,
         Err(fault) => fault.number(),
@@ -34,7 +34,8 @@ fn handled_at(alloc: Global, next: u64) -> Result<(u8, u64, usize), Fail> {
         },
         owed: None,
     };
-    let number = number_of(parts.handle(alloc, asked, &After::new(u64::MAX)));
+    let does = parts.read(alloc, &asked);
+    let number = number_of(parts.finish(alloc, asked, does, &After::new(u64::MAX)));
     let publishing = parts.publishing;
     let next = publishing.next;
     let sink = publishing.sink;
@@ -72,7 +73,7 @@ fn heading(alloc: Global) -> Result<Heading, Fail> {
 fn put_at(alloc: Global, next: u64) -> Result<(usize, u64), Fail> {
     let mut publishing = from_number(alloc, next);
     let idle = Publication::Status(State::Idle);
-    let is_put = publishing.put(alloc, &heading(alloc)?, false, idle).is_ok();
+    let is_put = publishing.publish(alloc, &heading(alloc)?, &idle).is_ok();
     let next = publishing.next;
     let sink = publishing.sink;
     let count = sink.items.len();

@@ -31,11 +31,11 @@ impl<T> Publish for Bounded<T> {
 
     type Item = T;
 
-    ghost items_of = { λ sink. map Some sink.items.items };
-
-    ghost may_refuse = { λ _. Unit };
-
-    ghost is_same = { λ a b. b.bound ≡ a.bound };
+    ghost sink = { record {
+      items = λ sink. map Some sink.items.items;
+      may_refuse = λ _. Unit;
+      is_same = λ a b. b.bound ≡ a.bound;
+    } };
 
     fn publish(&mut self, item: T) -> Result<(), Refused<T>> {
         if self.items.len() >= self.bound {
@@ -47,11 +47,11 @@ impl<T> Publish for Bounded<T> {
         }
     }
 
-    ghost same_itself = { λ _. refl };
-
-    ghost same_on = { λ a b c ab bc. bc ∙ ab };
-
-    ghost same_may_refuse = { λ _ _ _. (λ _. tt, λ _. tt) };
+    ghost laws = { record {
+      same_itself = λ _. refl;
+      same_on = λ a b c ab bc. bc ∙ ab;
+      same_may_refuse = λ _ _ _. (λ _. tt, λ _. tt);
+    } };
 }
 
 /// Publishes items one after the other, up to the first that is refused. What this promises follows from what
@@ -59,12 +59,12 @@ impl<T> Publish for Bounded<T> {
 fn publish_each<P: Publish>(sink: &mut P, items: Vec<P::Item>) -> Result<(), Refused<P::Item>>
 where
     P::Item: Drop,
-    ensures published { OnOk result (P.items_of sink.new ≡ P.items_of sink.old ++ map Some items.items) }
+    ensures published { OnOk result (P.sink.items sink.new ≡ P.sink.items sink.old ++ map Some items.items) }
     ensures front { IfErr result (λ refused. (front : List P.Item) × (rest : List P.Item)
         × (items.items ≡ front ++ refused.item ∷ rest)
-        × (P.items_of sink.new ≡ P.items_of sink.old ++ map Some front)) }
-    ensures allowed { OnErr result (P.may_refuse sink.old) }
-    ensures same { P.is_same sink.old sink.new }
+        × (P.sink.items sink.new ≡ P.sink.items sink.old ++ map Some front)) }
+    ensures allowed { OnErr result (P.sink.may_refuse sink.old) }
+    ensures same { P.sink.is_same sink.old sink.new }
 {
     for item in items {
         sink.publish(item)?;

@@ -1,11 +1,11 @@
 //! One stored run whose octets come in pieces: cut anywhere, interrupted, and refused at a read. What the whole comes
 //! to, `tests/programs/sessions` compares octet by octet.
 
-use crate::replay::{answer_peer, run_replay};
-use kernel_engine::EngineFault;
+use crate::replay::{ReplayFault, answer_peer, run_replay};
 use std::alloc::Global;
 use std::io::{self, ErrorKind, Read};
 use std::test::Fail;
+use zmtp_connection::ConnectionFault;
 use zmtp_wire::Counted;
 
 /// The digits of what a DEALER sends that asks for the kernel's info: a greeting, READY and the request.
@@ -84,7 +84,7 @@ fn octets(alloc: Global) -> Result<Vec<u8>, Fail> {
 }
 
 /// The lines of the session with this peer, under no key.
-fn answered(alloc: Global, peer: Pieces<'_>) -> Result<Vec<u8>, EngineFault> {
+fn answered(alloc: Global, peer: Pieces<'_>) -> Result<Vec<u8>, ReplayFault> {
     answer_peer(alloc, Vec::new(alloc), &mut Counted::new(peer))
 }
 
@@ -135,7 +135,10 @@ fn a_read_that_fails_ends_the_session(rt: HostRuntime) -> Result<(), Fail> {
     for fails in 1..=reads + 1 {
         let mut peer = Pieces::of(&sent, 1);
         peer.fails = fails;
-        let is_told = matches!(answered(rt.alloc(), peer), Err(EngineFault::Read));
+        let is_told = matches!(
+            answered(rt.alloc(), peer),
+            Err(ReplayFault::Connection(ConnectionFault::Read))
+        );
         assert!(rt; is_told == (fails <= reads), "at {fails}");
     }
     Ok(())

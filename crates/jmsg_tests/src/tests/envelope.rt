@@ -1,8 +1,10 @@
 //! Known codes of RFC 4231, envelopes judged, headers, and the words of faults.
 
 use jmsg_envelope::{
-    Envelope, EnvelopeFault, Signer, Stamp, header_text, hmac_sha256, open_envelope, seal,
+    Envelope, EnvelopeFault, MessageParts, Signer, Stamp, header_text, hmac_sha256, open_envelope,
+    seal,
 };
+use listed::{Frames, Octets};
 use std::alloc::{AllocError, Global};
 use std::test::Fail;
 
@@ -73,16 +75,15 @@ fn frames_of(alloc: Global, bodies: &[&[u8]]) -> Result<Vec<Vec<u8>>, AllocError
 
 /// The frames of a message that is sealed.
 fn sealed(alloc: Global, signer: &Signer) -> Result<Vec<Vec<u8>>, Fail> {
-    Ok(seal(
-        alloc,
-        signer,
-        frames_of(alloc, &[b"peer"])?,
-        HEADER.to_vec(alloc)?,
-        b"{}".to_vec(alloc)?,
-        b"{}".to_vec(alloc)?,
-        b"{}".to_vec(alloc)?,
-        frames_of(alloc, &[b"<IDS|MSG>"])?,
-    )?)
+    let parts = MessageParts {
+        header: Octets::new(HEADER.to_vec(alloc)?),
+        parent: Octets::new(b"{}".to_vec(alloc)?),
+        metadata: Octets::new(b"{}".to_vec(alloc)?),
+        content: Octets::new(b"{}".to_vec(alloc)?),
+        buffers: Frames::new(frames_of(alloc, &[b"<IDS|MSG>"])?),
+    };
+    let prefix = Frames::new(frames_of(alloc, &[b"peer"])?);
+    Ok(seal(alloc, signer, prefix, parts)?.into_vec())
 }
 
 /// The frames of the message that `sealed` seals.
@@ -183,11 +184,11 @@ impl Stamp for Replay {
     ghost use Rattle.std.specs.Prelude.{bytes_eq, codes};
     ghost use Rattle.jmsg_envelope.specs.Stamp.{numbered, numbered-differ};
 
-    ghost meaning = { λ _. record { session = codes "replay"; label = codes "replay_s" } };
-
-    ghost id_text = { numbered };
-
-    ghost is_date = { λ _ date. bytes_eq date (codes "2000-01-01T00:00:00.000000Z") };
+    ghost stamp = { record {
+      meaning = λ _. record { session = codes "replay"; label = codes "replay_s" };
+      id_text = numbered;
+      is_date = λ _ date. bytes_eq date (codes "2000-01-01T00:00:00.000000Z");
+    } };
 
     ghost ids_differ = { numbered-differ };
 

@@ -1,11 +1,20 @@
-use Rattle.std.proofs.Common.{rules}
-use Rattle.kernel_workers.specs.Jobs.{handled, refused}
+use Rattle.kernel_engine.proofs.TakeLemmas.{taken}
+use Rattle.kernel_engine.specs.World.{world_of}
+use Rattle.iopub_queue.specs.Sink.{publisher_sink}
+use Rattle.kernel_workers.proofs.JobLemmas.{taken_same}
 use Rattle.kernel_workers.proofs.control.answer.Goals as goal
 
-pub returns-in-Ok-handle-clause-does : goal.returns-in-Ok-handle-clause-does
-returns-in-Ok-handle-clause-does g c =
-    handled c.in_ok-request.request (search rules) c.in-Ok-handle.handled c.in-Ok-handle.ensures c.reply.ensures
+pub returns-clause-does : goal.returns-clause-does
+returns-clause-does g c =
+    let took = taken (world_of g.I.Interpreter.meaning publisher_sink g.S.Stamp.stamp) ⊥ c.args.frames
+    c.in-Ok.asked c.args.engine.now c.finish-done.result
+    c.finish-done.new.self c.in-Ok.ensures.opened c.finish-done.ensures in
+    (c.finish-done.result, took, c.conclude.ensures)
 
-pub returns-in-Err-clause-does : goal.returns-in-Err-clause-does
-returns-in-Err-clause-does g c =
-    refused c.in_ok-request.request (search rules) c.in-Err.fault c.in-Err.ensures c.after_fault.ensures
+pub returns-clause-same : goal.returns-clause-same
+returns-clause-same g c =
+    let took = taken (world_of g.I.Interpreter.meaning publisher_sink g.S.Stamp.stamp) ⊥ c.args.frames
+    c.in-Ok.asked c.args.engine.now c.finish-done.result
+    c.finish-done.new.self c.in-Ok.ensures.opened c.finish-done.ensures in
+    taken_same g.I.Interpreter.meaning g.S.Stamp.stamp ⊥ c.args.frames c.args.engine.now c.finish-done.new.self
+    c.finish-done.result took

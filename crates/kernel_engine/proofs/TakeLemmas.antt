@@ -1,0 +1,19 @@
+-- A message that was opened, and whose request was handled or refused, was taken.
+use Rattle.std.proofs.Common.{ℕ, List}
+use Rattle.jmsg_envelope.specs.Envelope.{Opened}
+use Rattle.kernel_engine.specs.declared.asked.Asked.{Asked}
+use Rattle.kernel_engine.specs.declared.asked.Done.{Done}
+use Rattle.kernel_engine.specs.declared.asked.Done.TheVariants.{Ignored, Lost, Handled, Refused}
+use Rattle.kernel_engine.specs.declared.parts.Parts.{Parts}
+use Rattle.kernel_engine.specs.Block.{Message}
+use Rattle.kernel_engine.specs.Takes.{Finishes, Takes}
+use Rattle.kernel_engine.specs.World.{World}
+
+-- so it is by what came of it
+pub taken : {I P S W Cell : Type 0} (world : World I P S W Cell) (may : Type 0) (frames : Message) (asked : Asked)
+    (old : Parts I P S W) (done : Done) (new : Parts I P S W) → Opened old.publishing.signer frames asked.request
+    → Finishes world may asked old done new → Takes world may frames old done new
+taken world may frames asked old Ignored new opened never = absurd never
+taken world may frames asked old Lost new opened never = absurd never
+taken world may frames asked old (Handled handled) new opened (read, ok) = (asked.request, opened, ok)
+taken world may frames asked old (Refused fault) new opened why = (asked.request, opened, why)

@@ -1,0 +1,58 @@
+-- What an order says of the end of the kernel.
+use Rattle.std.specs.Prelude.{Bool, true, false, Option, Some, None}
+use Rattle.kernel_engine.specs.declared.asked.Done.{Done}
+use Rattle.kernel_engine.specs.declared.asked.Done.TheVariants as came
+use Rattle.kernel_engine.specs.declared.does.Does.{Does}
+use Rattle.kernel_engine.specs.declared.does.Does.TheVariants.{Says, Looks, Runs, Refuses, Unread}
+use Rattle.kernel_engine.specs.declared.does.Order.{Order}
+use Rattle.kernel_engine.specs.declared.does.Order.TheVariants.{GoOn, Interrupt, End}
+use Rattle.kernel_engine.specs.declared.handled.Handled.{Handled}
+use Rattle.kernel_engine.specs.declared.response.Response.{Response}
+
+-- whether the kernel is to begin anew, where it is to end
+abbrev pub ends : Order → Option Bool
+ends GoOn = None
+ends Interrupt = None
+ends (End restart) = Some restart
+
+-- what the kernel is to do behind a request that comes to this
+abbrev pub order_of : Does → Order
+order_of (Says publication reply order) = order
+order_of (Looks look) = GoOn
+order_of (Runs code silent counts expressions) = GoOn
+order_of (Refuses kind ename evalue) = GoOn
+order_of Unread = GoOn
+
+-- whether an order is to end the kernel
+abbrev pub is_end : Order → Bool
+is_end GoOn = false
+is_end Interrupt = false
+is_end (End restart) = true
+
+-- whether an order is to end the kernel and begin it anew
+abbrev pub is_restart : Order → Bool
+is_restart GoOn = false
+is_restart Interrupt = false
+is_restart (End restart) = restart
+
+-- whether an order is to interrupt the cell that runs
+abbrev pub is_interrupt : Order → Bool
+is_interrupt GoOn = false
+is_interrupt Interrupt = true
+is_interrupt (End restart) = false
+
+-- what came of a request that has a response, its order told by marks
+abbrev pub handled_of : Response → Handled
+handled_of response = record {
+  reply = response.reply;
+  end = is_end response.order;
+  restart = is_restart response.order;
+  interrupt = is_interrupt response.order;
+}
+
+-- whether the cell that runs is to be interrupted, by what came of a message
+abbrev pub interrupted : Done → Bool
+interrupted came.Ignored = false
+interrupted came.Lost = false
+interrupted (came.Handled handled) = is_interrupt handled.order
+interrupted (came.Refused fault) = false

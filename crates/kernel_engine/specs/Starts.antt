@@ -1,0 +1,52 @@
+-- How an engine begins and ends.
+use Rattle.std.specs.Prelude.{◌≡◌, ◌≢◌, ◌⊎◌, ℕ, List, [], Bool, Option}
+use Rattle.iopub_event.specs.declared.event.Event.{Event}
+use Rattle.iopub_queue.specs.Sink.{Sink}
+use Rattle.jmsg_envelope.specs.Stamp.{Stamping}
+use Rattle.kernel_engine.specs.declared.fault.EngineFault.{EngineFault}
+use Rattle.kernel_engine.specs.declared.fault.EngineFault.TheVariants.{Memory}
+use Rattle.kernel_engine.specs.declared.parts.Parts.{Parts}
+use Rattle.kernel_engine.specs.declared.side.Side.TheVariants.{Shell, Control}
+use Rattle.kernel_engine.specs.Opens.{PublishesNone, Starts}
+
+module _ {I P S W : Type 0} (sink : Sink P (Event W))
+    (stamp : Stamping S) where
+  -- parts of an engine of the shell that gave no id say that the kernel starts
+  pub record StartsFirst (old new : Parts I P S W) : Type 0 where
+    pub shell : old.side ≡ Shell
+    pub first : old.publishing.next ≡ 1
+    pub starts : Starts sink stamp old.publishing new.publishing
+    pub rest : new ≡ record old { publishing = new.publishing }
+
+  -- any others do nothing
+  pub record StartsLater (old new : Parts I P S W) : Type 0 where
+    pub other : (old.side ≡ Control) ⊎ (old.publishing.next ≢ 1)
+    pub same : new ≡ old
+
+  -- memory was refused, or the sink refused, and nothing was published
+  pub record StartsRefused (old : Parts I P S W) (fault : EngineFault) (new : Parts I P S W) : Type 0 where
+    pub memory : fault ≡ Memory
+    pub shell : old.side ≡ Shell
+    pub first : old.publishing.next ≡ 1
+    pub none : PublishesNone sink stamp old.publishing new.publishing
+    pub rest : new ≡ record old { publishing = new.publishing }
+
+  -- an engine of the shell that has published nothing says that the kernel starts
+  pub record SaysStarting (old new : Parts I P S W) : Type 0 where
+    pub shell : old.side ≡ Shell
+    pub first : sink.items old.publishing.sink ≡ []
+    pub starts : Starts sink stamp old.publishing new.publishing
+    pub rest : new ≡ record old { publishing = new.publishing }
+
+  -- any other does nothing
+  pub record SaysNothing (old new : Parts I P S W) : Type 0 where
+    pub other : (old.side ≡ Control) ⊎ (sink.items old.publishing.sink ≢ [])
+    pub same : new ≡ old
+
+  -- memory was refused, or the sink refused, and nothing was published
+  pub record StartsNot (old : Parts I P S W) (fault : EngineFault) (new : Parts I P S W) : Type 0 where
+    pub memory : fault ≡ Memory
+    pub shell : old.side ≡ Shell
+    pub first : sink.items old.publishing.sink ≡ []
+    pub none : PublishesNone sink stamp old.publishing new.publishing
+    pub rest : new ≡ record old { publishing = new.publishing }

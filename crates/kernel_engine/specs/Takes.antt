@@ -1,0 +1,51 @@
+-- What an engine makes of the frames of one message: they are opened as a request under its key, it is read, and
+-- handled.
+use Rattle.std.specs.Prelude.{◌≡◌, ⊤, ℕ, List}
+use Rattle.jmsg_envelope.specs.Envelope.{IsNoEnvelope, Opened}
+use Rattle.jmsg_envelope.specs.declared.envelope.Envelope.{Envelope}
+use Rattle.jmsg_envelope.specs.declared.fault.EnvelopeFault.{EnvelopeFault}
+use Rattle.kernel_engine.specs.declared.asked.Asked.{Asked}
+use Rattle.kernel_engine.specs.declared.asked.Done.{Done}
+use Rattle.kernel_engine.specs.declared.asked.Done.TheVariants.{Ignored, Lost, Handled, Refused}
+use Rattle.kernel_engine.specs.declared.asked.Unread.{Unread}
+use Rattle.kernel_engine.specs.declared.asked.Unread.TheVariants.{NoRequest, NoMemory}
+use Rattle.kernel_engine.specs.declared.parts.Parts.{Parts}
+use Rattle.kernel_engine.specs.declared.side.Side.{Side}
+use Rattle.kernel_engine.specs.Block.{Message}
+use Rattle.kernel_engine.specs.Comes.{IsRead, message_comes}
+use Rattle.kernel_engine.specs.Handles.{HandlesErr, HandlesOk}
+use Rattle.kernel_engine.specs.World.{World}
+
+-- the frames are no envelope under a key
+abbrev pub IsNoRequest : List ℕ → Message → Type 0
+IsNoRequest key frames = (fault : EnvelopeFault) × IsNoEnvelope key frames fault
+
+-- the frames are a request under a key, and this is what it comes to on a channel
+pub record Asks (key : List ℕ) (side : Side) (frames : Message) (asked : Asked) : Type 0 where
+  pub opened : Opened key frames asked.request
+  pub does : IsRead asked.does (message_comes side asked.request)
+
+-- why the frames aren't read
+abbrev pub Misses : List ℕ → Message → Unread → Type 0
+Misses key frames NoRequest = IsNoRequest key frames
+Misses key frames NoMemory = ⊤
+
+module _ {I P S W Cell : Type 0} (world : World I P S W Cell) (may : Type 0) where
+  -- A request that was read was handled, or refused. It is handled as what it was read to come to, and one that no
+  -- memory was left to read isn't handled.
+  abbrev pub Finishes : Asked → Parts I P S W → Done → Parts I P S W → Type 0
+  Finishes asked old Ignored new = ⊥
+  Finishes asked old Lost new = ⊥
+  Finishes asked old (Handled handled) new =
+      (asked.does ≡ message_comes old.side asked.request) × HandlesOk world may asked.request old handled new
+  Finishes asked old (Refused fault) new = HandlesErr world may asked.request old fault new
+
+  -- What an engine makes of a message: where it is no request, or isn't read for want of memory, nothing changes; any
+  -- other is handled, or refused.
+  abbrev pub Takes : Message → Parts I P S W → Done → Parts I P S W → Type 0
+  Takes frames old Ignored new = IsNoRequest old.publishing.signer frames × (new ≡ old)
+  Takes frames old Lost new = new ≡ old
+  Takes frames old (Handled handled) new =
+      (request : Envelope) × Opened old.publishing.signer frames request × HandlesOk world may request old handled new
+  Takes frames old (Refused fault) new =
+      (request : Envelope) × Opened old.publishing.signer frames request × HandlesErr world may request old fault new

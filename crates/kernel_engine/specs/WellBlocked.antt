@@ -1,0 +1,143 @@
+-- What an engine published, all of it ('Messaging in Jupyter' 5.3, "Kernel status"): that the kernel starts, and then
+-- one block behind the other.
+use Rattle.std.specs.Prelude.{◌≡◌, ⊤, ℕ, ◌+◌, ◌≤◌, ◌^◌, List, [], ◌∷◌, ◌++◌, length, map, Bool, true, false}
+use Rattle.std.specs.Prelude.{Option, Some, None, IfSome}
+use Rattle.interp_core.specs.Interpreter.{Meaning}
+use Rattle.iopub_event.specs.declared.event.Event.{Event}
+use Rattle.iopub_event.specs.declared.event.Event.TheVariants as events
+use Rattle.jmsg_envelope.specs.declared.envelope.Envelope.{Envelope}
+use Rattle.iopub_queue.specs.Sink.{Sink}
+use Rattle.jmsg_envelope.specs.Stamp.{Stamping}
+use Rattle.jmsg_types.specs.declared.publication.Publication.{Publication}
+use Rattle.kernel_engine.specs.declared.heading.Heading.{Heading}
+use Rattle.kernel_engine.specs.declared.parts.Parts.{Parts}
+use Rattle.kernel_engine.specs.declared.side.Side.{Side}
+use Rattle.kernel_engine.specs.declared.side.Side.TheVariants.{Shell}
+use Rattle.kernel_engine.specs.Comes.{message_comes}
+use Rattle.kernel_engine.specs.Block.{Message, Sealing, idle, opened, starting}
+use Rattle.kernel_engine.specs.Course.{Course}
+use Rattle.kernel_engine.specs.Growth.{item_of, sealing_of}
+use Rattle.kernel_engine.specs.Publications.{Publishes}
+use Rattle.kernel_engine.specs.World.{World}
+
+-- A block that was published: the date and the parent header of its messages, its first number, what was published
+-- between busy and idle, and whether idle was.
+pub record Block : Type 0 where
+  pub date : List ℕ
+  pub parent : List ℕ
+  pub number : ℕ
+  pub publications : List Publication
+  pub closed : Bool
+
+-- what the messages of a block share
+abbrev pub heading_of : Block → Heading
+heading_of block = record { date = block.date; parent = block.parent }
+
+-- the number behind those of busy, idle and the publications of a block
+abbrev pub past : Block → ℕ
+past block = block.number + 2 + length block.publications
+
+-- the idle of a block
+abbrev pub idle_of : Sealing → Block → Message
+idle_of sealing block = idle sealing (heading_of block) block.number
+
+-- a message where it was published
+abbrev pub where_published : Bool → Message → List Message
+where_published true message = message ∷ []
+where_published false message = []
+
+-- the messages of a block that were published
+abbrev pub messages_of : Sealing → Block → List Message
+messages_of sealing block = opened sealing (heading_of block) block.number block.publications
+    ++ where_published block.closed (idle_of sealing block)
+
+-- What was published: the date under which the kernel said that it starts, where it did, and the blocks, the latest
+-- first.
+pub record History : Type 0 where
+  pub started : Option (List ℕ)
+  pub blocks : List Block
+
+-- that the kernel starts, where it said so
+abbrev pub front_of : Sealing → Option (List ℕ) → List Message
+front_of sealing None = []
+front_of sealing (Some date) = starting sealing date ∷ []
+
+-- the messages of blocks, the latest first, behind those in front
+abbrev pub said_behind : Sealing → List Message → List Block → List Message
+said_behind sealing front [] = front
+said_behind sealing front (block ∷ earlier) = said_behind sealing front earlier ++ messages_of sealing block
+
+-- all messages that were published
+abbrev pub said : Sealing → History → List Message
+said sealing history = said_behind sealing (front_of sealing history.started) history.blocks
+
+-- the first number behind that of starting
+abbrev pub first_number : Option (List ℕ) → ℕ
+first_number None = 1
+first_number (Some date) = 2
+
+-- the numbers rise from block to block, up to the next one
+abbrev pub Rise : ℕ → List Block → ℕ → Type 0
+Rise first [] next = next ≡ first
+Rise first (block ∷ earlier) next = (past block ≤ next) × Rise first earlier block.number
+
+-- the idle of each block was published
+abbrev pub AreClosed : List Block → Type 0
+AreClosed [] = ⊤
+AreClosed (block ∷ earlier) = (block.closed ≡ true) × AreClosed earlier
+
+-- the idle that is owed is that of the latest block, which is open; all others are closed
+abbrev pub Owes : {W : Type 0} → Sealing → Option (Event W) → List Block → Type 0
+Owes sealing None blocks = AreClosed blocks
+Owes sealing (Some owed) [] = ⊥
+Owes sealing (Some owed) (block ∷ earlier) =
+    (block.closed ≡ false) × (owed ≡ events.Message (idle_of sealing block)) × AreClosed earlier
+
+-- that the kernel starts is said on shell alone, and with a date
+abbrev pub Began : (List ℕ → Bool) → Side → Option (List ℕ) → Type 0
+Began is_date side None = ⊤
+Began is_date side (Some date) = (side ≡ Shell) × (is_date date ≡ true)
+
+-- What stands in a block is a beginning of what is published of a message with the header that is its parent, on a
+-- channel, in a state and by a course, all with one date.
+pub record IsCut {State Cell : Type 0} (m : Meaning State Cell) (is_date : List ℕ → Bool) (side : Side) (block : Block)
+    : Type 0 where
+  pub request : Envelope
+  pub parent : block.parent ≡ request.header
+  pub dated : is_date block.date ≡ true
+  pub state : State
+  pub count : ℕ
+  pub course : Course State
+  pub whole : List Publication
+  pub rest : List Publication
+  pub publishes : Publishes m (message_comes side request) state count course whole
+  pub front : whole ≡ block.publications ++ rest
+
+-- so it is in each block
+abbrev pub AreCuts : {State Cell : Type 0} → Meaning State Cell → (List ℕ → Bool) → Side → List Block → Type 0
+AreCuts m is_date side [] = ⊤
+AreCuts m is_date side (block ∷ earlier) = IsCut m is_date side block × AreCuts m is_date side earlier
+
+-- What was published on a channel, all of it, is well blocked ('Messaging in Jupyter' 5.3, "Kernel status"): that the
+-- kernel starts, where it said so, and then one block behind the other, each from busy to idle with a beginning of what
+-- is published of a message with its parent header between the two, and with rising numbers up to the next one. The
+-- last block is open exactly where its idle is owed.
+pub record IsWellBlocked {State Cell W : Type 0} (m : Meaning State Cell) (is_date : List ℕ → Bool) (side : Side)
+    (sealing : Sealing) (next : ℕ) (owed : Option (Event W)) (items : List (Option (Event W))) : Type 0 where
+  pub history : History
+  pub items_are : items ≡ map item_of (said sealing history)
+  pub began : Began is_date side history.started
+  pub cuts : AreCuts m is_date side history.blocks
+  pub rise : Rise (first_number history.started) history.blocks next
+  pub owes : Owes sealing owed history.blocks
+
+-- What an engine keeps: what it published is well blocked, and an idle is owed only where the sink may refuse. It
+-- counted no more cells than the number of its next id, and no number past 2^63 was given.
+pub record KeepsBlocks {I P S W Cell : Type 0} (world : World I P S W Cell) (parts : Parts I P S W) : Type 0 where
+  pub blocked : IsWellBlocked world.language (world.stamp.is_date (world.stamp.meaning parts.publishing.stamp))
+      parts.side
+      (sealing_of world.stamp parts.publishing) parts.publishing.next parts.owed
+      (world.sink.items parts.publishing.sink)
+  pub refused : IfSome parts.owed (λ owed. world.sink.may_refuse parts.publishing.sink)
+  pub counted : parts.count ≤ parts.publishing.next
+  pub last : parts.publishing.next ≤ 2 ^ 63 + 1

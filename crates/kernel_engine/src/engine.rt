@@ -1,0 +1,196 @@
+//! Engines of shell and control: what a kernel publishes and replies, request by request.
+
+ghost use Rattle.std.specs.Prelude.{◌≡◌, ◌⊎◌, [], None, MatchResult};
+ghost use Rattle.kernel_engine.specs.Comes.{IsRead, message_comes};
+ghost use Rattle.kernel_engine.specs.declared.response.Response.{Response};
+ghost use Rattle.kernel_engine.specs.Handles.{HandlesErr, HandlesOk, Pays, PaysNot};
+ghost use Rattle.kernel_engine.specs.Orders.{handled_of};
+ghost use Rattle.kernel_engine.specs.Takes.{Asks, Finishes, Misses, Takes};
+ghost use Rattle.kernel_engine.specs.Starts.{SaysNothing, SaysStarting, StartsNot};
+ghost use Rattle.kernel_engine.specs.World.{world_of};
+
+use crate::asked::{Asked, Done, Unread};
+use crate::engine_end::EngineEnd;
+use crate::fault::EngineFault;
+use crate::handled::Handled;
+use crate::parts::Parts;
+use crate::publishing::Publishing;
+use crate::side::Side;
+use crate::stop::Stop;
+use interp_core::Interpreter;
+use iopub_event::Event;
+use iopub_queue::Publish;
+use jmsg_envelope::{Envelope, EnvelopeFault, Signer, Stamp, open_envelope};
+use listed::Frames;
+use std::alloc::Global;
+use std::marker::Model;
+
+/// An engine of one channel: handles requests one after the other, over an interpreter, a sink for what it publishes, a
+/// stamp for ids and dates, and a signer. A contract sees its parts.
+///
+/// What it published is always well blocked: that the kernel starts, where it said so, and then one block behind the
+/// other, each from busy to idle; the last block is open exactly where its idle is owed.
+#[derive(Drop)]
+pub struct Engine<I: Interpreter, P, S: Stamp, W>
+where
+    P: Publish<Item = Event<W>>,
+{
+    /// Its parts.
+    parts: Parts<I, P, S, W>,
+}
+
+impl<I: Interpreter, P, S: Stamp, W> Model for Engine<I, P, S, W>
+where
+    P: Publish<Item = Event<W>>,
+{
+    ghost use Rattle.kernel_engine.specs.declared.parts.Parts.{Parts};
+
+    ghost Value = { Parts I P S W };
+
+    ghost use Rattle.kernel_engine.specs.Within.{parts_of, IsSound};
+    ghost use Rattle.kernel_engine.specs.World.{world_of};
+
+    ghost view = { parts_of };
+
+    ghost invariant = { IsSound (world_of I.meaning P.sink S.stamp) };
+}
+
+impl<I: Interpreter, P, S: Stamp, W: Drop> Engine<I, P, S, W>
+where
+    P: Publish<Item = Event<W>>,
+{
+    /// An engine that has published nothing, over a sink that has published nothing. Needs no memory.
+    pub fn new(side: Side, interp: I, sink: P, stamp: S, signer: Signer) -> Engine<I, P, S, W>
+        requires { P.sink.items sink ≡ [] }
+        ensures { result ≡ record {
+          side = side;
+          interp = interp;
+          count = 0;
+          publishing = record { sink = sink; signer = signer; stamp = stamp; next = 1 };
+          owed = None;
+        } }
+    {
+        Engine {
+            parts: Parts {
+                side,
+                interp,
+                count: 0,
+                publishing: Publishing {
+                    sink,
+                    signer,
+                    stamp,
+                    next: 1,
+                },
+                owed: None,
+            },
+        }
+    }
+
+    /// Publishes that the kernel starts, where this is an engine of the shell that has published nothing. Any other
+    /// does nothing.
+    ///
+    /// # Errors
+    ///
+    /// `Memory` where memory was refused, or the sink refused. Then nothing is published.
+    pub fn start(&mut self, alloc: Global) -> Result<(), EngineFault>
+        ensures { MatchResult result
+            (λ _. SaysStarting P.sink S.stamp self.old self.new
+            ⊎ SaysNothing P.sink S.stamp self.old self.new)
+            (λ fault. StartsNot P.sink S.stamp self.old fault self.new) }
+    {
+        self.parts.start(alloc)
+    }
+
+    /// Opens the frames of a message as a request under the engine's key, and reads what it comes to.
+    ///
+    /// # Errors
+    ///
+    /// `NoRequest` where they are none, and `NoMemory` where memory was refused.
+    pub fn read(&self, alloc: Global, frames: Frames) -> Result<Asked, Unread>
+        ensures { MatchResult result (Asks self.now.publishing.signer self.now.side frames)
+            (Misses self.now.publishing.signer frames) }
+    {
+        let request = match open_envelope(alloc, self.signer(), frames.into_vec()) {
+            Ok(request) => request,
+            Err(EnvelopeFault::OutOfMemory) => return Err(Unread::NoMemory),
+            Err(
+                EnvelopeFault::NoDelimiter
+                | EnvelopeFault::TooFewParts
+                | EnvelopeFault::BadSignature
+                | EnvelopeFault::BadHeader,
+            ) => return Err(Unread::NoRequest),
+        };
+        let does = self.parts.read(alloc, &request);
+        Ok(Asked { request, does })
+    }
+
+    /// Handles a request that was read: its block is published, from busy to idle, and its reply is answered with what
+    /// the kernel is to do.
+    ///
+    /// It is refused as `Worn` where 2^62 ids were given, and as `OwedIdle` with the request where the idle of the one
+    /// before is owed and the sink refused it again: then nothing changes. It is refused as `Memory` where memory was
+    /// refused, or the sink refused: then nothing was published of the request, or a cut block was, whose idle may be
+    /// owed. The cells that ran stay.
+    pub fn finish<T: Stop>(&mut self, alloc: Global, asked: Asked, stop: &T) -> Done
+        requires { IsRead asked.does (message_comes self.old.side asked.request) }
+        ensures { Finishes (world_of I.meaning P.sink S.stamp) (T.may_ask stop.now) asked self.old result self.new }
+    {
+        match self.parts.finish(alloc, asked.request, asked.does, stop) {
+            Ok(response) => Done::Handled(response),
+            Err(fault) => Done::Refused(fault),
+        }
+    }
+
+    /// Handles a request: reads what it comes to, and then as `finish`.
+    ///
+    /// # Errors
+    ///
+    /// As `finish` refuses it.
+    pub fn handle<T: Stop>(
+        &mut self,
+        alloc: Global,
+        request: Envelope,
+        stop: &T,
+    ) -> Result<Handled, EngineFault>
+        ensures { let world = world_of I.meaning P.sink S.stamp in
+            let may = T.may_ask stop.now in
+            MatchResult result
+            (λ handled. (response : Response) × (handled ≡ handled_of response)
+            × HandlesOk world may request self.old response self.new)
+            (λ fault. HandlesErr world may request self.old fault self.new) }
+    {
+        let does = self.parts.read(alloc, &request);
+        match self.parts.finish(alloc, request, does, stop) {
+            Ok(response) => Ok(Handled::of(response)),
+            Err(fault) => Err(fault),
+        }
+    }
+
+    /// Takes the frames of a message: opens them as a request under the engine's key, reads it, and handles it.
+    pub fn take<T: Stop>(&mut self, alloc: Global, frames: Frames, stop: &T) -> Done
+        ensures { Takes (world_of I.meaning P.sink S.stamp) (T.may_ask stop.now) frames self.old result self.new }
+    {
+        match self.read(alloc, frames) {
+            Ok(asked) => self.finish(alloc, asked, stop),
+            Err(Unread::NoRequest) => Done::Ignored,
+            Err(Unread::NoMemory) => Done::Lost,
+        }
+    }
+
+    /// What its messages are signed with, and its requests verified.
+    pub fn signer(&self) -> &Signer
+        ensures { result.now ≡ self.now.publishing.signer }
+    {
+        &self.parts.publishing.signer
+    }
+
+    /// Ends the engine. An idle that is owed is tried once more.
+    pub fn close(self) -> EngineEnd<I, P, S, W>
+        ensures { Pays P.sink self result
+            ⊎ PaysNot P.sink self result }
+    {
+        let mut parts = self.parts;
+        parts.pay();
+        EngineEnd::new(parts)
+    }
+}

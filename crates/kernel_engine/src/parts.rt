@@ -1,0 +1,221 @@
+//! The parts of an engine, and the steps by which it handles a request.
+
+ghost use Rattle.std.specs.Prelude.{◌≡◌, ◌⊎◌, ◌≤◌, ◌<◌, ◌^◌, None, OnOk, MatchBool, MatchResult};
+ghost use Rattle.kernel_engine.specs.declared.fault.EngineFault.TheVariants.{Memory};
+ghost use Rattle.kernel_engine.specs.Comes.{IsRead, is_silent, message_comes};
+ghost use Rattle.kernel_engine.specs.Handles.{AnswersInBlock, AnswersNot, Closes, HandlesErr};
+ghost use Rattle.kernel_engine.specs.Handles.{HandlesOk, LeavesOpen, Pays, PaysNot};
+ghost use Rattle.kernel_engine.specs.Starts.{StartsFirst, StartsLater, StartsRefused};
+ghost use Rattle.kernel_engine.specs.World.{world_of};
+
+use crate::does::Does;
+use crate::fault::EngineFault;
+use crate::open_block::OpenBlock;
+use crate::publishing::Publishing;
+use crate::respond::read_does;
+use crate::response::Response;
+use crate::side::Side;
+use crate::stop::Stop;
+use interp_core::Interpreter;
+use iopub_event::Event;
+use iopub_queue::Publish;
+use jmsg_envelope::{Envelope, Stamp};
+use jmsg_types::MessageType;
+use listed::{Frames, Octets, Text};
+use std::alloc::{AllocError, Global};
+
+/// The greatest next number with which a request is begun: then 2^62 ids were not given yet.
+const LAST_BEGIN: u64 = 1 << 62;
+
+/// The parts of an engine.
+#[derive(Drop)]
+pub struct Parts<I, P, S, W> {
+    /// The channel that its requests come in on.
+    pub side: Side,
+    /// What runs cells.
+    pub interp: I,
+    /// How many cells were counted.
+    pub count: u64,
+    /// What its messages are made and published with.
+    pub publishing: Publishing<P, S>,
+    /// The idle of the latest block, where it isn't published yet.
+    pub owed: Option<Event<W>>,
+}
+
+impl<I, P, S, W: Drop> Parts<I, P, S, W>
+where
+    P: Publish<Item = Event<W>>,
+{
+    /// Publishes the idle that is owed, where one is: whether none is owed then.
+    pub(crate) fn pay(&mut self) -> bool
+        ensures { MatchBool result (Pays P.sink self.old self.new)
+            (PaysNot P.sink self.old self.new) }
+    {
+        let Some(idle) = self.owed.take() else {
+            return true;
+        };
+        match self.publishing.sink.publish(idle) {
+            Ok(()) => true,
+            Err(refused) => {
+                self.owed = Some(refused.item);
+                false
+            }
+        }
+    }
+
+    /// Publishes the idle of a block, or owes it.
+    fn close_block(&mut self, idle: Frames)
+        requires { self.old.owed ≡ None }
+        ensures { Closes P.sink idle self.old self.new
+            ⊎ LeavesOpen P.sink idle self.old self.new }
+    {
+        if let Err(returned) = self.publishing.sink.publish(Event::Message(idle)) {
+            self.owed = Some(returned.item);
+        }
+    }
+}
+
+impl<I: Interpreter, P, S: Stamp, W: Drop> Parts<I, P, S, W>
+where
+    P: Publish<Item = Event<W>>,
+{
+    /// Answers a request in its block, which is open: its reply, and what the kernel is to do.
+    fn answer<T: Stop>(
+        &mut self,
+        alloc: Global,
+        block: &OpenBlock,
+        identities: Frames,
+        msg_type: Text,
+        does: Does,
+        stop: &T,
+    ) -> Result<Response, EngineFault>
+        requires few { self.old.count < 2 ^ 63 }
+        requires silent { block.now.silent ≡ is_silent does }
+        ensures { let world = world_of I.meaning P.sink S.stamp in
+            let may = T.may_ask stop.now in
+            MatchResult result
+            (λ handled. AnswersInBlock world may block.now.heading identities msg_type does self.old handled self.new)
+            (λ fault. (fault ≡ Memory) × AnswersNot world may block.now.heading does self.old self.new) }
+    {
+        let Ok(answered) = self.respond(alloc, block, stop, does) else {
+            drop(msg_type);
+            drop(identities);
+            return Err(EngineFault::Memory);
+        };
+        let publishing = &mut self.publishing;
+        let named = msg_type.as_str();
+        let reply = publishing.reply(alloc, &block.heading, identities, named, answered.reply);
+        drop(msg_type);
+        let Ok(reply) = reply else {
+            return Err(EngineFault::Memory);
+        };
+        Ok(Response {
+            reply,
+            order: answered.order,
+        })
+    }
+
+    /// Publishes that the kernel starts, where these are the parts of an engine of the shell that gave no id.
+    ///
+    /// # Errors
+    ///
+    /// `Memory` where memory was refused, or the sink refused. Then nothing is published.
+    pub(crate) fn start(&mut self, alloc: Global) -> Result<(), EngineFault>
+        ensures { MatchResult result
+            (λ _. StartsFirst P.sink S.stamp self.old self.new
+            ⊎ StartsLater P.sink S.stamp self.old self.new)
+            (λ fault. StartsRefused P.sink S.stamp self.old fault self.new) }
+    {
+        if self.side == Side::Control || self.publishing.next != 1 {
+            return Ok(());
+        }
+        match self.publishing.start(alloc) {
+            Ok(()) => Ok(()),
+            Err(AllocError) => Err(EngineFault::Memory),
+        }
+    }
+
+    /// What a request comes to: `Unread` where memory was refused.
+    pub fn read(&self, alloc: Global, request: &Envelope) -> Does
+        ensures { IsRead result (message_comes self.now.side request.now) }
+    {
+        let kind = MessageType::from_name(request.msg_type.as_str());
+        match read_does(alloc, self.side, kind, request.content.as_slice()) {
+            Ok(does) => does,
+            Err(AllocError) => Does::Unread,
+        }
+    }
+
+    /// Handles a request that was read: publishes the idle that is owed, opens the block, answers the request in it,
+    /// and closes it.
+    ///
+    /// # Errors
+    ///
+    /// `Worn` where 2^62 ids were given, `OwedIdle` where an idle stays owed: then nothing changes. `Memory` where
+    /// memory was refused, or the sink refused: then nothing was published of the request, or a cut block was.
+    pub fn finish<T: Stop>(
+        &mut self,
+        alloc: Global,
+        request: Envelope,
+        does: Does,
+        stop: &T,
+    ) -> Result<Response, EngineFault>
+        requires read { IsRead does (message_comes self.old.side request) }
+        requires few { self.old.count ≤ self.old.publishing.next }
+        ensures handled { let world = world_of I.meaning P.sink S.stamp in
+            let may = T.may_ask stop.now in
+            MatchResult result
+            (λ handled. HandlesOk world may request self.old handled self.new)
+            (λ fault. HandlesErr world may request self.old fault self.new) }
+        ensures counted { self.new.count ≤ self.new.publishing.next }
+        ensures read { OnOk result (does ≡ message_comes self.old.side request) }
+    {
+        if self.publishing.next > LAST_BEGIN {
+            drop(does);
+            drop(request);
+            return Err(EngineFault::Worn);
+        }
+        if !self.pay() {
+            drop(does);
+            return Err(EngineFault::OwedIdle(request));
+        }
+        let (identities, header, msg_type) = needed(request);
+        let Ok(block) = self.publishing.open(alloc, header, does.is_silent()) else {
+            drop(does);
+            drop(msg_type);
+            drop(identities);
+            return Err(EngineFault::Memory);
+        };
+        let handled = self.answer(alloc, &block, identities, msg_type, does, stop);
+        let OpenBlock {
+            heading,
+            idle,
+            silent: _,
+        } = block;
+        drop(heading);
+        self.close_block(idle);
+        handled
+    }
+}
+
+/// What is needed of a request: its identities, its header and its type.
+fn needed(request: Envelope) -> (Frames, Octets, Text)
+    ensures { (result.0 ≡ request.identities) × (result.1 ≡ request.header) × (result.2 ≡ request.msg_type) }
+{
+    let Envelope {
+        identities,
+        header,
+        msg_id,
+        msg_type,
+        parent,
+        metadata,
+        content,
+        buffers,
+    } = request;
+    drop(msg_id);
+    drop(parent);
+    drop(metadata);
+    drop(content);
+    drop(buffers);
+    (identities, header, msg_type)
+}

@@ -1,0 +1,4 @@
+pub mod SessionOnce
+pub mod SinkLemmas
+pub mod TellLemmas
+pub mod WorkLemmas

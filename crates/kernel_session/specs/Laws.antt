@@ -1,0 +1,35 @@
+-- Laws of a session.
+use Rattle.std.specs.Prelude.{◌≡◌, ℕ, List, ◌++◌, Bool, true, false}
+use Rattle.interp_core.specs.Interpreter.{Meaning}
+use Rattle.kernel_session.specs.declared.end.SessionEnd.{SessionEnd}
+use Rattle.kernel_session.specs.declared.end.SessionEnd.TheVariants.{Shutdown, Failed}
+use Rattle.zmtp_connection.specs.declared.end.Ending.{Ending}
+use Rattle.zmtp_connection.specs.Laws.{IsFinal, IsSettledBy}
+use Rattle.kernel_session.specs.Session.{IsSession, Setting, Standing}
+
+-- whether what the peer sent is why an engine ends a session: a request for a shutdown
+abbrev pub is_asked : SessionEnd → Bool
+is_asked (Shutdown restart) = true
+is_asked (Failed fault) = false
+
+-- what the peer sent ended a session, and neither memory, a device nor the engine's refusal did
+abbrev pub IsSettled : Ending SessionEnd → Type 0
+IsSettled ending = IsSettledBy is_asked ending
+
+-- a session has one value for given courses and dates, where what the peer sent ended it: what is written, what the
+-- engine has come to, its publications among it, and the end
+abbrev pub SessionOnce : {State Cell Stop : Type 0} → Meaning State Cell → (Stop → Type 0) → Type 0
+SessionOnce {State} {Stop = Stop} m may_ask =
+    (stop : Stop) (setting : Setting) (old one other : Standing State) (octets written also : List ℕ)
+    (ending end : Ending SessionEnd) → IsSettled ending → IsSettled end
+    → IsSession m (may_ask stop) setting old octets written one ending
+    → IsSession m (may_ask stop) setting old octets also other end
+    → (written ≡ also) × (one ≡ other) × (ending ≡ end)
+
+-- a session that a fault, the command ERROR or a shutdown ended is the same, whatever the peer sends then
+abbrev pub SessionStays : {State Cell Stop : Type 0} → Meaning State Cell → (Stop → Type 0) → Type 0
+SessionStays {State} {Stop = Stop} m may_ask =
+    (stop : Stop) (setting : Setting) (old new : Standing State) (octets after written : List ℕ)
+    (ending : Ending SessionEnd)
+    → IsFinal ending → IsSession m (may_ask stop) setting old octets written new ending
+    → IsSession m (may_ask stop) setting old (octets ++ after) written new ending

@@ -1,0 +1,10 @@
+//! Sessions of an engine with a peer of the shell channel, over any inlet and outlet.
+#![tactic(auto)]
+
+mod end;
+mod laws;
+mod working;
+
+pub use end::SessionEnd;
+pub use laws::one_session;
+pub use working::session;
