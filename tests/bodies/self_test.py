@@ -254,7 +254,13 @@ def self_test(script, jobs):
         lines = said_of(script, top, "--jobs", str(jobs))
         for name, (_, start) in KINDS.items():
             expect(f"of {name} it should say '{start}'", any(it.startswith(start) for it in lines), lines)
+        lines = said_of(script, top, "--edits")
+        for name in ("nowhere", "definition"):
+            expect(f"of {name} it should say so at once, too", any(it.startswith(KINDS[name][1]) for it in lines), lines)
+        expect("all others can be applied", f"{len(KINDS) - 2} passed, 2 failed" in lines, lines)
         put_edits(top, KEPT)
+        lines = said_of(script, top, "--edits")
+        expect("each can be applied", f"{len(KEPT)} passed, 0 failed" in lines, lines)
         lines = said_of(script, top, "--jobs", str(jobs))
         expect("each is tried where none was yet", tried(lines) == set(KEPT), lines)
         lines = said_of(script, top, "--again", "2", "--seed", "1")

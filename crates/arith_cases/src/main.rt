@@ -3,8 +3,8 @@
 //! A case is a word, what the word wants, and a text, in which `%` and two digits are an octet; a space stands between
 //! each two. `cell` runs a text in a fresh interpreter, `next` in the one of the line before; `complete` and `inspect`
 //! want a cursor; `judge` says whether a text is a whole cell; `evaluate` evaluates one in the interpreter of the line
-//! before; `tokens` cuts one, and `tree` reads one as a statement. An empty line and one that begins with `#` are printed
-//! as they are.
+//! before; `tokens` cuts one, and `tree` reads one as a statement. An empty line and one that begins with `#` are
+//! printed as they are.
 #![tactic(auto)]
 
 mod reading;

@@ -4,6 +4,6 @@
 ghost use Rattle.arith_shell.specs.WordLaws.{WordsAreTokens};
 
 /// The words at a cursor are made of the characters that names and constants are made of.
-pub fn words_are_tokens()
+pub fn law_words_are_tokens()
     ensures { WordsAreTokens }
 {}

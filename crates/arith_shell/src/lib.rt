@@ -7,5 +7,5 @@ mod laws;
 mod shell_arithmetic;
 mod statement;
 
-pub use laws::words_are_tokens;
+pub use laws::law_words_are_tokens;
 pub use shell_arithmetic::{ShellArith, Statements};

@@ -17,9 +17,9 @@ mod token_laws;
 
 pub use expression::Expression;
 pub use fault::ReadFault;
-pub use laws::{one_reading, one_tree};
+pub use laws::{law_one_reading, law_one_tree};
 pub use lexer::tokens;
 pub use operator::{AssignmentOperator, BinaryOperator, UnaryOperator};
 pub use reading::{read_cell, read_statement};
 pub use token::{Placed, Token};
-pub use token_laws::{one_lexing, one_wrong_place, tokens_are_nowhere_wrong};
+pub use token_laws::{law_one_lexing, law_one_wrong_place, law_tokens_are_nowhere_wrong};

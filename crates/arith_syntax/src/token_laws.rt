@@ -3,16 +3,16 @@
 ghost use Rattle.arith_syntax.specs.TokenLaws.{TextsHaveOneLexing, TokensAreNowhereWrong, TextsHaveOneWrongPlace};
 
 /// A text is only one list of tokens.
-pub fn one_lexing()
+pub fn law_one_lexing()
     ensures { TextsHaveOneLexing }
 {}
 
 /// A text that is tokens is wrong nowhere.
-pub fn tokens_are_nowhere_wrong()
+pub fn law_tokens_are_nowhere_wrong()
     ensures { TokensAreNowhereWrong }
 {}
 
 /// A text is wrong at one place at most.
-pub fn one_wrong_place()
+pub fn law_one_wrong_place()
     ensures { TextsHaveOneWrongPlace }
 {}

@@ -3,6 +3,6 @@
 ghost use Rattle.arith_value.specs.Own.{ValuesAreOwn};
 
 /// What an expression is worth is a number, or a fault of arithmetic: want of memory is the program's alone.
-pub fn values_are_their_own()
+pub fn law_values_are_their_own()
     ensures { ValuesAreOwn }
 {}

@@ -9,6 +9,6 @@ mod variables;
 
 pub use evaluator::evaluate;
 pub use fault::ValueFault;
-pub use laws::values_are_their_own;
+pub use laws::law_values_are_their_own;
 pub use operators::{apply, unary};
 pub use variables::Variables;

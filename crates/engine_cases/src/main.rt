@@ -10,8 +10,8 @@
 //! - `call=N`: the call of the stamp that is refused;
 //! - `each`: there is a fresh engine for each request, and what it comes to is printed behind it;
 //! - `counted`: of what is published is printed how many messages they are;
-//! - `wire`: each other line is hexadecimal digits of what a peer sends, from its greeting on, in place of a request. Of
-//!   the session is told how it ends and what was written to the peer.
+//! - `wire`: each other line is hexadecimal digits of what a peer sends, from its greeting on, in place of a request.
+//! Of the session is told how it ends and what was written to the peer.
 //!
 //! Each other line is a request: the id of its message, its type and its content; or `start`, which has the engine say
 //! that it starts. Of each is told what it comes to, in a line; then come the messages that were published, each in a

@@ -6,6 +6,6 @@ ghost use Rattle.iopub_queue.specs.Laws.{OrderIsKept};
 /// a token or the taker was told of, and agrees with what was taken; `told` is a beginning of that, which the entry
 /// ends behind a front. Where of the entry's publisher at least as many entries are taken as stand in `told`, the entry
 /// is taken, and the front stands before it.
-pub fn stands_behind<T>()
+pub fn law_stands_behind<T>()
     ensures { OrderIsKept T }
 {}

@@ -22,7 +22,7 @@ mod word;
 
 pub use closed::Closed;
 pub use fault::OpenFault;
-pub use laws::stands_behind;
+pub use laws::law_stands_behind;
 pub use list_sink::ListSink;
 pub use open::open_queue;
 pub use plain_core::{CoreEvent, CoreFault, CoreState, run_core};

@@ -5,7 +5,7 @@ pub mod CountLemmas
 pub mod DrainLemmas
 pub mod EditLemmas
 pub mod FeedLemmas
-pub mod HearLemmas
+pub mod ReceiveLemmas
 pub mod LastLemmas
 pub mod LawLemmas
 pub mod LeftLemmas

@@ -16,8 +16,8 @@ use Rattle.iopub_relay.specs.Life.{Life, leaves, comes_with, life}
 use Rattle.iopub_relay.specs.Topics.{held, held_after, matches}
 use Rattle.iopub_relay.specs.Feed.{brings, feed}
 use Rattle.iopub_relay.specs.Rows.{row_of, IsAt}
-use Rattle.iopub_relay.specs.Table.{GetsBy, Lives, LivesAt, IsStarved, ServesEvent, GetsText, HearsBy}
-use Rattle.iopub_relay.specs.Table.{Hears, AllHear}
+use Rattle.iopub_relay.specs.Table.{GetsBy, Lives, LivesAt, IsStarved, ServesEvent, GetsText, ReceivesBy}
+use Rattle.iopub_relay.specs.Table.{Receives, AllReceive}
 use Rattle.iopub_relay.proofs.LifeLemmas.{onward, life_more, held_more, feed_more}
 use Rattle.iopub_relay.proofs.RowLemmas.{same_id, found}
 use Rattle.iopub_relay.proofs.StandingLemmas.{broken_not_served, broken_not_starved, served_not_starved}
@@ -149,41 +149,42 @@ module _ {Writer : Type 0} (outflow : Writer → Outflow) where
 
   -- a message leaves a subscriber's id
   pub same_by : (standing : Standing) (due : Bool) (frames : List (List ℕ)) (old new : Subscriber Writer)
-      → HearsBy outflow standing due frames old new → new.id ≡ old.id
+      → ReceivesBy outflow standing due frames old new → new.id ≡ old.id
   same_by Served true frames old new hears = hears.same
   same_by Served false frames old new hears = ap (λ (row : Subscriber Writer). row.id) hears
   same_by Broken due frames old new hears = ap (λ (row : Subscriber Writer). row.id) hears
   same_by Starved due frames old new hears = ap (λ (row : Subscriber Writer). row.id) hears
 
   -- what a message makes of the subscriber of an id
-  abbrev pub HearsAt : List (List ℕ) → Option (Subscriber Writer) → Option (Subscriber Writer) → Type 0
-  HearsAt frames None None = ⊤
-  HearsAt frames None (Some new) = ⊥
-  HearsAt frames (Some old) None = ⊥
-  HearsAt frames (Some old) (Some new) = Hears outflow frames old new
+  abbrev pub ReceivesAt : List (List ℕ) → Option (Subscriber Writer) → Option (Subscriber Writer) → Type 0
+  ReceivesAt frames None None = ⊤
+  ReceivesAt frames None (Some new) = ⊥
+  ReceivesAt frames (Some old) None = ⊥
+  ReceivesAt frames (Some old) (Some new) = Receives outflow frames old new
 
-  hears_first : (test : Bool) (frames : List (List ℕ)) (old new : Subscriber Writer)
-      (olds news : Option (Subscriber Writer)) → Hears outflow frames old new → HearsAt frames olds news
-      → HearsAt frames (cond test (Some old) olds) (cond test (Some new) news)
-  hears_first true frames old new olds news first others = first
-  hears_first false frames old new olds news first others = others
+  receives_first : (test : Bool) (frames : List (List ℕ)) (old new : Subscriber Writer)
+      (olds news : Option (Subscriber Writer)) → Receives outflow frames old new → ReceivesAt frames olds news
+      → ReceivesAt frames (cond test (Some old) olds) (cond test (Some new) news)
+  receives_first true frames old new olds news first others = first
+  receives_first false frames old new olds news first others = others
 
-  hears_at : (id : ℕ) (frames : List (List ℕ)) (olds news : List (Subscriber Writer)) → AllHear outflow frames olds news
-      → HearsAt frames (row_of id olds) (row_of id news)
-  hears_at id frames [] [] hear = tt
-  hears_at id frames [] (new ∷ news) hear = absurd hear
-  hears_at id frames (old ∷ olds) [] hear = absurd hear
-  hears_at id frames (old ∷ olds) (new ∷ news) hear =
-      subst (λ (test : Bool). HearsAt frames (row_of id (old ∷ olds)) (cond test (Some new) (row_of id news)))
+  receives_at : (id : ℕ) (frames : List (List ℕ)) (olds news : List (Subscriber Writer))
+      → AllReceive outflow frames olds news
+      → ReceivesAt frames (row_of id olds) (row_of id news)
+  receives_at id frames [] [] hear = tt
+  receives_at id frames [] (new ∷ news) hear = absurd hear
+  receives_at id frames (old ∷ olds) [] hear = absurd hear
+  receives_at id frames (old ∷ olds) (new ∷ news) hear =
+      subst (λ (test : Bool). ReceivesAt frames (row_of id (old ∷ olds)) (cond test (Some new) (row_of id news)))
       (ap (nat_eq id) (sym (same_by old.standing (matches (holding_of old.topics) frames) frames old new hear.0)))
-      (hears_first (nat_eq id old.id) frames old new (row_of id olds) (row_of id news) hear.0
-      (hears_at id frames olds news hear.1))
+      (receives_first (nat_eq id old.id) frames old new (row_of id olds) (row_of id news) hear.0
+      (receives_at id frames olds news hear.1))
 
   -- a message that is for nobody, or comes to one that has failed
-  hears_nothing : (id : ℕ) (frames : List (List ℕ)) (old new : Subscriber Writer) (now : Life Writer)
+  receives_nothing : (id : ℕ) (frames : List (List ℕ)) (old new : Subscriber Writer) (now : Life Writer)
       → (old.standing ≡ Served → matches (held id now.events) frames ≡ false) → new ≡ old → Lives outflow id old now
       → Lives outflow id new (grown now (Message frames))
-  hears_nothing id frames old new now due same lives =
+  receives_nothing id frames old new now due same lives =
       subst (λ (row : Subscriber Writer). Lives outflow id row (grown now (Message frames))) (sym same)
       (lives_on outflow id old now (Message frames) (λ served. record {
         nothing = ap (λ (b : Bool). if b then text frames else []) (due served);
@@ -217,34 +218,35 @@ module _ {Writer : Type 0} (outflow : Writer → Outflow) where
   }
   delivered id frames old new now Starved served due is gets lives = absurd gets
 
-  hears_by : (id : ℕ) (frames : List (List ℕ)) (old new : Subscriber Writer) (now : Life Writer) (standing : Standing)
+  receives_by : (id : ℕ) (frames : List (List ℕ)) (old new : Subscriber Writer) (now : Life Writer)
+      (standing : Standing)
       (due : Bool) → old.standing ≡ standing → matches (holding_of old.topics) frames ≡ due
-      → HearsBy outflow standing due frames old new → Lives outflow id old now
+      → ReceivesBy outflow standing due frames old new → Lives outflow id old now
       → Lives outflow id new (grown now (Message frames))
-  hears_by id frames old new now Served true served due hears lives = record {
+  receives_by id frames old new now Served true served due hears lives = record {
     gets = delivered id frames old new now new.standing served
         (sym (matches_same (holding_of old.topics) (held id now.events) (lives.topics served) frames) ∙ due) refl
         hears.gets lives;
     topics = λ still topic. ap (λ topics. holding_of topics topic) hears.topics ∙ lives.topics served topic
         ∙ sym (held_more id now.events (Message frames) topic);
   }
-  hears_by id frames old new now Served false served due hears lives =
-      hears_nothing id frames old new now
+  receives_by id frames old new now Served false served due hears lives =
+      receives_nothing id frames old new now
       (λ s. sym (matches_same (holding_of old.topics) (held id now.events) (lives.topics s) frames) ∙ due) hears lives
-  hears_by id frames old new now Broken due is matching hears lives =
-      hears_nothing id frames old new now (λ served. absurd (broken_not_served (sym is ∙ served))) hears lives
-  hears_by id frames old new now Starved due is matching hears lives =
-      hears_nothing id frames old new now (λ served. absurd (served_not_starved (sym served ∙ is))) hears lives
+  receives_by id frames old new now Broken due is matching hears lives =
+      receives_nothing id frames old new now (λ served. absurd (broken_not_served (sym is ∙ served))) hears lives
+  receives_by id frames old new now Starved due is matching hears lives =
+      receives_nothing id frames old new now (λ served. absurd (served_not_starved (sym served ∙ is))) hears lives
 
   message_at : (id : ℕ) (frames : List (List ℕ)) (old new : Option (Subscriber Writer)) (now : Option (Life Writer))
-      → HearsAt frames old new → LivesAt outflow id old now → LivesAt outflow id new (onward id (Message frames) now)
+      → ReceivesAt frames old new → LivesAt outflow id old now → LivesAt outflow id new (onward id (Message frames) now)
   message_at id frames None None None hears lives = tt
   message_at id frames None None (Some now) hears lives = absurd lives
   message_at id frames None (Some new) now hears lives = absurd hears
   message_at id frames (Some old) None now hears lives = absurd hears
   message_at id frames (Some old) (Some new) None hears lives = absurd lives
   message_at id frames (Some old) (Some new) (Some now) hears lives =
-      hears_by id frames old new now old.standing (matches (holding_of old.topics) frames) refl refl hears lives
+      receives_by id frames old new now old.standing (matches (holding_of old.topics) frames) refl refl hears lives
 
   starves_text : (standing : Standing) (old new : Outflow) (octets : List ℕ) → GetsText standing old new octets
       → standing ≡ Starved → ⊥
@@ -253,7 +255,7 @@ module _ {Writer : Type 0} (outflow : Writer → Outflow) where
   starves_text Starved old new octets gets starved = absurd gets
 
   starves_one : (standing : Standing) (due : Bool) (frames : List (List ℕ)) (old new : Subscriber Writer)
-      → HearsBy outflow standing due frames old new → new.standing ≡ Starved → old.standing ≡ Starved
+      → ReceivesBy outflow standing due frames old new → new.standing ≡ Starved → old.standing ≡ Starved
   starves_one Served true frames old new hears starved =
       absurd (starves_text new.standing (outflow old.writer) (outflow new.writer) (text frames) hears.gets starved)
   starves_one Served false frames old new hears starved =
@@ -263,7 +265,7 @@ module _ {Writer : Type 0} (outflow : Writer → Outflow) where
   starves_one Starved due frames old new hears starved =
       sym (ap (λ (row : Subscriber Writer). row.standing) hears) ∙ starved
 
-  starves_at : (frames : List (List ℕ)) (old new : Option (Subscriber Writer)) → HearsAt frames old new
+  starves_at : (frames : List (List ℕ)) (old new : Option (Subscriber Writer)) → ReceivesAt frames old new
       → IsStarved new → IsStarved old
   starves_at frames None None hears starved = starved
   starves_at frames None (Some new) hears starved = absurd hears
@@ -272,13 +274,13 @@ module _ {Writer : Type 0} (outflow : Writer → Outflow) where
       starves_one old.standing (matches (holding_of old.topics) frames) frames old new hears starved
 
   fails_one : (standing : Standing) (due : Bool) (frames : List (List ℕ)) (old new : Subscriber Writer)
-      → (standing ≡ Served → ⊥) → HearsBy outflow standing due frames old new → new ≡ old
+      → (standing ≡ Served → ⊥) → ReceivesBy outflow standing due frames old new → new ≡ old
   fails_one Served due frames old new failed hears = absurd (failed refl)
   fails_one Broken due frames old new failed hears = hears
   fails_one Starved due frames old new failed hears = hears
 
   fails_at : (frames : List (List ℕ)) (old new : Option (Subscriber Writer)) (row : Subscriber Writer)
-      → old ≡ Some row → (row.standing ≡ Served → ⊥) → HearsAt frames old new → new ≡ Some row
+      → old ≡ Some row → (row.standing ≡ Served → ⊥) → ReceivesAt frames old new → new ≡ Some row
   fails_at frames None None row stands failed hears = stands
   fails_at frames None (Some new) row stands failed hears = absurd hears
   fails_at frames (Some old) None row stands failed hears = absurd hears
@@ -289,15 +291,15 @@ module _ {Writer : Type 0} (outflow : Writer → Outflow) where
       (λ served. failed (sym (ap (λ (one : Subscriber Writer). one.standing) same) ∙ served)) hears ∙ same)
 
   -- a message came to all subscribers
-  pub message_served : (frames : List (List ℕ)) (old new : List (Subscriber Writer)) → AllHear outflow frames old new
+  pub message_served : (frames : List (List ℕ)) (old new : List (Subscriber Writer)) → AllReceive outflow frames old new
       → ServesEvent outflow old new (Message frames) Done
   message_served frames old new hear = record {
     fits = λ events fits id. subst (λ (now : Option (Life Writer)). LivesAt outflow id (row_of id new) now)
         (sym (life_more id events (Message frames) refl))
-        (message_at id frames (row_of id old) (row_of id new) (life id events) (hears_at id frames old new hear)
+        (message_at id frames (row_of id old) (row_of id new) (life id events) (receives_at id frames old new hear)
         (fits id));
     stays = λ id row stands failed.
-        inl (fails_at frames (row_of id old) (row_of id new) row stands failed (hears_at id frames old new hear));
+        inl (fails_at frames (row_of id old) (row_of id new) row stands failed (receives_at id frames old new hear));
     starves = λ id starved.
-        inl (starves_at frames (row_of id old) (row_of id new) (hears_at id frames old new hear) starved);
+        inl (starves_at frames (row_of id old) (row_of id new) (receives_at id frames old new hear) starved);
   }

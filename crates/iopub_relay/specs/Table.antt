@@ -63,26 +63,27 @@ pub record Delivers {Writer : Type 0} (outflow : Writer → Outflow) (frames : L
   pub gets : GetsText new.standing (outflow old.writer) (outflow new.writer) (text frames)
 
 -- what a message makes of a subscriber, by how it stands and whether the message matches
-abbrev pub HearsBy : {Writer : Type 0} → (Writer → Outflow) → Standing → Bool → List (List ℕ) → Subscriber Writer
+abbrev pub ReceivesBy : {Writer : Type 0} → (Writer → Outflow) → Standing → Bool → List (List ℕ) → Subscriber Writer
     → Subscriber Writer → Type 0
-HearsBy outflow Served true frames old new = Delivers outflow frames old new
-HearsBy outflow Served false frames old new = new ≡ old
-HearsBy outflow Broken due frames old new = new ≡ old
-HearsBy outflow Starved due frames old new = new ≡ old
+ReceivesBy outflow Served true frames old new = Delivers outflow frames old new
+ReceivesBy outflow Served false frames old new = new ≡ old
+ReceivesBy outflow Broken due frames old new = new ≡ old
+ReceivesBy outflow Starved due frames old new = new ≡ old
 
 -- what a message makes of a subscriber: the text goes to whom it matches, and nothing to one that has failed
-abbrev pub Hears : {Writer : Type 0} → (Writer → Outflow) → List (List ℕ) → Subscriber Writer → Subscriber Writer
+abbrev pub Receives : {Writer : Type 0} → (Writer → Outflow) → List (List ℕ) → Subscriber Writer → Subscriber Writer
     → Type 0
-Hears outflow frames old new =
-    HearsBy outflow old.standing (matches (holding_of old.topics) frames) frames old new
+Receives outflow frames old new =
+    ReceivesBy outflow old.standing (matches (holding_of old.topics) frames) frames old new
 
 -- what a message makes of subscribers
-abbrev pub AllHear : {Writer : Type 0} → (Writer → Outflow) → List (List ℕ) → List (Subscriber Writer)
+abbrev pub AllReceive : {Writer : Type 0} → (Writer → Outflow) → List (List ℕ) → List (Subscriber Writer)
     → List (Subscriber Writer) → Type 0
-AllHear outflow frames [] [] = ⊤
-AllHear outflow frames [] (new ∷ news) = ⊥
-AllHear outflow frames (old ∷ olds) [] = ⊥
-AllHear outflow frames (old ∷ olds) (new ∷ news) = Hears outflow frames old new × AllHear outflow frames olds news
+AllReceive outflow frames [] [] = ⊤
+AllReceive outflow frames [] (new ∷ news) = ⊥
+AllReceive outflow frames (old ∷ olds) [] = ⊥
+AllReceive outflow frames (old ∷ olds) (new ∷ news) =
+    Receives outflow frames old new × AllReceive outflow frames olds news
 
 -- a subscriber is in a table where it is there, and else it isn't
 abbrev pub LivesAt : {Writer : Type 0} → (Writer → Outflow) → ℕ → Option (Subscriber Writer) → Option (Life Writer)

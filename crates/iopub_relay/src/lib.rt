@@ -13,5 +13,8 @@ mod topics;
 pub use door::door_event;
 pub use feed::feed_core;
 pub use iopub_event::Event;
-pub use laws::{life_is_since_it_came, matching_is_beginning, subscriber_of_everything};
+pub use laws::{
+    law_life_is_since_it_came, law_matching_is_beginning, law_subscriber_of_everything,
+};
 pub use relay::{Drain, Pumped, Relay};
+pub use topics::Topics;

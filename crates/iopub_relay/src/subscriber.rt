@@ -5,7 +5,7 @@ ghost use Rattle.listed.specs.Bodies.{bodies};
 ghost use Rattle.zmtp_wire.specs.Frame.{text};
 ghost use Rattle.zmtp_wire.specs.Device.{AddsAll};
 ghost use Rattle.iopub_relay.specs.Relay.{has_failed};
-ghost use Rattle.iopub_relay.specs.Table.{Hears};
+ghost use Rattle.iopub_relay.specs.Table.{Receives};
 
 use crate::topics::Topics;
 use zmtp_wire::{Outlet, WriteFailed, write_all, write_frames};
@@ -47,10 +47,10 @@ impl<W> Subscriber<W> {
 }
 
 impl<W: Outlet> Subscriber<W> {
-    /// Hears a message: it gets its text where one of its topics is a beginning of the first frame.
-    pub(crate) fn hear(&mut self, frames: &[Vec<u8>], octets: Option<&[u8]>)
+    /// Receives a message: it gets its text where one of its topics is a beginning of the first frame.
+    pub(crate) fn receive(&mut self, frames: &[Vec<u8>], octets: Option<&[u8]>)
         requires { IfSome octets (λ octets. octets.now ≡ text (bodies frames.now)) }
-        ensures { Hears W.outflow (bodies frames.now) self.old self.new }
+        ensures { Receives W.outflow (bodies frames.now) self.old self.new }
     {
         let Standing::Served = self.standing else {
             return;

@@ -5,7 +5,7 @@ ghost use Rattle.listed.specs.Bodies.{bodies};
 ghost use Rattle.zmtp_wire.specs.Frame.{text};
 ghost use Rattle.iopub_relay.specs.Relay.{is_failed};
 ghost use Rattle.iopub_relay.specs.Rows.{AreRising, IsAt, IsFree, row_of};
-ghost use Rattle.iopub_relay.specs.Table.{ServesEvent, AllHear};
+ghost use Rattle.iopub_relay.specs.Table.{ServesEvent, AllReceive};
 
 use crate::subscriber::{Standing, Subscriber};
 use crate::topics::Topics;
@@ -84,7 +84,7 @@ impl<W: Outlet + Drop> Table<W> {
             Some(octets) => Some(octets.as_slice()),
             None => None,
         };
-        hear_all(&mut self.rows, frames, octets);
+        receive_all(&mut self.rows, frames, octets);
         EventOutcome::Done
     }
 
@@ -201,14 +201,14 @@ fn text_of(alloc: Global, frames: &[Vec<u8>]) -> Option<Vec<u8>>
     Some(octets)
 }
 
-/// Has each subscriber hear a message.
-fn hear_all<W: Outlet>(rows: &mut Vec<Subscriber<W>>, frames: &[Vec<u8>], octets: Option<&[u8]>)
+/// Has each subscriber receive a message.
+fn receive_all<W: Outlet>(rows: &mut Vec<Subscriber<W>>, frames: &[Vec<u8>], octets: Option<&[u8]>)
     requires { IfSome octets (λ octets. octets.now ≡ text (bodies frames.now)) }
-    ensures { AllHear W.outflow (bodies frames.now) rows.old.items rows.new.items }
+    ensures { AllReceive W.outflow (bodies frames.now) rows.old.items rows.new.items }
 {
     for place in 0..rows.len() {
         let row = &mut rows[place];
-        row.hear(frames, octets);
+        row.receive(frames, octets);
     }
 }
 

@@ -12,7 +12,7 @@ use std::marker::Model;
 
 /// Topics, each with how often it is held.
 #[derive(Drop)]
-pub(crate) struct Topics {
+pub struct Topics {
     /// How often each is held, up to the greatest `u64`.
     counts: BTreeMap<Vec<u8>, u64>,
     /// Those that are held more often, once for each further time.
@@ -29,7 +29,7 @@ impl Model for Topics {
 
 impl Topics {
     /// No topics.
-    pub(crate) fn new(alloc: Global) -> Topics
+    pub fn new(alloc: Global) -> Topics
         ensures { (topic : List ℕ) → holding_of result topic ≡ 0 }
     {
         Topics {
@@ -43,7 +43,7 @@ impl Topics {
     /// # Errors
     ///
     /// Where memory was refused: the topics are as they were.
-    pub(crate) fn add(&mut self, topic: Octets) -> Result<(), AllocError>
+    pub fn add(&mut self, topic: Octets) -> Result<(), AllocError>
         ensures ok { OnOk result ((other : List ℕ) → holding_of self.new other
             ≡ (if bytes_eq topic other then holding_of self.old other + 1 else holding_of self.old other)) }
         ensures err { OnErr result ((other : List ℕ) → holding_of self.new other ≡ holding_of self.old other) }
@@ -59,7 +59,7 @@ impl Topics {
     }
 
     /// Holds a topic once less, where it is held.
-    pub(crate) fn take_out(&mut self, topic: &[u8])
+    pub fn take_out(&mut self, topic: &[u8])
         ensures { (other : List ℕ) → holding_of self.new other
             ≡ (if bytes_eq topic.now other then holding_of self.old other - 1 else holding_of self.old other) }
     {
@@ -69,7 +69,7 @@ impl Topics {
     }
 
     /// Whether one of them is a beginning of these octets: each beginning is searched for once.
-    pub(crate) fn begin_in(&self, octets: &[u8]) -> bool
+    pub fn begin_in(&self, octets: &[u8]) -> bool
         ensures { result ≡ begins_in (holding_of self.now) octets.now }
     {
         for len in 0..=octets.len() {
@@ -81,7 +81,7 @@ impl Topics {
     }
 
     /// Whether a topic is held.
-    fn has(&self, topic: &[u8]) -> bool
+    pub fn has(&self, topic: &[u8]) -> bool
         ensures { result ≡ nat_lt 0 (holding_of self.now topic.now) }
     {
         count_of(&self.counts, topic) > 0 || place_in(&self.further, topic).is_some()

@@ -4,11 +4,11 @@ ghost use Rattle.jkernel.specs.Session.{LinesHaveOneValue};
 
 use crate::replay::Unstopped;
 use arith_shell::ShellArith;
-use kernel_session::one_session;
+use kernel_session::law_one_session;
 
 /// The lines of an input are one text, for given courses and dates.
-pub fn one_text()
+pub fn law_one_text()
     ensures { LinesHaveOneValue }
 {
-    one_session::<ShellArith, Unstopped>();
+    law_one_session::<ShellArith, Unstopped>();
 }

@@ -19,7 +19,7 @@ use iopub_event::Event;
 use iopub_queue::ListSink;
 use jmsg_envelope::Signer;
 use kernel_engine::{Engine, EngineFault, Side, Stop};
-use kernel_session::{SessionEnd, one_session, session};
+use kernel_session::{SessionEnd, law_one_session, session};
 use std::alloc::{AllocError, Global};
 use std::io::{Read, Write};
 use zmtp_connection::{ConnectionEnd, ConnectionFault, Ending};
@@ -128,7 +128,7 @@ fn answer_octets(alloc: Global, key: Vec<u8>, octets: &[u8]) -> Result<Vec<u8>, 
     ensures { IfOk result (λ lines. PrintsAll key.items octets.now lines.items) }
 {
     // A session that ended before the last octet is that of all octets: what stands behind changes nothing.
-    one_session::<ShellArith, Unstopped>();
+    law_one_session::<ShellArith, Unstopped>();
     answer_peer(alloc, key, &mut Counted::new(octets))
 }
 

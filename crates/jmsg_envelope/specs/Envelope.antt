@@ -119,3 +119,24 @@ IsNoEnvelope key frames TooFewParts = IsTooShort frames
 IsNoEnvelope key frames BadSignature = HasBadSignature key frames
 IsNoEnvelope key frames BadHeader = HasBadHeader key frames
 IsNoEnvelope key frames OutOfMemory = ⊥
+
+-- the frames are a message that is rightly signed under a key
+abbrev pub IsSignedMessage : List ℕ → List (List ℕ) → Type 0
+IsSignedMessage key frames = (parts : Parts) × IsSplit frames parts × IsSigned key parts
+
+-- why frames have no signature and four parts after a delimiter
+abbrev pub IsUncut : List (List ℕ) → EnvelopeFault → Type 0
+IsUncut frames NoDelimiter = ¬ Contains frames delimiter
+IsUncut frames TooFewParts = IsTooShort frames
+IsUncut frames BadSignature = ⊥
+IsUncut frames BadHeader = ⊥
+IsUncut frames OutOfMemory = ⊥
+
+-- why frames are no message that is rightly signed under a key: what is refused of an envelope before its header is
+-- read
+abbrev pub IsUnsigned : List ℕ → List (List ℕ) → EnvelopeFault → Type 0
+IsUnsigned key frames NoDelimiter = IsNoEnvelope key frames NoDelimiter
+IsUnsigned key frames TooFewParts = IsNoEnvelope key frames TooFewParts
+IsUnsigned key frames BadSignature = IsNoEnvelope key frames BadSignature
+IsUnsigned key frames BadHeader = ⊥
+IsUnsigned key frames OutOfMemory = ⊥

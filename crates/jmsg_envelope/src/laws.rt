@@ -3,22 +3,22 @@
 ghost use Rattle.jmsg_envelope.specs.Laws.{OpenedOnce, RefusedIsNotOpened, RefusedOnce, SealedIsOpened};
 
 /// A law with no code: no frames are both refused and opened under one key.
-pub fn refused_is_not_opened()
+pub fn law_refused_is_not_opened()
     ensures refused_is_not_opened { RefusedIsNotOpened }
 {}
 
 /// A law with no code: frames are refused for one reason alone.
-pub fn refused_once()
+pub fn law_refused_once()
     ensures refused_once { RefusedOnce }
 {}
 
 /// A law with no code: frames are opened as one envelope alone.
-pub fn opened_once()
+pub fn law_opened_once()
     ensures opened_once { OpenedOnce }
 {}
 
 /// A law with no code: what is sealed behind identities, with a header that names an id and a type,
 /// is opened again under the same key.
-pub fn sealed_is_opened()
+pub fn law_sealed_is_opened()
     ensures sealed_is_opened { SealedIsOpened }
 {}

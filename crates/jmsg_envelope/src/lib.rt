@@ -21,9 +21,11 @@ pub use envelope::Envelope;
 pub use fault::EnvelopeFault;
 pub use header::header_text;
 pub use hmac::hmac_sha256;
-pub use laws::{opened_once, refused_is_not_opened, refused_once, sealed_is_opened};
+pub use laws::{
+    law_opened_once, law_refused_is_not_opened, law_refused_once, law_sealed_is_opened,
+};
 pub use message_parts::MessageParts;
-pub use opening::open_envelope;
+pub use opening::{check_signature, open_envelope};
 pub use sealing::seal;
 pub use signer::Signer;
 pub use stamp::Stamp;

@@ -2,12 +2,13 @@
 
 ghost use Rattle.std.specs.Prelude.{◌≡◌, ◌⊎◌, ◌↔◌, IfOk, IfErr, IsTrue, IsFalse};
 ghost use Rattle.listed.specs.Bodies.{bodies};
-ghost use Rattle.jmsg_envelope.specs.Envelope.{IsMissigned, IsNoEnvelope, IsSigned, Opened, lower_case};
-ghost use Rattle.jmsg_envelope.specs.Split.{parts_of};
+ghost use Rattle.jmsg_envelope.specs.Envelope.{IsMissigned, IsNoEnvelope, IsSigned, IsSignedMessage, IsUnsigned};
+ghost use Rattle.jmsg_envelope.specs.Envelope.{Opened, lower_case};
+ghost use Rattle.jmsg_envelope.specs.Split.{signed_parts_of};
 
 use crate::envelope::Envelope;
 use crate::header::read_names;
-use crate::split::{Split, cut_frames};
+use crate::split::{Signed, cut_frames, signed_of};
 use crate::{EnvelopeFault, Signer};
 use listed::{Frames, Octets};
 use std::alloc::Global;
@@ -29,7 +30,7 @@ pub fn open_envelope(
         ⊎ IsNoEnvelope signer.now (bodies frames.items) fault) }
 {
     let split = cut_frames(frames)?;
-    if !is_signed(signer, &split) {
+    if !is_signed(signer, split.signed()) {
         return Err(EnvelopeFault::BadSignature);
     }
     let (msg_id, msg_type) = read_names(alloc, &split.header)?;
@@ -45,21 +46,39 @@ pub fn open_envelope(
     })
 }
 
+/// Looks whether frames are a message that is rightly signed under the key, as `open_envelope` does, and nothing else
+/// of them. They stay as they are, and no memory is taken.
+///
+/// # Errors
+///
+/// In this order: `NoDelimiter`, `TooFewParts`, `BadSignature`, exactly if `open_envelope` refuses the frames so.
+pub fn check_signature(signer: &Signer, frames: &[Vec<u8>]) -> Result<(), EnvelopeFault>
+    ensures signed { IfOk result (λ _. IsSignedMessage signer.now (bodies frames.now)) }
+    ensures refused { IfErr result (IsUnsigned signer.now (bodies frames.now)) }
+{
+    let signed = signed_of(frames)?;
+    if is_signed(signer, signed) {
+        Ok(())
+    } else {
+        Err(EnvelopeFault::BadSignature)
+    }
+}
+
 /// Whether the signature is that of the parts; under an empty key every one is.
-fn is_signed(signer: &Signer, split: &Split) -> bool
-    ensures right { IsTrue result → IsSigned signer.now (parts_of split.now) }
-    ensures wrong { IsFalse result → IsMissigned signer.now (parts_of split.now) }
+fn is_signed(signer: &Signer, signed: Signed<'_>) -> bool
+    ensures right { IsTrue result → IsSigned signer.now (signed_parts_of signed.entry) }
+    ensures wrong { IsFalse result → IsMissigned signer.now (signed_parts_of signed.entry) }
 {
     if signer.is_keyless() {
         return true;
     }
     let digits = signer.digits_of(
-        &split.header,
-        &split.parent,
-        &split.metadata,
-        &split.content,
+        signed.header,
+        signed.parent,
+        signed.metadata,
+        signed.content,
     );
-    are_same_digits(&split.signature, &digits)
+    are_same_digits(signed.signature, &digits)
 }
 
 /// Whether two rows of hex digits are the same, in upper case or lower.

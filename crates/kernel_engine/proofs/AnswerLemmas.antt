@@ -1,5 +1,5 @@
 -- What a request leaves that was answered, and how far it counts.
-use Rattle.std.proofs.Common.{arith, ◌≡◌, inl, ℕ, ◌+◌, ◌≤◌, List, [], Bool, true, false, Option, Result, Ok, Err}
+use Rattle.std.proofs.Common.{arith, ◌≡◌, inl, ℕ, ◌+◌, ◌≤◌, List, [], Bool, true, false, Ok, Err}
 use Rattle.std.proofs.Common.{sym, ap}
 use Rattle.std.proofs.lemmas.List.{append-nil}
 use Rattle.interp_core.specs.Interpreter.{Meaning}

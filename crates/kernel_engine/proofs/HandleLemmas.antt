@@ -1,14 +1,11 @@
 -- A request that is handled, step by step: the idle that is owed, busy, what is published of it, and its idle.
 use Rattle.std.proofs.Common.{arith, ◌≡◌, ◌⊎◌, inl, inr, ℕ, ◌+◌, ◌≤◌, ◌^◌, List, [], ◌∷◌, ◌++◌, length, map, Bool}
-use Rattle.std.proofs.Common.{true, false, Option, Some, None, Result, Ok, Err, OnOk, MatchResult, refl, sym, ◌∙◌, ap, subst}
-use Rattle.std.proofs.Common.{append_assoc}
+use Rattle.std.proofs.Common.{true, false, Option, Some, None, Result, Ok, Err, OnOk, MatchResult, refl, sym, ◌∙◌}
+use Rattle.std.proofs.Common.{ap, append_assoc, subst}
 use Rattle.std.proofs.lemmas.List.{append-nil, map-append}
-use Rattle.interp_core.specs.Interpreter.{Meaning}
-use Rattle.iopub_event.specs.declared.event.Event.{Event}
 use Rattle.iopub_event.specs.declared.event.Event.TheVariants as events
-use Rattle.jmsg_envelope.specs.Stamp.{StampMeaning, Stamping}
+use Rattle.jmsg_envelope.specs.Stamp.{StampMeaning}
 use Rattle.jmsg_envelope.specs.declared.envelope.Envelope.{Envelope}
-use Rattle.iopub_queue.specs.Sink.{Sink}
 use Rattle.jmsg_types.specs.declared.publication.Publication.{Publication}
 use Rattle.kernel_engine.specs.declared.does.Does.{Does}
 use Rattle.kernel_engine.specs.declared.fault.EngineFault.{EngineFault}

@@ -9,8 +9,6 @@ use Rattle.iopub_event.specs.declared.event.Event.{Event}
 use Rattle.iopub_event.specs.declared.event.Event.TheVariants as events
 use Rattle.jmsg_envelope.specs.declared.envelope.Envelope.{Envelope}
 use Rattle.interp_core.specs.declared.fault.InterpFault.TheVariants.{OutOfMemory}
-use Rattle.iopub_queue.specs.Sink.{Sink}
-use Rattle.jmsg_envelope.specs.Stamp.{Stamping}
 use Rattle.jmsg_types.specs.declared.publication.Publication.{Publication}
 use Rattle.jmsg_types.specs.declared.publication.Publication.TheVariants.{ExecuteInput}
 use Rattle.kernel_engine.specs.declared.does.Does.{Does}

@@ -1,5 +1,4 @@
 -- A message that was opened, and whose request was handled or refused, was taken.
-use Rattle.std.proofs.Common.{ℕ, List}
 use Rattle.jmsg_envelope.specs.Envelope.{Opened}
 use Rattle.kernel_engine.specs.declared.asked.Asked.{Asked}
 use Rattle.kernel_engine.specs.declared.asked.Done.{Done}

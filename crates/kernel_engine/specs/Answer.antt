@@ -1,6 +1,6 @@
 -- What a request is answered ('Messaging in Jupyter' 5.3, "Messages on the shell (ROUTER/DEALER) channel" and "Messages
 -- on the control (ROUTER/DEALER) channel"): its reply, and what it leaves.
-use Rattle.std.specs.Prelude.{◌≡◌, ◌⊎◌, ℕ, List, [], ◌∷◌, ◌++◌, Bool, true, false, if◌then◌else◌}
+use Rattle.std.specs.Prelude.{◌≡◌, ◌⊎◌, ℕ, List, [], ◌∷◌, ◌++◌}
 use Rattle.std.specs.Prelude.{Option, Some, None, Result, Ok, Err}
 use Rattle.interp_core.specs.Interpreter.{Meaning}
 use Rattle.interp_core.specs.Fault.{fault_name, fault_value}

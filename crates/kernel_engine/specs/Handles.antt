@@ -1,13 +1,11 @@
 -- What an engine does with one request: what is published of it, what is owed, what it is replied, and what the engine
 -- is then.
-use Rattle.std.specs.Prelude.{◌≡◌, ◌≢◌, ◌⊎◌, ℕ, ◌+◌, ◌<◌, ◌≤◌, ◌^◌, List, [], ◌∷◌, ◌++◌, map, Bool, true, false}
+use Rattle.std.specs.Prelude.{◌≡◌, ◌≢◌, ◌⊎◌, ℕ, ◌+◌, ◌<◌, ◌≤◌, ◌^◌, List, [], ◌∷◌, ◌++◌, map, true, false}
 use Rattle.std.specs.Prelude.{Option, Some, None}
-use Rattle.interp_core.specs.Interpreter.{Meaning}
 use Rattle.iopub_event.specs.declared.event.Event.{Event}
 use Rattle.iopub_event.specs.declared.event.Event.TheVariants as events
 use Rattle.jmsg_envelope.specs.declared.envelope.Envelope.{Envelope}
 use Rattle.iopub_queue.specs.Sink.{Sink}
-use Rattle.jmsg_envelope.specs.Stamp.{Stamping}
 use Rattle.jmsg_types.specs.declared.publication.Publication.{Publication}
 use Rattle.jmsg_types.specs.declared.reply.Reply.{Reply}
 use Rattle.kernel_engine.specs.declared.does.Does.{Does}

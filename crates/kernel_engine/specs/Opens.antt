@@ -1,5 +1,5 @@
 -- The ends of a block: it is opened by busy, with a new date, and its reply is made behind what it published.
-use Rattle.std.specs.Prelude.{◌≡◌, ℕ, ◌+◌, List, [], ◌∷◌, ◌++◌, Bool, true, Option, Some, None}
+use Rattle.std.specs.Prelude.{◌≡◌, ℕ, ◌+◌, List, [], ◌∷◌, ◌++◌, true, Option, Some, None}
 use Rattle.iopub_event.specs.declared.event.Event.{Event}
 use Rattle.iopub_queue.specs.Sink.{Sink}
 use Rattle.jmsg_envelope.specs.Stamp.{Stamping}

@@ -1,7 +1,5 @@
 -- What an order says of the end of the kernel.
 use Rattle.std.specs.Prelude.{Bool, true, false, Option, Some, None}
-use Rattle.kernel_engine.specs.declared.asked.Done.{Done}
-use Rattle.kernel_engine.specs.declared.asked.Done.TheVariants as came
 use Rattle.kernel_engine.specs.declared.does.Does.{Does}
 use Rattle.kernel_engine.specs.declared.does.Does.TheVariants.{Says, Looks, Runs, Refuses, Unread}
 use Rattle.kernel_engine.specs.declared.does.Order.{Order}
@@ -49,10 +47,3 @@ handled_of response = record {
   restart = is_restart response.order;
   interrupt = is_interrupt response.order;
 }
-
--- whether the cell that runs is to be interrupted, by what came of a message
-abbrev pub interrupted : Done → Bool
-interrupted came.Ignored = false
-interrupted came.Lost = false
-interrupted (came.Handled handled) = is_interrupt handled.order
-interrupted (came.Refused fault) = false

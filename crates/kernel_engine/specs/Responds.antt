@@ -1,5 +1,5 @@
 -- A request that is answered and published, by how far its publications got.
-use Rattle.std.specs.Prelude.{◌≡◌, ◌⊎◌, ℕ, List, [], ◌++◌, Bool, Option, Some, Result}
+use Rattle.std.specs.Prelude.{◌≡◌, ◌⊎◌, ℕ, List, [], ◌++◌, Bool, Some}
 use Rattle.interp_core.specs.Interpreter.{Meaning}
 use Rattle.jmsg_types.specs.declared.publication.Publication.{Publication}
 use Rattle.jmsg_types.specs.declared.reply.Reply.{Reply}

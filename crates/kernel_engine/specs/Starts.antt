@@ -1,5 +1,5 @@
 -- How an engine begins and ends.
-use Rattle.std.specs.Prelude.{◌≡◌, ◌≢◌, ◌⊎◌, ℕ, List, [], Bool, Option}
+use Rattle.std.specs.Prelude.{◌≡◌, ◌≢◌, ◌⊎◌, []}
 use Rattle.iopub_event.specs.declared.event.Event.{Event}
 use Rattle.iopub_queue.specs.Sink.{Sink}
 use Rattle.jmsg_envelope.specs.Stamp.{Stamping}

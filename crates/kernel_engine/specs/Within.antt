@@ -1,9 +1,4 @@
 -- What an engine and its end hold: their parts, and what these keep.
-use Rattle.std.specs.Prelude.{ℕ, List, Bool, Option}
-use Rattle.interp_core.specs.Interpreter.{Meaning}
-use Rattle.iopub_event.specs.declared.event.Event.{Event}
-use Rattle.iopub_queue.specs.Sink.{Sink}
-use Rattle.jmsg_envelope.specs.Stamp.{Stamping}
 use Rattle.kernel_engine.specs.declared.engine.Engine.TheInside as engine
 use Rattle.kernel_engine.specs.declared.engine_end.EngineEnd.TheInside as end
 use Rattle.kernel_engine.specs.declared.parts.Parts.{Parts}

@@ -135,7 +135,7 @@ where
         requires { IsRead asked.does (message_comes self.old.side asked.request) }
         ensures { Finishes (world_of I.meaning P.sink S.stamp) (T.may_ask stop.now) asked self.old result self.new }
     {
-        match self.parts.finish(alloc, asked.request, asked.does, stop) {
+        match self.parts.finish(alloc, asked, stop) {
             Ok(response) => Done::Handled(response),
             Err(fault) => Done::Refused(fault),
         }
@@ -160,7 +160,7 @@ where
             (λ fault. HandlesErr world may request self.old fault self.new) }
     {
         let does = self.parts.read(alloc, &request);
-        match self.parts.finish(alloc, request, does, stop) {
+        match self.parts.finish(alloc, Asked { request, does }, stop) {
             Ok(response) => Ok(Handled::of(response)),
             Err(fault) => Err(fault),
         }

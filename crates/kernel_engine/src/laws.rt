@@ -7,7 +7,7 @@ use interp_core::Interpreter;
 
 /// A law with no code: by one course, what is published of a request has one value at most, and so has what it is
 /// answered.
-pub fn one_course<I: Interpreter>()
+pub fn law_one_course<I: Interpreter>()
     ensures published { PublishesOnce I.meaning }
     ensures answered { AnswersOnce I.meaning }
 {}

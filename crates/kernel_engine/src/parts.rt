@@ -8,9 +8,11 @@ ghost use Rattle.kernel_engine.specs.Handles.{HandlesOk, LeavesOpen, Pays, PaysN
 ghost use Rattle.kernel_engine.specs.Starts.{StartsFirst, StartsLater, StartsRefused};
 ghost use Rattle.kernel_engine.specs.World.{world_of};
 
+use crate::asked::Asked;
 use crate::does::Does;
 use crate::fault::EngineFault;
 use crate::open_block::OpenBlock;
+use crate::pending::Pending;
 use crate::publishing::Publishing;
 use crate::respond::read_does;
 use crate::response::Response;
@@ -21,7 +23,6 @@ use iopub_event::Event;
 use iopub_queue::Publish;
 use jmsg_envelope::{Envelope, Stamp};
 use jmsg_types::MessageType;
-use listed::{Frames, Octets, Text};
 use std::alloc::{AllocError, Global};
 
 /// The greatest next number with which a request is begun: then 2^62 ids were not given yet.
@@ -64,11 +65,17 @@ where
     }
 
     /// Publishes the idle of a block, or owes it.
-    fn close_block(&mut self, idle: Frames)
+    fn close_block(&mut self, block: OpenBlock)
         requires { self.old.owed ≡ None }
-        ensures { Closes P.sink idle self.old self.new
-            ⊎ LeavesOpen P.sink idle self.old self.new }
+        ensures { Closes P.sink block.idle self.old self.new
+            ⊎ LeavesOpen P.sink block.idle self.old self.new }
     {
+        let OpenBlock {
+            heading,
+            idle,
+            silent: _,
+        } = block;
+        drop(heading);
         if let Err(returned) = self.publishing.sink.publish(Event::Message(idle)) {
             self.owed = Some(returned.item);
         }
@@ -84,19 +91,23 @@ where
         &mut self,
         alloc: Global,
         block: &OpenBlock,
-        identities: Frames,
-        msg_type: Text,
-        does: Does,
+        pending: Pending,
         stop: &T,
     ) -> Result<Response, EngineFault>
         requires few { self.old.count < 2 ^ 63 }
-        requires silent { block.now.silent ≡ is_silent does }
+        requires silent { block.now.silent ≡ is_silent pending.does }
         ensures { let world = world_of I.meaning P.sink S.stamp in
             let may = T.may_ask stop.now in
             MatchResult result
-            (λ handled. AnswersInBlock world may block.now.heading identities msg_type does self.old handled self.new)
-            (λ fault. (fault ≡ Memory) × AnswersNot world may block.now.heading does self.old self.new) }
+            (λ handled. AnswersInBlock world may block.now.heading pending.identities pending.msg_type pending.does
+            self.old handled self.new)
+            (λ fault. (fault ≡ Memory) × AnswersNot world may block.now.heading pending.does self.old self.new) }
     {
+        let Pending {
+            identities,
+            msg_type,
+            does,
+        } = pending;
         let Ok(answered) = self.respond(alloc, block, stop, does) else {
             drop(msg_type);
             drop(identities);
@@ -156,66 +167,34 @@ where
     pub fn finish<T: Stop>(
         &mut self,
         alloc: Global,
-        request: Envelope,
-        does: Does,
+        asked: Asked,
         stop: &T,
     ) -> Result<Response, EngineFault>
-        requires read { IsRead does (message_comes self.old.side request) }
+        requires read { IsRead asked.does (message_comes self.old.side asked.request) }
         requires few { self.old.count ≤ self.old.publishing.next }
         ensures handled { let world = world_of I.meaning P.sink S.stamp in
             let may = T.may_ask stop.now in
             MatchResult result
-            (λ handled. HandlesOk world may request self.old handled self.new)
-            (λ fault. HandlesErr world may request self.old fault self.new) }
+            (λ handled. HandlesOk world may asked.request self.old handled self.new)
+            (λ fault. HandlesErr world may asked.request self.old fault self.new) }
         ensures counted { self.new.count ≤ self.new.publishing.next }
-        ensures read { OnOk result (does ≡ message_comes self.old.side request) }
+        ensures read { OnOk result (asked.does ≡ message_comes self.old.side asked.request) }
     {
         if self.publishing.next > LAST_BEGIN {
-            drop(does);
-            drop(request);
+            drop(asked);
             return Err(EngineFault::Worn);
         }
         if !self.pay() {
-            drop(does);
-            return Err(EngineFault::OwedIdle(request));
+            return Err(EngineFault::OwedIdle(asked.into_request()));
         }
-        let (identities, header, msg_type) = needed(request);
-        let Ok(block) = self.publishing.open(alloc, header, does.is_silent()) else {
-            drop(does);
-            drop(msg_type);
-            drop(identities);
+        let (header, pending) = asked.into_pending();
+        let silent = pending.does.is_silent();
+        let Ok(block) = self.publishing.open(alloc, header, silent) else {
+            drop(pending);
             return Err(EngineFault::Memory);
         };
-        let handled = self.answer(alloc, &block, identities, msg_type, does, stop);
-        let OpenBlock {
-            heading,
-            idle,
-            silent: _,
-        } = block;
-        drop(heading);
-        self.close_block(idle);
+        let handled = self.answer(alloc, &block, pending, stop);
+        self.close_block(block);
         handled
     }
-}
-
-/// What is needed of a request: its identities, its header and its type.
-fn needed(request: Envelope) -> (Frames, Octets, Text)
-    ensures { (result.0 ≡ request.identities) × (result.1 ≡ request.header) × (result.2 ≡ request.msg_type) }
-{
-    let Envelope {
-        identities,
-        header,
-        msg_id,
-        msg_type,
-        parent,
-        metadata,
-        content,
-        buffers,
-    } = request;
-    drop(msg_id);
-    drop(parent);
-    drop(metadata);
-    drop(content);
-    drop(buffers);
-    (identities, header, msg_type)
 }

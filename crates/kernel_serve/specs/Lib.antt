@@ -1,2 +1,3 @@
+pub mod Backlog
 pub mod Dates
 pub mod Serving

@@ -1,6 +1,9 @@
 //! Accepting the connections of a port, each of which is served in a thread of its own.
 
 use crate::gate::Gate;
+use crate::guest::Guest;
+use crate::reader::Gauge;
+use crate::server::Server;
 use crate::service::Service;
 use crate::socket::Socket;
 use std::alloc::{AllocError, Global};
@@ -22,20 +25,30 @@ struct Serving {
     thread: JoinHandle<()>,
 }
 
+/// A port that is served.
+#[derive(Drop)]
+pub(crate) struct Served<R: Wait + Clock + Drop> {
+    /// What its peers are served with.
+    pub(crate) service: Service<R>,
+    /// What its threads share.
+    pub(crate) gate: Arc<Gate, Global>,
+    /// What all share.
+    pub(crate) server: Arc<Server, Global>,
+}
+
 /// Accepts the connections of a port, until it is to end, and serves each in a thread of its own. Then ends what they
 /// read, and joins them all.
-pub(crate) fn accept_all<R>(
-    rt: R,
-    alloc: Global,
-    listener: TcpListener,
-    service: Service<R>,
-    gate: Arc<Gate, Global>,
-)
+pub(crate) fn accept_all<R>(rt: R, alloc: Global, listener: TcpListener, port: Served<R>)
 where
     R: Threads + Wait + Clock + Copy + Send + Sync + Drop + 'static,
 {
     let mut threads = Vec::new(alloc);
-    admit_all(rt, alloc, &listener, &service, &gate, &mut threads);
+    admit_all(rt, alloc, &listener, &port, &mut threads);
+    let Served {
+        service,
+        gate,
+        server,
+    } = port;
     gate.close();
     // Nobody may hold an inbox while it is waited for those who reply.
     drop(service);
@@ -44,6 +57,7 @@ where
         serving.thread.join(&rt);
     }
     drop(gate);
+    drop(server);
     drop(listener);
 }
 
@@ -52,8 +66,7 @@ fn admit_all<R>(
     rt: R,
     alloc: Global,
     listener: &TcpListener,
-    service: &Service<R>,
-    gate: &Arc<Gate, Global>,
+    port: &Served<R>,
     threads: &mut Vec<Serving>,
 )
 where
@@ -62,15 +75,15 @@ where
     let mut id = 0u64;
     for _ in rt.forever() {
         let accepted = accept(listener);
-        if gate.is_ending() {
+        if port.gate.is_ending() {
             drop(accepted);
             return;
         }
-        join_ended(&rt, gate, threads);
+        join_ended(&rt, &port.gate, threads);
         match next_of(accepted, id) {
             Some((stream, next)) => {
                 id = next;
-                admit(rt, alloc, service, gate, id, stream, threads);
+                admit(rt, alloc, port, id, stream, threads);
             }
             None => thread::sleep(&rt, Duration::from_millis(PAUSE)),
         }
@@ -101,123 +114,142 @@ fn next_of(accepted: Option<TcpStream>, id: u64) -> Option<(TcpStream, u64)> {
     }
 }
 
-/// Serves a connection in a thread of its own, where there is a place for it, and memory and a thread; else it is
-/// closed.
+/// Serves a connection in a thread of its own, if there is a place for it, and memory and a thread; else it is closed.
 fn admit<R>(
     rt: R,
     alloc: Global,
-    service: &Service<R>,
-    gate: &Arc<Gate, Global>,
+    port: &Served<R>,
     id: u64,
     stream: TcpStream,
     threads: &mut Vec<Serving>,
 )
 where
-    R: Threads + Wait + Copy + Send + Sync + Drop + 'static,
+    R: Threads + Wait + Clock + Copy + Send + Sync + Drop + 'static,
 {
     let Ok(()) = threads.reserve(1) else {
         drop(stream);
         return;
     };
-    let Some((guest, kept)) = welcome(alloc, service, gate, stream) else {
+    let Some((guest, service)) = enter(&rt, alloc, port, id, stream) else {
         return;
     };
-    let Ok(true) = gate.enter(&rt, id, kept) else {
-        drop(guest);
-        return;
-    };
-    match thread::spawn(&rt, move || guest.serve(rt, alloc, id)) {
+    match thread::spawn(&rt, move || serve(rt, alloc, guest, service)) {
         Ok(thread) => threads.push_reserved(Serving { id, thread }),
         Err(error) => {
             drop(error);
-            gate.leave(&rt, id);
+            port.gate.leave(&rt, id);
         }
     }
 }
 
-/// What the thread of a connection owns.
-#[derive(Drop)]
-struct Guest<R: Wait + Drop> {
-    /// What its peer is served with.
-    service: Service<R>,
-    /// What the threads round the port share.
-    gate: Arc<Gate, Global>,
-    /// The socket, to read from.
-    reader: Socket,
-    /// The socket, to write to.
-    writer: Socket,
+/// A connection that has got a place, and what it is served with. None if there is no place for it or no memory is
+/// left; the connection is closed then.
+fn enter<R: Wait + Clock + Drop>(
+    rt: &R,
+    alloc: Global,
+    port: &Served<R>,
+    id: u64,
+    stream: TcpStream,
+) -> Option<(Guest, Service<R>)> {
+    let (guest, service, kept) = welcome(rt, alloc, port, id, stream)?;
+    match port.gate.enter(rt, id, kept) {
+        Ok(true) => Some((guest, service)),
+        Ok(false) | Err(AllocError) => {
+            drop(guest);
+            drop(service);
+            None
+        }
+    }
 }
 
-impl<R: Threads + Wait + Copy + Send + Sync + Drop + 'static> Guest<R> {
-    /// Serves the peer of the connection until that ends, and takes it out of those that are open.
-    fn serve(self, rt: R, alloc: Global, id: u64) {
-        let Guest {
-            service,
-            gate,
-            reader,
-            writer,
-        } = self;
-        service.serve(rt, alloc, id, reader, writer);
-        gate.leave(&rt, id);
-        drop(gate);
-    }
+/// Serves the peer of a connection until that ends, and takes it out of those that are open.
+fn serve<R>(rt: R, alloc: Global, guest: Guest, service: Service<R>)
+where
+    R: Threads + Wait + Clock + Copy + Send + Sync + Drop + 'static,
+{
+    service.serve(rt, alloc, &guest);
+    guest.gate.leave(&rt, guest.id);
+    drop(guest);
 }
 
 /// What the thread of a connection is to own, and its socket once more. None where the socket refuses what is set, or
 /// no memory is left; the connection is closed then.
-fn welcome<R: Wait + Drop>(
+fn welcome<R: Wait + Clock + Drop>(
+    rt: &R,
     alloc: Global,
-    service: &Service<R>,
-    gate: &Arc<Gate, Global>,
+    port: &Served<R>,
+    id: u64,
     stream: TcpStream,
-) -> Option<(Guest<R>, Socket)> {
-    let (reader, writer, kept) = sockets(alloc, stream)?;
-    match shares(service, gate) {
-        Some((service, gate)) => {
-            let guest = Guest {
-                service,
-                gate,
-                reader,
-                writer,
-            };
-            Some((guest, kept))
-        }
-        None => {
-            drop(reader);
-            drop(writer);
-            drop(kept);
-            None
-        }
-    }
-}
-
-/// The socket of a connection, three times. None where it refuses what is set, or no memory is left.
-fn sockets(alloc: Global, stream: TcpStream) -> Option<(Socket, Socket, Socket)> {
-    let writer = Socket::new(alloc, stream).ok()?;
-    let Ok(reader) = writer.try_clone() else {
-        drop(writer);
+) -> Option<(Guest, Service<R>, Socket)> {
+    let (socket, kept) = sockets(alloc, stream)?;
+    let Some((guest, service)) = guest_of(rt, alloc, port, id, socket) else {
+        drop(kept);
         return None;
     };
-    match writer.try_clone() {
-        Ok(kept) => Some((reader, writer, kept)),
-        Err(AllocError) => {
-            drop(reader);
-            drop(writer);
-            None
-        }
-    }
+    Some((guest, service, kept))
 }
 
-/// What peers are served with and what threads share, once more. None where it has too many owners.
-fn shares<R: Wait + Drop>(
-    service: &Service<R>,
-    gate: &Arc<Gate, Global>,
-) -> Option<(Service<R>, Arc<Gate, Global>)> {
-    let service = service.try_clone().ok()?;
-    match Arc::try_clone(gate) {
-        Ok(gate) => Some((service, gate)),
+/// A connection as those see it who serve it, and what it is served with. None where no memory is left.
+fn guest_of<R: Wait + Clock + Drop>(
+    rt: &R,
+    alloc: Global,
+    port: &Served<R>,
+    id: u64,
+    socket: Socket,
+) -> Option<(Guest, Service<R>)> {
+    let Some((service, gate, server, gauge)) = shares(rt, alloc, port) else {
+        drop(socket);
+        return None;
+    };
+    let guest = Guest {
+        id,
+        gate,
+        server,
+        gauge,
+        socket,
+    };
+    Some((guest, service))
+}
+
+/// What is shared with the threads of a port, once more, and a gauge of a new connection.
+type Shares<R> = (
+    Service<R>,
+    Arc<Gate, Global>,
+    Arc<Server, Global>,
+    Arc<Gauge, Global>,
+);
+
+/// What is shared with the threads of a port, once more, and a gauge. None where no memory is left.
+fn shares<R: Wait + Clock + Drop>(rt: &R, alloc: Global, port: &Served<R>) -> Option<Shares<R>> {
+    let gauge = gauge_of(rt, alloc, &port.server)?;
+    let (Ok(service), Ok(gate), Ok(server)) = (
+        port.service.try_clone(),
+        Arc::try_clone(&port.gate),
+        Arc::try_clone(&port.server),
+    ) else {
+        drop(gauge);
+        return None;
+    };
+    Some((service, gate, server, gauge))
+}
+
+/// A gauge of a new connection. None where no memory is left.
+fn gauge_of<R: Clock>(
+    rt: &R,
+    alloc: Global,
+    server: &Arc<Server, Global>,
+) -> Option<Arc<Gauge, Global>> {
+    let server = Arc::try_clone(server).ok()?;
+    Arc::new(alloc, Gauge::new(rt, server)).ok()
+}
+
+/// The socket of a connection, twice. None where it refuses what is set, or no memory is left.
+fn sockets(alloc: Global, stream: TcpStream) -> Option<(Socket, Socket)> {
+    let socket = Socket::new(alloc, stream).ok()?;
+    match socket.try_clone() {
+        Ok(kept) => Some((socket, kept)),
         Err(AllocError) => {
-            drop(service);
+            drop(socket);
             None
         }
     }

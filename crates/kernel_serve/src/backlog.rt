@@ -1,45 +1,97 @@
 //! What a subscriber has yet to be written. The relay puts it there, and a thread of the subscriber's own writes it, so
-//! that nobody waits for one that doesn't read, unless too much is kept for it.
+//! that nobody waits for one that reads slowly, unless its share is full.
 
 ghost use Rattle.std.specs.Prelude.{◌<◌, ◌≤◌, length, IfSome};
 ghost use Rattle.std.specs.Io.{WritesAtMost};
+ghost use Rattle.kernel_serve.specs.Backlog.{IsTried};
 
+use crate::server::Server;
 use crate::socket::Socket;
-use std::alloc::Global;
-use std::collections::VecDeque;
+use kernel_limits::limits::REPLY_MILLIS;
+use kernel_limits::{Kept, Pace, share_of, waits_on};
+use std::alloc::{AllocError, Global};
 use std::io::{self, ErrorKind};
-use std::sync::{Condvar, Mutex, Wait};
+use std::sync::{Arc, Condvar, Mutex, Wait};
+use std::time::{Clock, Duration};
 
-/// How many octets may be kept for a subscriber, beside those that its thread is writing.
-const MOST: usize = 4 << 20;
+/// For how many milliseconds the relay waits for a subscriber before it looks at its pace again.
+const LOOK: u64 = 50;
 
-/// From how many octets on that are kept a subscriber that takes nothing is given up. It is half of the most, so that
-/// several for whom nearly the same is kept are given up together.
-const MUCH: usize = MOST / 2;
-
-/// How many octets its thread takes at a time, at most.
-const CHUNK: usize = 1 << 16;
-
-/// What is kept for a subscriber.
+/// What is kept for a subscriber, and how it stands.
 #[derive(Drop)]
-struct Kept {
-    /// The octets that its thread hasn't taken yet, in chunks.
-    chunks: VecDeque<Vec<u8>>,
-    /// How many octets these are.
-    len: usize,
+struct State {
+    /// The octets that its thread hasn't taken yet.
+    kept: Kept,
+    /// What it took.
+    pace: Pace,
     /// Whether none come any more.
     has_ended: bool,
     /// Whether a write failed, or memory was refused. Nothing is kept any more then, and no further write begun.
     has_failed: bool,
 }
 
-impl Kept {
+impl State {
+    /// Keeps the first octets of a piece. If the share is full, the subscriber is waited for if it keeps the least
+    /// pace.
+    fn try_to_put(&mut self, alloc: Global, piece: &[u8], terms: Terms) -> Tried
+        ensures { IsTried (length piece.now) result }
+    {
+        if self.has_failed {
+            return Tried::Failed;
+        }
+        if self.kept.len() < terms.share {
+            return self.keep(alloc, piece, terms);
+        }
+        if terms.waits && !self.pace.is_slow(terms.now) {
+            return Tried::Waits;
+        }
+        self.fail(alloc);
+        Tried::Failed
+    }
+
+    /// Keeps the first octets of a piece, for which there is room.
+    fn keep(&mut self, alloc: Global, piece: &[u8], terms: Terms) -> Tried
+        ensures { IsTried (length piece.now) result }
+    {
+        if self.kept.is_empty() {
+            self.pace = Pace::begin(terms.now);
+        }
+        match self.kept.put(piece, terms.share) {
+            Ok(count) => Tried::Kept(count),
+            Err(AllocError) => {
+                self.fail(alloc);
+                Tried::Failed
+            }
+        }
+    }
+
     /// Drops what is kept. Nothing is kept any more.
     fn fail(&mut self, alloc: Global) {
         self.has_failed = true;
-        self.chunks = VecDeque::new(alloc);
-        self.len = 0;
+        self.kept = Kept::new(alloc);
     }
+}
+
+/// On what terms a piece is kept.
+#[derive(Clone, Copy)]
+struct Terms {
+    /// How many octets may be kept.
+    share: usize,
+    /// Whether the relay waits for slow subscribers.
+    waits: bool,
+    /// The time, in milliseconds.
+    now: u64,
+}
+
+/// What became of a piece.
+#[derive(Clone, Copy)]
+enum Tried {
+    /// So many of its first octets are kept.
+    Kept(usize),
+    /// The share is full, and the subscriber is waited for.
+    Waits,
+    /// The subscriber has failed.
+    Failed,
 }
 
 /// What a subscriber has yet to be written.
@@ -47,20 +99,23 @@ impl Kept {
 pub(crate) struct Backlog {
     /// Where octets take their memory.
     alloc: Global,
+    /// What all share.
+    server: Arc<Server, Global>,
     /// What is kept.
-    kept: Mutex<Kept>,
+    state: Mutex<State>,
     /// Tells both threads that what is kept has changed.
     changed: Condvar,
 }
 
 impl Backlog {
     /// The backlog of a subscriber for whom nothing has come yet.
-    pub(crate) fn new(alloc: Global) -> Backlog {
+    pub(crate) fn new(alloc: Global, server: Arc<Server, Global>) -> Backlog {
         Backlog {
             alloc,
-            kept: Mutex::new(Kept {
-                chunks: VecDeque::new(alloc),
-                len: 0,
+            server,
+            state: Mutex::new(State {
+                kept: Kept::new(alloc),
+                pace: Pace::begin(0),
                 has_ended: false,
                 has_failed: false,
             }),
@@ -68,37 +123,58 @@ impl Backlog {
         }
     }
 
-    /// Keeps the first octets of a piece, and answers how many. While as many are kept as may be, it waits.
+    /// Keeps the first octets of a piece, and answers how many. While the subscriber's share is full, it waits, as long
+    /// as the subscriber keeps the least pace.
     ///
     /// # Errors
     ///
-    /// Where a write failed, or memory is refused, now or before.
-    pub(crate) fn put<R: Wait>(&self, rt: &R, piece: &[u8]) -> io::Result<usize>
+    /// Where the subscriber was too slow, a write failed, or memory is refused, now or before.
+    pub(crate) fn put<R: Wait + Clock>(&self, rt: &R, piece: &[u8]) -> io::Result<usize>
         ensures { WritesAtMost result piece.now }
     {
-        let mut kept = self.changed.wait_while(rt, self.kept.lock(rt), |kept| {
-            kept.len >= MOST && !kept.has_failed
-        });
-        if kept.has_failed {
-            return Err(ErrorKind::BrokenPipe.into());
+        for _ in rt.forever() {
+            match self.try_to_put(rt, piece) {
+                Tried::Kept(count) => return Ok(count),
+                Tried::Failed => return Err(ErrorKind::BrokenPipe.into()),
+                Tried::Waits => {}
+            }
         }
-        let count = keep(self.alloc, &mut kept, piece);
-        if count.is_none() {
-            kept.fail(self.alloc);
+        unreachable!()
+    }
+
+    /// Keeps the first octets of a piece. If the subscriber's share is full, it waits for a moment.
+    fn try_to_put<R: Wait + Clock>(&self, rt: &R, piece: &[u8]) -> Tried
+        ensures { IsTried (length piece.now) result }
+    {
+        let now = self.server.millis(rt);
+        let terms = Terms {
+            share: share_of(self.server.subscribers()),
+            waits: waits_on(self.server.ending_since(rt), now),
+            now,
+        };
+        let mut state = self.state.lock(rt);
+        let tried = state.try_to_put(self.alloc, piece, terms);
+        if let Tried::Waits = tried {
+            drop(
+                self.changed
+                    .wait_timeout(rt, state, Duration::from_millis(LOOK)),
+            );
+        } else {
+            drop(state);
+            self.changed.notify_all();
         }
-        self.changed.notify_all();
-        count.ok_or(ErrorKind::OutOfMemory.into())
+        tried
     }
 
     /// Says that nothing comes any more.
     pub(crate) fn end<R: Wait>(&self, rt: &R) {
-        self.kept.lock(rt).has_ended = true;
+        self.state.lock(rt).has_ended = true;
         self.changed.notify_all();
     }
 
-    /// Writes what comes, until nothing comes any more and all is written, or a write failed or memory was refused.
-    /// Then it shuts the socket down.
-    pub(crate) fn write_all<R: Wait>(&self, rt: &R, socket: &Socket) {
+    /// Writes what comes, until nothing comes any more and all is written, or a write failed, the subscriber was too
+    /// slow or memory was refused. Then it shuts the socket down.
+    pub(crate) fn write_all<R: Wait + Clock>(&self, rt: &R, socket: &Socket) {
         for _ in rt.forever() {
             let Some(octets) = self.take(rt) else {
                 break;
@@ -113,20 +189,19 @@ impl Backlog {
 
     /// Takes the first chunk of what is kept, once there is one. None where nothing comes any more or something failed.
     fn take<R: Wait>(&self, rt: &R) -> Option<Vec<u8>> {
-        let mut kept = self.changed.wait_while(rt, self.kept.lock(rt), |kept| {
-            kept.chunks.is_empty() && !kept.has_ended && !kept.has_failed
+        let mut state = self.changed.wait_while(rt, self.state.lock(rt), |state| {
+            state.kept.is_empty() && !state.has_ended && !state.has_failed
         });
-        if kept.has_failed {
+        if state.has_failed {
             return None;
         }
-        let octets = kept.chunks.pop_front()?;
-        kept.len = kept.len.saturating_sub(octets.len());
+        let octets = state.kept.take()?;
         self.changed.notify_all();
         Some(octets)
     }
 
     /// Writes a chunk, and answers whether that went well.
-    fn write_chunk<R: Wait>(&self, rt: &R, socket: &Socket, octets: &[u8]) -> bool {
+    fn write_chunk<R: Wait + Clock>(&self, rt: &R, socket: &Socket, octets: &[u8]) -> bool {
         let mut rest = octets;
         while !rest.is_empty() {
             let Some(count) = self.write_some(rt, socket, rest) else {
@@ -139,16 +214,20 @@ impl Backlog {
     }
 
     /// Writes the first octets of a piece, once there is room for some, and answers how many. None where a write
-    /// failed, or the subscriber took nothing for too long while it may hold somebody up.
-    fn write_some<R: Wait>(&self, rt: &R, socket: &Socket, piece: &[u8]) -> Option<usize>
+    /// failed, the subscriber has failed meanwhile, or it took nothing for too long after the last octet came.
+    fn write_some<R: Wait + Clock>(&self, rt: &R, socket: &Socket, piece: &[u8]) -> Option<usize>
         ensures { IfSome result (λ count. (0 < count) × (count ≤ length piece.now)) }
     {
+        let began = self.server.millis(rt);
         for _ in rt.forever() {
-            match socket.put(piece) {
+            match socket.try_put(piece) {
                 Ok(0) => return None,
-                Ok(count) => return Some(count),
+                Ok(count) => {
+                    self.takes(rt, count);
+                    return Some(count);
+                }
                 Err(error) => {
-                    if error.kind() != ErrorKind::TimedOut || self.holds_up(rt) {
+                    if error.kind() != ErrorKind::TimedOut || self.is_given_up(rt, began) {
                         return None;
                     }
                 }
@@ -157,46 +236,23 @@ impl Backlog {
         unreachable!()
     }
 
-    /// Whether a subscriber that takes nothing may hold somebody up: the relay, since much is kept, or who waits for
-    /// the end of the connection. So it is where it has failed.
-    fn holds_up<R: Wait>(&self, rt: &R) -> bool {
-        let kept = self.kept.lock(rt);
-        kept.len >= MUCH || kept.has_ended || kept.has_failed
+    /// Counts octets that the subscriber took.
+    fn takes<R: Wait + Clock>(&self, rt: &R, count: usize) {
+        let now = self.server.millis(rt);
+        self.state.lock(rt).pace.take(count as u64, now);
+    }
+
+    /// Whether a subscriber that has taken nothing since then is given up: it has failed, or nothing comes any more and
+    /// it took nothing for too long.
+    fn is_given_up<R: Wait + Clock>(&self, rt: &R, since: u64) -> bool {
+        let passed = self.server.millis(rt).saturating_sub(since);
+        let state = self.state.lock(rt);
+        state.has_failed || (state.has_ended && passed >= REPLY_MILLIS)
     }
 
     /// Gives the subscriber up. What is kept is dropped.
     fn fail<R: Wait>(&self, rt: &R) {
-        self.kept.lock(rt).fail(self.alloc);
+        self.state.lock(rt).fail(self.alloc);
         self.changed.notify_all();
     }
-}
-
-/// Keeps as many of the first octets of a piece as may be and a chunk holds, and answers how many. None where memory is
-/// refused.
-fn keep(alloc: Global, kept: &mut Kept, piece: &[u8]) -> Option<usize>
-    ensures { IfSome result (λ count. count ≤ length piece.now) }
-{
-    let room = MOST.saturating_sub(kept.len);
-    let is_full = match kept.chunks.back() {
-        Some(chunk) => chunk.len() >= CHUNK,
-        None => true,
-    };
-    if is_full {
-        kept.chunks.push_back(Vec::new(alloc)).ok()?;
-    }
-    let chunk = kept.chunks.back_mut()?;
-    let count = append(chunk, piece, room)?;
-    kept.len = kept.len.saturating_add(count);
-    Some(count)
-}
-
-/// Appends as many of the first octets of a piece as there is room for, in all and in the chunk, and answers how many.
-/// None where memory is refused.
-fn append(chunk: &mut Vec<u8>, piece: &[u8], room: usize) -> Option<usize>
-    ensures { IfSome result (λ count. count ≤ length piece.now) }
-{
-    let most = room.min(CHUNK.saturating_sub(chunk.len()));
-    let (front, _) = piece.split_at(most.min(piece.len()));
-    chunk.extend_from_slice(front).ok()?;
-    Some(front.len())
 }

@@ -1,9 +1,12 @@
 //! The thread that accepts a port's connections: starting it, and ending it.
 
-use crate::accepting::accept_all;
+use crate::accepting::{Served, accept_all};
 use crate::fault::{Port, ServeFault};
 use crate::gate::Gate;
+use crate::server::Server;
 use crate::service::Service;
+use kernel_limits::grace_left;
+use kernel_limits::limits::END_WRITE_MILLIS;
 use std::alloc::{AllocError, Global};
 use std::net::{Net, SocketAddr, TcpListener, TcpStream};
 use std::sync::{Arc, Wait};
@@ -36,24 +39,29 @@ pub(crate) struct Acceptor {
 pub(crate) fn start<R>(
     rt: R,
     alloc: Global,
-    port: Port,
-    listener: TcpListener,
+    bound: (Port, TcpListener),
     service: Service<R>,
+    server: Arc<Server, Global>,
 ) -> Result<Acceptor, ServeFault>
 where
     R: Threads + Wait + Clock + Copy + Send + Sync + Drop + 'static,
 {
+    let (port, listener) = bound;
     let (address, gate, shared) = match begin(alloc, port, &listener) {
         Ok(begun) => begun,
         Err(fault) => {
             drop(listener);
             drop(service);
+            drop(server);
             return Err(fault);
         }
     };
-    match thread::spawn(&rt, move || {
-        accept_all(rt, alloc, listener, service, shared)
-    }) {
+    let port = Served {
+        service,
+        gate: shared,
+        server,
+    };
+    match thread::spawn(&rt, move || accept_all(rt, alloc, listener, port)) {
         Ok(thread) => Ok(Acceptor {
             address,
             gate,
@@ -92,21 +100,46 @@ fn begin(
     }
 }
 
-/// Ends all that serves ports, and waits until it ended.
-pub(crate) fn end_all<R>(rt: &R, acceptors: Vec<Acceptor>)
+/// Ends all that serves ports, and waits until it ended. What is left for peers is written as long as that takes no
+/// more than a moment; who takes longer is closed.
+pub(crate) fn end_all<R>(rt: &R, acceptors: Vec<Acceptor>, server: &Server)
 where
     R: Net<Stream = TcpStream> + Threads + Wait + Clock,
 {
+    end_ports(rt, &acceptors);
+    linger(rt, &acceptors, server);
     for acceptor in acceptors.iter() {
+        acceptor.gate.shut_all(rt);
+    }
+    for acceptor in acceptors {
+        acceptor.thread.join(rt);
+    }
+}
+
+/// Says that ports end, ends what their connections read, and wakes the threads that accept.
+fn end_ports<R>(rt: &R, acceptors: &[Acceptor])
+where
+    R: Net<Stream = TcpStream> + Wait + Clock,
+{
+    for acceptor in acceptors {
         acceptor.gate.end();
         // Those that are open are ended at once, and not only when the thread that accepts has seen it.
         acceptor.gate.end_reads(rt);
     }
-    for acceptor in acceptors.iter() {
+    for acceptor in acceptors {
         wake(rt, acceptor);
     }
-    for acceptor in acceptors {
-        acceptor.thread.join(rt);
+}
+
+/// Waits until the threads of all connections ended, or for a moment.
+fn linger<R: Wait + Clock>(rt: &R, acceptors: &[Acceptor], server: &Server) {
+    let began = server.millis(rt);
+    for _ in 0..END_WRITE_MILLIS {
+        let is_over = grace_left(began, END_WRITE_MILLIS, server.millis(rt)) == 0;
+        if is_over || acceptors.iter().all(|acceptor| acceptor.gate.is_empty(rt)) {
+            return;
+        }
+        thread::sleep(rt, Duration::from_millis(PAUSE));
     }
 }
 

@@ -1,19 +1,31 @@
 //! What the threads round a port share: whether it ends, and the connections that are open.
 
 use crate::socket::Socket;
+use kernel_limits::{Place, place_of};
 use std::alloc::{AllocError, Global};
 use std::sync::atomic::{AtomicBool, Ordering};
 use std::sync::{Mutex, Wait};
 
-/// How many connections of one port may be open at a time. Each takes one file descriptor, so that even four full ports
-/// take fewer than the 1,024 which systems commonly let a program have.
-const MOST: usize = 240;
+/// How far a connection is.
+#[derive(Clone, Copy, Debug, PartialEq, Eq)]
+pub(crate) enum Standing {
+    /// It shakes hands.
+    Shaking,
+    /// It is served.
+    Served,
+    /// Its peer has closed its side, and something is still due to it.
+    Left,
+    /// A newcomer has its place.
+    Replaced,
+}
 
-/// A connection that is open.
+/// A connection whose thread hasn't ended.
 #[derive(Drop)]
 struct Open {
     /// Its number.
     id: u64,
+    /// How far it is.
+    standing: Standing,
     /// Its socket, to end it by.
     socket: Socket,
 }
@@ -25,7 +37,7 @@ pub(crate) struct Gate {
     ending: AtomicBool,
     /// Whether no further connection is accepted.
     closed: AtomicBool,
-    /// The connections that are open, by rising numbers.
+    /// The connections whose threads haven't ended, by rising numbers.
     open: Mutex<Vec<Open>>,
 }
 
@@ -59,7 +71,8 @@ impl Gate {
         self.closed.load(Ordering::SeqCst)
     }
 
-    /// Counts a connection among those that are open, and answers whether there was a place for it.
+    /// Counts a connection among those that are open, and answers whether there was a place for it. It may be that of
+    /// another, which is closed then.
     ///
     /// # Errors
     ///
@@ -71,20 +84,38 @@ impl Gate {
         socket: Socket,
     ) -> Result<bool, AllocError> {
         let mut open = self.open.lock(rt);
-        if open.len() >= MOST {
+        let place = place_among(open.as_slice());
+        if place == Place::Taken {
             return Ok(false);
         }
         open.reserve(1)?;
-        open.push_reserved(Open { id, socket });
+        open.push_reserved(Open {
+            id,
+            standing: Standing::Shaking,
+            socket,
+        });
+        if let Place::Of(place) = place {
+            replace(&mut open, place);
+        }
         Ok(true)
     }
 
-    /// Takes a connection out of those that are open.
+    /// Says how far a connection is, unless a newcomer has its place.
+    pub(crate) fn stand<R: Wait>(&self, rt: &R, id: u64, standing: Standing) {
+        let mut open = self.open.lock(rt);
+        if let Some(connection) = open.iter_mut().find(|connection| connection.id == id) {
+            if connection.standing != Standing::Replaced {
+                connection.standing = standing;
+            }
+        }
+    }
+
+    /// Takes a connection out, whose thread ends.
     pub(crate) fn leave<R: Wait>(&self, rt: &R, id: u64) {
         self.open.lock(rt).retain(|connection| connection.id != id);
     }
 
-    /// Whether a connection is open.
+    /// Whether a connection's thread hasn't ended.
     pub(crate) fn holds<R: Wait>(&self, rt: &R, id: u64) -> bool {
         self.open
             .lock(rt)
@@ -92,10 +123,47 @@ impl Gate {
             .is_ok()
     }
 
+    /// Whether no connection has a thread any more.
+    pub(crate) fn is_empty<R: Wait>(&self, rt: &R) -> bool {
+        self.open.lock(rt).is_empty()
+    }
+
     /// Ends what the connections that are open read: each read that waits finds no octet any more.
     pub(crate) fn end_reads<R: Wait>(&self, rt: &R) {
         for connection in self.open.lock(rt).iter() {
             connection.socket.end_reads();
         }
+    }
+
+    /// Closes the connections that are open: what is due to their peers is lost.
+    pub(crate) fn shut_all<R: Wait>(&self, rt: &R) {
+        for connection in self.open.lock(rt).iter() {
+            connection.socket.shut();
+        }
+    }
+}
+
+/// What becomes of a newcomer among these connections.
+fn place_among(open: &[Open]) -> Place {
+    let many = open
+        .iter()
+        .filter(|connection| connection.standing != Standing::Replaced)
+        .count();
+    let shaking = oldest(open, Standing::Shaking);
+    let left = oldest(open, Standing::Left);
+    place_of(many, shaking, left)
+}
+
+/// The place of the oldest connection that is so far.
+fn oldest(open: &[Open], standing: Standing) -> Option<usize> {
+    open.iter()
+        .position(|connection| connection.standing == standing)
+}
+
+/// Closes a connection whose place a newcomer gets.
+fn replace(open: &mut Vec<Open>, place: usize) {
+    if let Some(connection) = open.get_mut(place) {
+        connection.standing = Standing::Replaced;
+        connection.socket.shut();
     }
 }

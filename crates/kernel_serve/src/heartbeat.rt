@@ -1,15 +1,105 @@
 //! Connections of the heartbeat.
 
-use crate::connection::TURNS;
+use crate::connection::{TURNS, hear_out, octets_of, write_whole};
+use crate::guest::Guest;
+use crate::reader::{Gauge, Reader};
 use crate::socket::Socket;
-use std::alloc::Global;
-use zmtp_connection::echo;
-use zmtp_wire::Counted;
+use kernel_limits::limits::HEARTBEAT_OCTETS;
+use std::alloc::{AllocError, Global};
+use std::sync::{Arc, Wait};
+use std::time::Clock;
+use zmtp_connection::{Intake, OpenPeer, shake};
+use zmtp_wire::{Counted, SocketType, Traffic};
+
+/// Where a peer's messages go, which are written back. Its commands are dropped.
+#[derive(Drop)]
+struct Echo<R: Wait + Clock + Drop> {
+    /// The handle to wait by.
+    rt: R,
+    /// Where texts take their memory.
+    alloc: Global,
+    /// What the connection has unfinished.
+    gauge: Arc<Gauge, Global>,
+    /// What is written to it.
+    writer: Counted<Socket>,
+}
+
+impl<R: Wait + Clock + Drop> Intake for Echo<R> {
+    ghost use Rattle.std.specs.Prelude.{⊤, None, []};
+
+    ghost takes = { λ _ _ _ _. ⊤ };
+
+    ghost told = { λ _. None };
+
+    ghost names = { λ _. [] };
+
+    fn put(&mut self, traffic: Traffic) -> Result<bool, AllocError> {
+        self.gauge.finish(&self.rt, octets_of(&traffic));
+        let is_written = self.write_back(&traffic);
+        drop(traffic);
+        Ok(is_written)
+    }
+}
+
+impl<R: Wait + Clock + Drop> Echo<R> {
+    /// Writes a message back, and answers whether that went well.
+    fn write_back(&mut self, traffic: &Traffic) -> bool {
+        match traffic {
+            Traffic::Message(message) => {
+                write_whole(self.alloc, &mut self.writer, message.as_slice())
+            }
+            Traffic::Command(..) => true,
+        }
+    }
+}
 
 /// Serves a peer of the heartbeat as a REP: shakes hands with it, and writes each message back. Returns when its octets
 /// ended or are refused, or a write failed.
-pub(crate) fn serve_heartbeat(alloc: Global, reader: Socket, writer: Socket) {
-    let mut reader = Counted::new(reader);
-    let mut writer = Counted::new(writer);
-    drop(echo(alloc, &mut reader, &mut writer, TURNS));
+pub(crate) fn serve_heartbeat<R>(rt: R, alloc: Global, guest: &Guest)
+where
+    R: Wait + Clock + Copy + Drop,
+{
+    let Ok((mut reader, mut writer)) = guest.halves(rt) else {
+        return;
+    };
+    match shake(alloc, &mut reader, &mut writer, SocketType::Rep, TURNS) {
+        Ok(peer) => {
+            guest.open(&rt, HEARTBEAT_OCTETS);
+            serve_open(rt, alloc, guest, reader, writer, peer);
+        }
+        Err(end) => {
+            drop(end);
+            drop(reader);
+            drop(writer);
+        }
+    }
+}
+
+/// Serves a peer of the heartbeat with whom hands were shaken.
+fn serve_open<R>(
+    rt: R,
+    alloc: Global,
+    guest: &Guest,
+    mut reader: Counted<Reader<R>>,
+    writer: Counted<Socket>,
+    peer: OpenPeer,
+)
+where
+    R: Wait + Clock + Copy + Drop,
+{
+    let Ok(gauge) = Arc::try_clone(&guest.gauge) else {
+        drop(reader);
+        drop(writer);
+        drop(peer);
+        return;
+    };
+    let mut echo = Echo {
+        rt,
+        alloc,
+        gauge,
+        writer,
+    };
+    hear_out(alloc, &mut reader, peer, &mut echo);
+    drop(echo);
+    drop(reader);
 }

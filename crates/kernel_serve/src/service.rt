@@ -1,27 +1,26 @@
 //! What the peers of a port are served with.
 
-use crate::connection::serve_requests;
+use crate::connection::{Channel, serve_requests};
+use crate::guest::Guest;
 use crate::heartbeat::serve_heartbeat;
-use crate::socket::Socket;
-use crate::subscriber::{Door, serve_subscriber};
-use crossbeam_channel::Sender;
-use kernel_workers::{Job, Note};
+use crate::subscriber::{SubscriptionsInbox, serve_subscriber};
 use std::alloc::{AllocError, Global};
 use std::sync::Wait;
 use std::thread::Threads;
+use std::time::Clock;
 
 /// What the peers of a port are served with.
 #[derive(Drop)]
-pub(crate) enum Service<R: Wait + Drop> {
-    /// Shell or control: each message is a job for this inbox.
-    Requests(Sender<Note<Job>>),
-    /// IOPub: who comes, what it asks for and who leaves goes into the door's inbox.
-    Subscriptions(Door<R>),
+pub(crate) enum Service<R: Wait + Clock + Drop> {
+    /// Shell or control: each message that is signed is a job for this worker.
+    Requests(Channel),
+    /// IOPub: who comes, what it asks for and who leaves goes into the inbox of subscriptions.
+    Subscriptions(SubscriptionsInbox<R>),
     /// The heartbeat: each message is written back.
     Heartbeat,
 }
 
-impl<R: Wait + Drop> Service<R> {
+impl<R: Wait + Clock + Drop> Service<R> {
     /// The same service, for one more connection.
     ///
     /// # Errors
@@ -29,20 +28,20 @@ impl<R: Wait + Drop> Service<R> {
     /// Where an inbox has too many owners.
     pub(crate) fn try_clone(&self) -> Result<Service<R>, AllocError> {
         match self {
-            Service::Requests(inbox) => Ok(Service::Requests(inbox.clone()?)),
-            Service::Subscriptions(door) => Ok(Service::Subscriptions(door.clone()?)),
+            Service::Requests(channel) => Ok(Service::Requests(channel.try_clone()?)),
+            Service::Subscriptions(inbox) => Ok(Service::Subscriptions(inbox.clone()?)),
             Service::Heartbeat => Ok(Service::Heartbeat),
         }
     }
 }
 
-impl<R: Threads + Wait + Copy + Send + Sync + Drop + 'static> Service<R> {
-    /// Serves the peer of a connection until that ends: the two sockets are one.
-    pub(crate) fn serve(self, rt: R, alloc: Global, id: u64, reader: Socket, writer: Socket) {
+impl<R: Threads + Wait + Clock + Copy + Send + Sync + Drop + 'static> Service<R> {
+    /// Serves the peer of a connection until that ends.
+    pub(crate) fn serve(self, rt: R, alloc: Global, guest: &Guest) {
         match self {
-            Service::Requests(inbox) => serve_requests(rt, alloc, reader, writer, inbox),
-            Service::Subscriptions(door) => serve_subscriber(rt, alloc, id, reader, writer, door),
-            Service::Heartbeat => serve_heartbeat(alloc, reader, writer),
+            Service::Requests(channel) => serve_requests(rt, alloc, guest, channel),
+            Service::Subscriptions(inbox) => serve_subscriber(rt, alloc, guest, inbox),
+            Service::Heartbeat => serve_heartbeat(rt, alloc, guest),
         }
     }
 }

@@ -2,28 +2,30 @@
 
 ghost use Rattle.std.specs.Prelude.{◌≡◌, IfOk, true};
 
+use crate::connection::Channel;
 use crate::ending::{Acceptor, end_all, start};
 use crate::fault::{Port, ServeFault};
 use crate::parent::{Until, start_watch};
 use crate::ports::{Ports, bind_ports};
+use crate::server::Server;
 use crate::service::Service;
 use crate::stamp::KernelStamp;
 use crate::subscriber::Writer;
 use arith_shell::ShellArith;
 use conn_file::Connection;
-use crossbeam_channel::unbounded;
+use crossbeam_channel::{Sender, unbounded};
 use iopub_event::Event;
-use kernel_workers::{Inbox, Job, KernelEnd, Parts, run_kernel};
+use jmsg_envelope::{Signer, Stamp};
+use kernel_limits::limits::QUEUE;
+use kernel_workers::{Flags, Inbox, Job, KernelEnd, KernelFault, Note, Parts, run_kernel};
 use std::alloc::{AllocError, Global};
 use std::net::{Net, TcpListener, TcpStream};
 use std::random::RandomSource;
-use std::sync::Wait;
+use std::sync::{Arc, Wait};
 use std::thread::Threads;
 use std::time::Clock;
 use uuid::Uuid;
-
-/// How many publications may wait for the relay.
-const CAPACITY: usize = 1_024;
+use zmtp_wire::Outlet;
 
 /// How many octets the text of a session's id has.
 const ID_LENGTH: usize = 36;
@@ -33,8 +35,6 @@ const ID_LENGTH: usize = 36;
 pub struct Served {
     /// Whether all that was published was taken.
     pub complete: bool,
-    /// Whether the kernel is to begin anew.
-    pub restart: bool,
 }
 
 /// What a kernel of shell arithmetic runs on.
@@ -80,7 +80,9 @@ where
 }
 
 /// The key of a connection file.
-fn key_of(connection: Connection) -> Vec<u8> {
+fn key_of(connection: Connection) -> Vec<u8>
+    ensures { result.items ≡ connection.key }
+{
     let Connection {
         ip,
         shell_port: _,
@@ -118,22 +120,30 @@ where
         + 'static,
     ensures complete { IfOk result (λ served. served.complete ≡ true) }
 {
-    let parts = match parts_of(rt, alloc, key) {
-        Ok(parts) => parts,
+    let stage = match stage_of(rt, alloc, key) {
+        Ok(stage) => stage,
         Err(fault) => {
             drop(ports);
             return Err(fault);
         }
     };
     let mut acceptors = Vec::new(alloc);
-    let served = match accept_on(rt, alloc, ports, &parts, &mut acceptors) {
+    let accepts = stage.round().accept_on(rt, alloc, ports, &mut acceptors);
+    let Stage {
+        parts,
+        signer,
+        server,
+    } = stage;
+    drop(signer);
+    let served = match accepts {
         Ok(()) => run_until(rt, alloc, parts, until),
         Err(fault) => {
             drop(parts);
             Err(fault)
         }
     };
-    end_all(&rt, acceptors);
+    end_all(&rt, acceptors, &server);
+    drop(server);
     served
 }
 
@@ -178,12 +188,112 @@ where
 {
     let KernelEnd {
         complete,
-        restart,
+        restart: _,
         subscribers,
         no_room: _,
-    } = run_kernel(rt, alloc, parts)?;
+    } = run_arith(rt, alloc, parts)?;
     drop(subscribers);
-    Ok(Served { complete, restart })
+    Ok(Served { complete })
+}
+
+/// Runs a kernel of shell arithmetic, with whatever stamps and writers.
+///
+/// # Errors
+///
+/// As `run_kernel`.
+fn run_arith<S, W, R>(
+    rt: R,
+    alloc: Global,
+    parts: Parts<ShellArith, S, W>,
+) -> Result<KernelEnd<W>, KernelFault>
+where
+    S: Stamp + Drop + Send + 'static,
+    W: Outlet + Drop + Send + 'static,
+    R: Threads + Wait + Copy + Send + Sync + Drop + 'static,
+    ensures complete { IfOk result (λ end. end.complete ≡ true) }
+{
+    run_kernel(rt, alloc, parts)
+}
+
+/// What a kernel runs on, and what the threads round it share.
+#[derive(Drop)]
+struct Stage<R: Wait + Clock + Drop> {
+    /// What the kernel runs on.
+    parts: KernelParts<R>,
+    /// What requests are signed with.
+    signer: Arc<Signer, Global>,
+    /// What all share.
+    server: Arc<Server, Global>,
+}
+
+impl<R: Wait + Clock + Drop> Stage<R> {
+    /// What the ports are served with.
+    fn round(&self) -> Round<'_, R> {
+        Round {
+            parts: &self.parts,
+            signer: &self.signer,
+            server: &self.server,
+        }
+    }
+}
+
+/// What a kernel with this key runs on, and what the threads round it share.
+///
+/// # Errors
+///
+/// `NoRandomness` where the system gives no random octets, `OutOfMemory`.
+fn stage_of<R>(rt: R, alloc: Global, key: Vec<u8>) -> Result<Stage<R>, ServeFault>
+where
+    R: RandomSource + Wait + Clock + Copy + Drop,
+{
+    let Some((flags, signer, server)) = shares_of(&rt, alloc, &key) else {
+        drop(key);
+        return Err(ServeFault::OutOfMemory);
+    };
+    match parts_of(rt, alloc, key, flags) {
+        Ok(parts) => Ok(Stage {
+            parts,
+            signer,
+            server,
+        }),
+        Err(fault) => {
+            drop(signer);
+            drop(server);
+            Err(fault)
+        }
+    }
+}
+
+/// Flags, what requests are signed with, and what all threads share. None where no memory is left.
+fn shares_of<R: Clock>(
+    rt: &R,
+    alloc: Global,
+    key: &[u8],
+) -> Option<(Flags, Arc<Signer, Global>, Arc<Server, Global>)> {
+    let copy = key.to_vec(alloc).ok()?;
+    let signer = Arc::new(alloc, Signer::new(copy)).ok()?;
+    let Some((flags, server)) = server_of(rt, alloc) else {
+        drop(signer);
+        return None;
+    };
+    Some((flags, signer, server))
+}
+
+/// Flags, and a server that sees them. None where no memory is left.
+fn server_of<R: Clock>(rt: &R, alloc: Global) -> Option<(Flags, Arc<Server, Global>)> {
+    let flags = Flags::new(alloc).ok()?;
+    let Ok(seen) = flags.try_clone() else {
+        drop(flags);
+        return None;
+    };
+    match Arc::new(alloc, Server::new(rt, alloc, seen)) {
+        Ok(server) => Some((flags, server)),
+        Err(refused) => {
+            drop(refused);
+            drop(flags);
+            None
+        }
+    }
 }
 
 /// What the kernel runs on: an interpreter for shell and one for control, and a session of its own.
@@ -191,38 +301,47 @@ where
 /// # Errors
 ///
 /// `NoRandomness` where the system gives no random octets, `OutOfMemory`.
-fn parts_of<R>(rt: R, alloc: Global, key: Vec<u8>) -> Result<KernelParts<R>, ServeFault>
+fn parts_of<R>(
+    rt: R,
+    alloc: Global,
+    key: Vec<u8>,
+    flags: Flags,
+) -> Result<KernelParts<R>, ServeFault>
 where
-    R: RandomSource + Wait + Copy + Drop,
+    R: RandomSource + Wait + Clock + Copy + Drop,
+    ensures key { IfOk result (λ parts. parts.key.items ≡ key.items) }
 {
     let (shell, control) = match new_stamps(rt, alloc) {
         Ok(stamps) => stamps,
         Err(fault) => {
             drop(key);
+            drop(flags);
             return Err(fault);
         }
     };
     match inboxes(alloc) {
-        Ok((shell_in, control_in, door_in)) => Ok(Parts {
+        Ok((shell_in, control_in, subscriptions_in)) => Ok(Parts {
             shell: (ShellArith::new(alloc), shell),
             control: (ShellArith::new(alloc), control),
             key,
-            capacity: CAPACITY,
+            capacity: QUEUE,
             shell_in,
             control_in,
-            door_in,
+            flags,
+            subscriptions_in,
         }),
         Err(AllocError) => {
             drop(shell);
             drop(control);
             drop(key);
+            drop(flags);
             Err(ServeFault::OutOfMemory)
         }
     }
 }
 
-/// The inboxes of shell, of control and of the door.
-fn inboxes<R: Wait + Drop>(
+/// The inboxes of shell, of control and of subscriptions.
+fn inboxes<R: Wait + Clock + Drop>(
     alloc: Global,
 ) -> Result<(Inbox<Job>, Inbox<Job>, Inbox<Event<Writer<R>>>), AllocError> {
     let shell_in = inbox(alloc)?;
@@ -231,7 +350,7 @@ fn inboxes<R: Wait + Drop>(
         return Err(AllocError);
     };
     match inbox(alloc) {
-        Ok(door_in) => Ok((shell_in, control_in, door_in)),
+        Ok(subscriptions_in) => Ok((shell_in, control_in, subscriptions_in)),
         Err(AllocError) => {
             drop(shell_in);
             drop(control_in);
@@ -302,83 +421,118 @@ fn inbox<T: Drop>(alloc: Global) -> Result<Inbox<T>, AllocError> {
     Ok(Inbox { to, from })
 }
 
-/// Starts to accept on each port. Those that were started before a fault are among the acceptors.
-///
-/// # Errors
-///
-/// `NoThread` or `OutOfMemory`, and `CannotBind` where the system doesn't say where a port listens.
-fn accept_on<R>(
-    rt: R,
-    alloc: Global,
-    ports: Ports,
-    parts: &KernelParts<R>,
-    acceptors: &mut Vec<Acceptor>,
-) -> Result<(), ServeFault>
-where
-    R: Threads + Wait + Clock + Copy + Send + Sync + Drop + 'static,
-{
-    let Ok(()) = acceptors.reserve(4) else {
-        drop(ports);
-        return Err(ServeFault::OutOfMemory);
-    };
-    let mut begun = Ok(());
-    for (port, listener) in [
-        (Port::Shell, ports.shell),
-        (Port::Iopub, ports.iopub),
-        (Port::Control, ports.control),
-        (Port::Heartbeat, ports.heartbeat),
-    ] {
-        if begun.is_ok() {
-            begun = accept(rt, alloc, port, listener, parts, acceptors);
-        } else {
-            drop(listener);
-        }
-    }
-    begun
+/// What the ports of a kernel are served with.
+#[derive(Drop)]
+struct Round<'s, R: Wait + Clock + Drop> {
+    /// What the kernel runs on.
+    parts: &'s KernelParts<R>,
+    /// What requests are signed with.
+    signer: &'s Arc<Signer, Global>,
+    /// What all share.
+    server: &'s Arc<Server, Global>,
 }
 
-/// Starts to accept on a port.
-///
-/// # Errors
-///
-/// `NoThread` or `OutOfMemory`, and `CannotBind` where the system doesn't say where it listens.
-fn accept<R>(
-    rt: R,
-    alloc: Global,
-    port: Port,
-    listener: TcpListener,
-    parts: &KernelParts<R>,
-    acceptors: &mut Vec<Acceptor>,
-) -> Result<(), ServeFault>
+impl<R> Round<'_, R>
 where
     R: Threads + Wait + Clock + Copy + Send + Sync + Drop + 'static,
 {
-    match service_of(port, parts) {
-        Ok(service) => {
-            let acceptor = start(rt, alloc, port, listener, service)?;
-            acceptors.push(acceptor)?;
-            Ok(())
+    /// Starts to accept on each port. Those that were started before a fault are among the acceptors.
+    ///
+    /// # Errors
+    ///
+    /// `NoThread` or `OutOfMemory`, and `CannotBind` where the system doesn't say where a port listens.
+    fn accept_on(
+        &self,
+        rt: R,
+        alloc: Global,
+        ports: Ports,
+        acceptors: &mut Vec<Acceptor>,
+    ) -> Result<(), ServeFault> {
+        let Ok(()) = acceptors.reserve(4) else {
+            drop(ports);
+            return Err(ServeFault::OutOfMemory);
+        };
+        let mut begun = Ok(());
+        for (port, listener) in [
+            (Port::Shell, ports.shell),
+            (Port::Iopub, ports.iopub),
+            (Port::Control, ports.control),
+            (Port::Heartbeat, ports.heartbeat),
+        ] {
+            if begun.is_ok() {
+                begun = self.accept(rt, alloc, port, listener, acceptors);
+            } else {
+                drop(listener);
+            }
         }
+        begun
+    }
+
+    /// Starts to accept on a port.
+    ///
+    /// # Errors
+    ///
+    /// `NoThread` or `OutOfMemory`, and `CannotBind` where the system doesn't say where it listens.
+    fn accept(
+        &self,
+        rt: R,
+        alloc: Global,
+        port: Port,
+        listener: TcpListener,
+        acceptors: &mut Vec<Acceptor>,
+    ) -> Result<(), ServeFault> {
+        let Some((service, server)) = self.shares(port) else {
+            drop(listener);
+            return Err(ServeFault::OutOfMemory);
+        };
+        let acceptor = start(rt, alloc, (port, listener), service, server)?;
+        acceptors.push(acceptor)?;
+        Ok(())
+    }
+
+    /// What the peers of a port are served with, and what all share. None where something has too many owners.
+    fn shares(&self, port: Port) -> Option<(Service<R>, Arc<Server, Global>)> {
+        let service = self.service_of(port).ok()?;
+        match Arc::try_clone(self.server) {
+            Ok(server) => Some((service, server)),
+            Err(AllocError) => {
+                drop(service);
+                None
+            }
+        }
+    }
+
+    /// What the peers of a port are served with.
+    ///
+    /// # Errors
+    ///
+    /// Where an inbox or the signer has too many owners.
+    fn service_of(&self, port: Port) -> Result<Service<R>, AllocError> {
+        let parts = self.parts;
+        match port {
+            Port::Shell => Ok(Service::Requests(channel_of(&parts.shell_in.to, self.signer)?)),
+            Port::Iopub => Ok(Service::Subscriptions(parts.subscriptions_in.to.clone()?)),
+            Port::Control => Ok(Service::Requests(channel_of(&parts.control_in.to, self.signer)?)),
+            Port::Heartbeat => Ok(Service::Heartbeat),
+        }
+    }
+}
+
+/// The worker of this inbox, as its connections see it.
+///
+/// # Errors
+///
+/// Where something has too many owners.
+fn channel_of(
+    inbox: &Sender<Note<Job>>,
+    signer: &Arc<Signer, Global>,
+) -> Result<Channel, AllocError> {
+    let inbox = inbox.clone()?;
+    match Arc::try_clone(signer) {
+        Ok(signer) => Ok(Channel { inbox, signer }),
         Err(AllocError) => {
-            drop(listener);
-            Err(ServeFault::OutOfMemory)
+            drop(inbox);
+            Err(AllocError)
         }
-    }
-}
-
-/// What the peers of a port are served with.
-///
-/// # Errors
-///
-/// Where an inbox has too many owners.
-fn service_of<R>(port: Port, parts: &KernelParts<R>) -> Result<Service<R>, AllocError>
-where
-    R: Wait + Drop,
-{
-    match port {
-        Port::Shell => Ok(Service::Requests(parts.shell_in.to.clone()?)),
-        Port::Iopub => Ok(Service::Subscriptions(parts.door_in.to.clone()?)),
-        Port::Control => Ok(Service::Requests(parts.control_in.to.clone()?)),
-        Port::Heartbeat => Ok(Service::Heartbeat),
     }
 }

@@ -2,9 +2,12 @@
 
 ghost use Rattle.std.specs.Io.{WritesAtMost};
 
+use kernel_limits::limits::{REPLY_MILLIS, SEND_BUFFER};
+use libc::net;
 use std::alloc::{AllocError, Global};
 use std::io::{self, ErrorKind, Read, Write};
 use std::net::{Shutdown, TcpStream};
+use std::os::fd::AsRawFd;
 use std::sync::Arc;
 use std::sync::atomic::{AtomicBool, Ordering};
 use std::time::Duration;
@@ -12,8 +15,8 @@ use std::time::Duration;
 /// For how many milliseconds one try to write waits for room.
 const PAUSE: u64 = 500;
 
-/// How many tries to write, one behind the other, may find no room. Then the write has failed: that is five seconds.
-const TRIES: u32 = 10;
+/// How many tries to write, one after the other, may find no room. Then the write has failed.
+const TRIES: u64 = REPLY_MILLIS / PAUSE;
 
 /// What all share that are cloned of one socket.
 #[derive(Drop)]
@@ -22,6 +25,8 @@ struct Shared {
     stream: TcpStream,
     /// Whether nothing is read any more.
     is_ended: AtomicBool,
+    /// Whether nothing is written any more, either.
+    is_shut: AtomicBool,
 }
 
 /// The socket of a connection. All that are cloned of one share its file descriptor, which is closed with the last.
@@ -40,9 +45,14 @@ impl Socket {
     pub(crate) fn new(alloc: Global, stream: TcpStream) -> io::Result<Socket> {
         stream.set_nodelay(true)?;
         stream.set_write_timeout(Some(Duration::from_millis(PAUSE)))?;
-        let is_ended = AtomicBool::new(false);
+        set_send_buffer(&stream);
+        let shared = Shared {
+            stream,
+            is_ended: AtomicBool::new(false),
+            is_shut: AtomicBool::new(false),
+        };
         Ok(Socket {
-            shared: Arc::new(alloc, Shared { stream, is_ended })?,
+            shared: Arc::new(alloc, shared)?,
         })
     }
 
@@ -57,16 +67,59 @@ impl Socket {
         })
     }
 
+    /// Lets a read wait for so many milliseconds, or for any time.
+    ///
+    /// # Errors
+    ///
+    /// Where the system refuses it.
+    pub(crate) fn wait_at_most(&self, millis: Option<u64>) -> io::Result<()> {
+        let wait = match millis {
+            Some(millis) => Some(Duration::from_millis(millis.max(1))),
+            None => None,
+        };
+        self.shared.stream.set_read_timeout(wait)
+    }
+
+    /// Writes the first octets of a piece, if there is room for some within half a second, and answers how many.
+    ///
+    /// # Errors
+    ///
+    /// `TimedOut` if there was no room, and if the write itself fails. The socket stays as it is.
+    pub(crate) fn try_put(&self, piece: &[u8]) -> io::Result<usize>
+        ensures { WritesAtMost result piece.now }
+    {
+        let mut stream: &TcpStream = &self.shared.stream;
+        match stream.write(piece) {
+            Err(error) if is_pause(error.kind()) => Err(ErrorKind::TimedOut.into()),
+            written => written,
+        }
+    }
+
     /// Writes the first octets of a piece, once there is room for some, and answers how many.
     ///
     /// # Errors
     ///
-    /// `TimedOut` where there was no room for five seconds, and where the write itself fails. The socket stays as it
-    /// is.
-    pub(crate) fn put(&self, piece: &[u8]) -> io::Result<usize>
+    /// `TimedOut` if there was no room for five seconds, and if the write itself fails. The socket stays as it is.
+    fn put(&self, piece: &[u8]) -> io::Result<usize>
         ensures { WritesAtMost result piece.now }
     {
-        write_some(&self.shared.stream, piece)
+        for _ in 0..TRIES {
+            match self.try_put(piece) {
+                Err(error) if error.kind() == ErrorKind::TimedOut && !self.is_shut() => {}
+                written => return written,
+            }
+        }
+        Err(ErrorKind::TimedOut.into())
+    }
+
+    /// Whether nothing is read any more.
+    pub(crate) fn is_ended(&self) -> bool {
+        self.shared.is_ended.load(Ordering::SeqCst)
+    }
+
+    /// Whether the socket was shut down.
+    pub(crate) fn is_shut(&self) -> bool {
+        self.shared.is_shut.load(Ordering::SeqCst)
     }
 
     /// Ends what is read: a read that waits, and each one after it, finds no octet any more.
@@ -79,13 +132,15 @@ impl Socket {
 
     /// Shuts the socket down, for reads too.
     pub(crate) fn shut(&self) {
+        self.shared.is_ended.store(true, Ordering::SeqCst);
+        self.shared.is_shut.store(true, Ordering::SeqCst);
         let _ = self.shared.stream.shutdown(Shutdown::Both);
     }
 }
 
 impl Read for Socket {
     fn read(&mut self, buf: &mut [u8]) -> io::Result<usize> {
-        if self.shared.is_ended.load(Ordering::SeqCst) {
+        if self.is_ended() {
             return Ok(0);
         }
         let mut stream: &TcpStream = &self.shared.stream;
@@ -108,22 +163,21 @@ impl Write for Socket {
     }
 }
 
-/// Writes the first octets of a piece, once there is room for some, and answers how many.
-///
-/// # Errors
-///
-/// `TimedOut` where there was no room for too long, and where the write itself fails.
-fn write_some(stream: &TcpStream, piece: &[u8]) -> io::Result<usize>
-    ensures { WritesAtMost result piece.now }
-{
-    let mut stream = stream;
-    for _ in 0..TRIES {
-        match stream.write(piece) {
-            Err(error) if is_pause(error.kind()) => {}
-            written => return written,
-        }
-    }
-    Err(ErrorKind::TimedOut.into())
+/// Gives a socket a small send buffer, so that what was written to it was taken by its peer but for little. If the
+/// system refuses, it keeps the one that it has.
+fn set_send_buffer(stream: &TcpStream) {
+    let mut value = [0u8; 16];
+    let (front, _) = value.split_at_mut(4);
+    front.copy_from_slice(&SEND_BUFFER.to_ne_bytes());
+    let _ = unsafe {
+        net::setsockopt(
+            stream.as_raw_fd(),
+            net::SOL_SOCKET,
+            net::SO_SNDBUF,
+            &value,
+            4,
+        )
+    };
 }
 
 /// Whether a try to write found no room, or the system interrupted it.

@@ -1,8 +1,9 @@
 //! The ids and dates of a kernel's messages.
 
-ghost use Rattle.std.specs.Prelude.{◌≡◌, IfOk, string_bytes};
+ghost use Rattle.std.specs.Prelude.{◌≡◌, ◌<◌, IfOk, string_bytes};
 ghost use Rattle.jmsg_envelope.specs.Stamp.{numbered, numbered-differ};
-ghost use Rattle.kernel_serve.specs.Dates.{is_utc_date, zeroed};
+ghost use Rattle.kernel_serve.specs.Dates.{days_of, digit, has_form, is_day, is_in_range, is_leap, is_time};
+ghost use Rattle.kernel_serve.specs.Dates.{is_utc_date, two_digits, zeroed};
 
 use jiff::{Error, Timestamp};
 use jmsg_envelope::Stamp;
@@ -79,7 +80,8 @@ fn date_now<C: Clock>(clock: &C, alloc: Global) -> Result<String, Error> {
     Timestamp::now(clock)?.strftime(alloc, b"%Y-%m-%dT%H:%M:%S%.6fZ".as_slice())
 }
 
-/// Whether a text is a date in UTC with microseconds, by its shape (RFC 3339, "Internet Date/Time Format").
+/// Whether a text is a date in UTC with microseconds (RFC 3339, "Internet Date/Time Format"): in its form, and in its
+/// ranges.
 ///
 /// # Errors
 ///
@@ -87,8 +89,86 @@ fn date_now<C: Clock>(clock: &C, alloc: Global) -> Result<String, Error> {
 pub fn is_utc_date(alloc: Global, text: &[u8]) -> Result<bool, AllocError>
     ensures { IfOk result (λ is. is ≡ is_utc_date text.now) }
 {
-    let shape: Vec<u8> = text.iter().map(|octet| zeroed(*octet)).collect(alloc)?;
-    Ok(shape.as_slice() == b"0000-00-00T00:00:00.000000Z".as_slice())
+    let has_form = has_form(alloc, text)?;
+    Ok(has_form && is_in_range(text))
+}
+
+/// Whether a text has the form of such a date.
+///
+/// # Errors
+///
+/// Where an allocation is refused.
+fn has_form(alloc: Global, text: &[u8]) -> Result<bool, AllocError>
+    ensures { IfOk result (λ has. has ≡ has_form text.now) }
+{
+    let form: Vec<u8> = text.iter().map(|octet| zeroed(*octet)).collect(alloc)?;
+    Ok(form.as_slice() == b"0000-00-00T00:00:00.000000Z".as_slice())
+}
+
+/// Whether what a text says is in the ranges of a date, if it has the form of one.
+fn is_in_range(text: &[u8]) -> bool
+    ensures { result ≡ is_in_range text.now }
+{
+    let year = 100 * two_digits(text, 0) + two_digits(text, 2);
+    is_day(year, two_digits(text, 5), two_digits(text, 8)) && is_time(text)
+}
+
+/// Whether there is such a day.
+fn is_day(year: u32, month: u32, day: u32) -> bool
+    ensures { result ≡ is_day year month day }
+{
+    if month < 1 || 12 < month {
+        return false;
+    }
+    1 <= day && day <= days_of(year, month)
+}
+
+/// Whether there is such a time of day, as far as the form says one.
+fn is_time(text: &[u8]) -> bool
+    ensures { result ≡ is_time text.now }
+{
+    if 23 < two_digits(text, 11) {
+        return false;
+    }
+    two_digits(text, 14) <= 59 && two_digits(text, 17) <= 60
+}
+
+/// How many days a month has.
+fn days_of(year: u32, month: u32) -> u32
+    ensures { result ≡ days_of year month }
+{
+    match month {
+        2 => { if is_leap(year) { 29 } else { 28 } }
+        4 | 6 | 9 | 11 => 30,
+        _ => 31,
+    }
+}
+
+/// Whether a year is a leap year.
+fn is_leap(year: u32) -> bool
+    ensures { result ≡ is_leap year }
+{
+    (year % 4 == 0 && year % 100 != 0) || year % 400 == 0
+}
+
+/// The number of two digits.
+fn two_digits(text: &[u8], place: usize) -> u32
+    requires { place < 64 }
+    ensures number { result ≡ two_digits text.now place }
+    ensures small { result < 4096 }
+{
+    10 * digit(text, place) + digit(text, place + 1)
+}
+
+/// The number that a digit is.
+fn digit(text: &[u8], place: usize) -> u32
+    ensures number { result ≡ digit text.now place }
+    ensures small { result < 256 }
+{
+    match text.get(place) {
+        Some(octet) => u32::from(octet.saturating_sub(b'0')),
+        None => 0,
+    }
 }
 
 /// An octet, or 0 for each digit.

@@ -303,7 +303,7 @@ module _ {I P S W Cell : Type 0} (world : World I P S W Cell) (may : Type 0) whe
           peer = served.peer;
           behind = served.behind;
           replies = served.replies;
-          met = served.met;
+          is_open = served.is_open;
           converses = record {
             traffic = talk.traffic;
             rest = talk.rest;
@@ -355,7 +355,7 @@ module _ {I P S W Cell : Type 0} (world : World I P S W Cell) (may : Type 0) whe
           peer = served.peer;
           behind = served.behind;
           replies = served.replies;
-          met = served.met;
+          is_open = served.is_open;
           converses = record {
             traffic = talk.traffic;
             rest = talk.rest;

@@ -6,5 +6,5 @@ mod laws;
 mod working;
 
 pub use end::SessionEnd;
-pub use laws::one_session;
+pub use laws::law_one_session;
 pub use working::session;

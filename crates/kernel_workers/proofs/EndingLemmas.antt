@@ -1,16 +1,18 @@
--- An engine that was closed left what is well blocked, and its publisher the close behind it.
-use Rattle.std.proofs.Common.{◌≡◌, ◌⊎◌, inl, inr, ℕ, List, Bool, Option, None, subst, sym, ◌∙◌}
+-- An engine that was closed left what is well blocked, and its publisher the close after it.
+use Rattle.std.proofs.Common.{◌≡◌, ◌⊎◌, inl, inr, ℕ, List, None, subst, sym, ◌∙◌}
 use Rattle.interp_core.specs.Interpreter.{Meaning}
 use Rattle.iopub_event.specs.declared.event.Event.{Event}
 use Rattle.iopub_queue.specs.Calls.{Adds}
 use Rattle.iopub_queue.specs.Values.{Publishing}
-use Rattle.jmsg_envelope.specs.Stamp.{Stamping}
+use Rattle.jmsg_envelope.specs.Stamp.{StampMeaning, Stamping}
 use Rattle.kernel_engine.specs.declared.parts.Parts.{Parts}
+use Rattle.kernel_engine.specs.declared.side.Side.{Side}
 use Rattle.kernel_engine.specs.Handles.{Pays, PaysNot}
 use Rattle.kernel_engine.specs.WellBlocked.{IsWellBlocked, KeepsBlocks}
 use Rattle.kernel_engine.specs.World.{world_of}
 use Rattle.iopub_queue.specs.Sink.{publisher_sink}
-use Rattle.kernel_workers.specs.Ending.{EndsBlocked, sealing_by}
+use Rattle.kernel_workers.specs.Ending.{EndsBlocked, IsBlockedAndClosed, sealing_by}
+use Rattle.kernel_workers.specs.Staying.{IsSameEngine}
 
 module _ {I S W Cell : Type 0} (m : Meaning I Cell) (stamps : Stamping S) where
   -- an idle that was owed was published, since a publisher never refuses
@@ -24,8 +26,7 @@ module _ {I S W Cell : Type 0} (m : Meaning I Cell) (stamps : Stamping S) where
   pub ends_blocked : (engine end parts : Parts I (Publishing (Event W)) S W) (closed : Publishing (Event W))
       → parts ≡ end → Pays publisher_sink engine end ⊎ PaysNot publisher_sink engine end
       → KeepsBlocks (world_of m publisher_sink stamps) parts → Adds parts.publishing.sink None closed
-      → EndsBlocked m (stamps.is_date (stamps.meaning engine.publishing.stamp)) engine.side
-      (sealing_by stamps engine.publishing.signer engine.publishing.stamp) engine.publishing.sink closed
+      → EndsBlocked m stamps engine closed
   ends_blocked engine end parts closed same paid keeps adds =
       let pays = all_paid engine parts (subst (λ (p : Parts I (Publishing (Event W)) S W).
       Pays publisher_sink engine p ⊎ PaysNot publisher_sink engine p) (sym same) paid) in
@@ -42,3 +43,18 @@ module _ {I S W Cell : Type 0} (m : Meaning I Cell) (stamps : Stamping S) where
           closed = adds.published;
         };
       }
+
+  -- what an engine left is what another would have left that is the same
+  pub ends_same : (old new : Parts I (Publishing (Event W)) S W) (closed : Publishing (Event W))
+      → IsSameEngine stamps old new → EndsBlocked m stamps new closed → EndsBlocked m stamps old closed
+  ends_same old new closed same ends = record {
+    queue = ends.queue ∙ same.queue;
+    number = ends.number ∙ same.number;
+    blocked = subst (λ (meant : StampMeaning). IsBlockedAndClosed m (stamps.is_date meant) old.side
+        (record { key = old.publishing.signer; session = meant.session; id = stamps.id_text meant }) closed.published)
+        same.meant
+        (subst (λ (key : List ℕ). IsBlockedAndClosed m (stamps.is_date (stamps.meaning new.publishing.stamp)) old.side
+        (sealing_by stamps key new.publishing.stamp) closed.published) same.signer
+        (subst (λ (side : Side). IsBlockedAndClosed m (stamps.is_date (stamps.meaning new.publishing.stamp)) side
+        (sealing_by stamps new.publishing.signer new.publishing.stamp) closed.published) same.side ends.blocked));
+  }

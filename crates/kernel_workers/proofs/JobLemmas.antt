@@ -1,5 +1,5 @@
 -- What stays of an engine that took a message.
-use Rattle.std.proofs.Common.{◌≡◌, inl, inr, ℕ, List, ap, subst, sym, refl}
+use Rattle.std.proofs.Common.{◌≡◌, inl, inr, ℕ, List, ap, refl}
 use Rattle.iopub_event.specs.declared.event.Event.{Event}
 use Rattle.iopub_queue.specs.Values.{Publishing as Publisher}
 use Rattle.interp_core.specs.Interpreter.{Meaning}

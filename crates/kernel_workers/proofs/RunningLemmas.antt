@@ -1,5 +1,5 @@
 -- How a kernel ends, of what its workers promised.
-use Rattle.std.proofs.Common.{◌≡◌, ◌↔◌, inl, inr, ℕ, zero, suc, ◌<◌, List, [], ◌∷◌, IsTrue, Bool, Option}
+use Rattle.std.proofs.Common.{◌≡◌, ◌↔◌, inl, inr, ℕ, zero, suc, ◌<◌, List, [], ◌∷◌, IsTrue, Option}
 use Rattle.std.proofs.Common.{sym, subst, ◌∙◌, arith, All, Result, Ok, Err}
 use Rattle.std.specs.Result.{IfOk}
 use Rattle.std.specs.List.{AllByRecursion}
@@ -13,12 +13,12 @@ use Rattle.iopub_queue.specs.declared.taken.Settled.{Settled}
 use Rattle.iopub_queue.specs.declared.taken.Settled.TheVariants.{Whole, Beginning}
 use Rattle.iopub_relay.specs.Relay.{Relaying, Meets, AreWhole, HasNumber, AreOfNumbers, AreAllClosed, IsLeftOf}
 use Rattle.jmsg_envelope.specs.Stamp.{Stamping}
-use Rattle.kernel_engine.specs.declared.side.Side.{Side}
+use Rattle.kernel_engine.specs.declared.parts.Parts.{Parts as Engine}
 use Rattle.kernel_engine.specs.declared.side.Side.TheVariants.{Shell, Control}
 use Rattle.kernel_workers.specs.declared.fault.KernelFault.{KernelFault}
 use Rattle.kernel_workers.specs.declared.parts.Parts.{Parts}
 use Rattle.kernel_workers.specs.declared.running.KernelEnd.{KernelEnd}
-use Rattle.kernel_workers.specs.Ending.{IsBlockedAndClosed, IsNoMessage, sealing_by}
+use Rattle.kernel_workers.specs.Ending.{EndsBlocked, IsBlockedAndClosed, IsNoMessage, sealing_by}
 use Rattle.kernel_workers.specs.Running.{EndsWell, TookAll}
 
 module _ {T : Type 0} where
@@ -62,9 +62,9 @@ module _ {T : Type 0} where
 
 module _ {W : Type 0} (outflow : W → Outflow) where
   -- all was taken, where a relay concluded with three publishers that all closed
-  pub took_all : (count : ℕ) (concluded : Relaying W) (shell control door : Publishing (Event W))
-      (tokens : List (Publishing (Event W))) (ended : KernelEnd W) → tokens ≡ three shell control door
-      → Three shell control door → count ≡ 3 → concluded.taker.count ≡ count
+  pub took_all : (count : ℕ) (concluded : Relaying W) (shell control subscriptions : Publishing (Event W))
+      (tokens : List (Publishing (Event W))) (ended : KernelEnd W) → tokens ≡ three shell control subscriptions
+      → Three shell control subscriptions → count ≡ 3 → concluded.taker.count ≡ count
       → AllByRecursion (Meets concluded.taker) tokens
       → (IsTrue ended.complete ↔ IsComplete concluded.taker.count concluded.taker.taken)
       → (IsTrue ended.complete → AreWhole concluded.taker tokens)
@@ -72,12 +72,13 @@ module _ {W : Type 0} (outflow : W → Outflow) where
       → ((number : ℕ) → CloseIsLast (of number concluded.taker.taken))
       → AreOfNumbers concluded.taker.count concluded.taker.taken
       → IsLeftOf outflow concluded.taker.taken ended.no_room ended.subscribers.items
-      → TookAll outflow shell.published control.published door.published ended
-  took_all count concluded shell control door tokens ended are all three_of same meets says whole closed last others
+      → TookAll outflow shell.published control.published subscriptions.published ended
+  took_all count concluded shell control subscriptions tokens ended are all three_of same meets says whole closed last
+      others
       left =
       let says_so = closed (subst (λ (list : List (Publishing (Event W))). AreAllClosed count list) (sym are)
-      (subst (λ (n : ℕ). AreAllClosed n (three shell control door)) (sym three_of)
-      (all_closed shell control door all))) in
+      (subst (λ (n : ℕ). AreAllClosed n (three shell control subscriptions)) (sym three_of)
+      (all_closed shell control subscriptions all))) in
       let met = subst (λ (list : List (Publishing (Event W))). AllByRecursion (Meets concluded.taker) list) are meets in
       let ends = subst (λ (list : List (Publishing (Event W))). AreWhole concluded.taker list) are (whole says_so) in
       record {
@@ -87,44 +88,39 @@ module _ {W : Type 0} (outflow : W → Outflow) where
         last = last;
         shell_is = met_whole concluded.taker shell 0 all.first_is met.0 ends.0;
         control_is = met_whole concluded.taker control 1 all.second_is met.1.0 ends.1.0;
-        door_is = met_whole concluded.taker door 2 all.third_is met.1.1.0 ends.1.1.0;
+        subscriptions_are = met_whole concluded.taker subscriptions 2 all.third_is met.1.1.0 ends.1.1.0;
         others = subst (λ (n : ℕ). AreOfNumbers n concluded.taker.taken) (same ∙ three_of) others;
         left = left;
       }
 
 module _ {I S W Cell : Type 0} (m : Meaning I Cell) (stamps : Stamping S) where
-  -- what is well blocked by one channel, key and stamp is so by those that they are
-  pub blocked_by : (side other : Side) (key another : List ℕ) (stamp given : S) (items : List (Option (Event W)))
-      → side ≡ other → key ≡ another → stamp ≡ given
-      → IsBlockedAndClosed m (stamps.is_date (stamps.meaning stamp)) side (sealing_by stamps key stamp) items
-      → IsBlockedAndClosed m (stamps.is_date (stamps.meaning given)) other (sealing_by stamps another given) items
-  blocked_by side other key another stamp given items sides keys same blocked =
-      subst (λ (s : S). IsBlockedAndClosed m (stamps.is_date (stamps.meaning s)) other (sealing_by stamps another s)
-      items)
-      same
-      (subst (λ (k : List ℕ). IsBlockedAndClosed m (stamps.is_date (stamps.meaning stamp)) other (sealing_by stamps k
-      stamp)
-      items) keys
-      (subst (λ (s : Side). IsBlockedAndClosed m (stamps.is_date (stamps.meaning stamp)) s (sealing_by stamps key stamp)
-      items) sides blocked))
+  -- what the worker of an engine left is well blocked by what the engine was made of
+  pub blocked_by : (engine given : Engine I (Publishing (Event W)) S W) (closed : Publishing (Event W))
+      → engine ≡ given → EndsBlocked m stamps engine closed
+      → IsBlockedAndClosed m (stamps.is_date (stamps.meaning given.publishing.stamp)) given.side
+      (sealing_by stamps given.publishing.signer given.publishing.stamp) closed.published
+  blocked_by engine given closed same ends =
+      (subst (λ (one : Engine I (Publishing (Event W)) S W). EndsBlocked m stamps one closed) same ends).blocked
 
   -- a kernel that took all ends well
-  pub ends_well : (outflow : W → Outflow) (parts : Parts I S W) (shell control door : List (Option (Event W)))
+  pub ends_well : (outflow : W → Outflow) (parts : Parts I S W) (shell control subscriptions : List (Option (Event W)))
       (ended : Result (KernelEnd W) KernelFault) → IsCapacity parts.capacity
       → IsBlockedAndClosed m (stamps.is_date (stamps.meaning parts.shell.1)) Shell
       (sealing_by stamps parts.key.items parts.shell.1) shell
       → IsBlockedAndClosed m (stamps.is_date (stamps.meaning parts.control.1)) Control
       (sealing_by stamps parts.key.items parts.control.1) control
-      → All IsNoMessage door → IfOk ended (TookAll outflow shell control door)
+      → All IsNoMessage subscriptions → IfOk ended (TookAll outflow shell control subscriptions)
       → IfOk ended (EndsWell m stamps outflow parts)
-  ends_well outflow parts shell control door (Err fault) capacity by_shell by_control by_door took = tt
-  ends_well outflow parts shell control door (Ok ended) capacity by_shell by_control by_door took = record {
-    capacity = capacity;
-    shell = shell;
-    control = control;
-    door = door;
-    took = took;
-    shell_blocked = by_shell;
-    control_blocked = by_control;
-    door_silent = by_door;
-  }
+  ends_well outflow parts shell control subscriptions (Err fault) capacity by_shell by_control by_subscriptions took =
+      tt
+  ends_well outflow parts shell control subscriptions (Ok ended) capacity by_shell by_control by_subscriptions took =
+      record {
+        capacity = capacity;
+        shell = shell;
+        control = control;
+        subscriptions = subscriptions;
+        took = took;
+        shell_blocked = by_shell;
+        control_blocked = by_control;
+        subscriptions_silent = by_subscriptions;
+      }

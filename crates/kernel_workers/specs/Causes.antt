@@ -9,19 +9,19 @@ use Rattle.kernel_engine.specs.declared.does.Order.TheVariants.{GoOn, Interrupt,
 use Rattle.kernel_workers.specs.declared.ended.Cause.{Cause}
 use Rattle.kernel_workers.specs.declared.ended.Cause.TheVariants.{Told, Shutdown, Worn}
 
--- whether the kernel is to begin anew, where a request for a shutdown is the cause
+-- whether the kernel is to begin anew, if a request for a shutdown is the cause
 abbrev pub restart_of : Cause → Option Bool
 restart_of Told = None
 restart_of (Shutdown restart) = Some restart
 restart_of Worn = None
 
--- the cause that an order is, where it ends the worker
+-- the cause that an order is, if it ends the worker
 abbrev pub cause_of_order : Order → Option Cause
 cause_of_order GoOn = None
 cause_of_order Interrupt = None
 cause_of_order (End restart) = Some (Shutdown restart)
 
--- the cause that a fault is: where all ids were given
+-- the cause that a fault is: if all ids were given
 abbrev pub cause_of_fault : EngineFault → Option Cause
 cause_of_fault (faults.OwedIdle request) = None
 cause_of_fault faults.Memory = None

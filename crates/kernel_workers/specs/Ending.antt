@@ -6,6 +6,7 @@ use Rattle.iopub_event.specs.declared.event.Event.TheVariants as events
 use Rattle.iopub_queue.specs.Entries.{EndsWithClose}
 use Rattle.iopub_queue.specs.Values.{Publishing}
 use Rattle.jmsg_envelope.specs.Stamp.{Stamping}
+use Rattle.kernel_engine.specs.declared.parts.Parts.{Parts}
 use Rattle.kernel_engine.specs.declared.side.Side.{Side}
 use Rattle.kernel_engine.specs.Block.{Sealing}
 use Rattle.kernel_engine.specs.WellBlocked.{IsWellBlocked}
@@ -24,12 +25,14 @@ pub record IsBlockedAndClosed {State Cell W : Type 0} (m : Meaning State Cell) (
   pub blocked : IsWellBlocked m is_date side sealing next None said
   pub closed : items ≡ said ++ None ∷ []
 
--- a worker of shell or control left the closing token of its publisher, whose list is well blocked
-pub record EndsBlocked {State Cell W : Type 0} (m : Meaning State Cell) (is_date : List ℕ → Bool) (side : Side)
-    (sealing : Sealing) (publisher closed : Publishing (Event W)) : Type 0 where
-  pub queue : closed.queue ≡ publisher.queue
-  pub number : closed.number ≡ publisher.number
-  pub blocked : IsBlockedAndClosed m is_date side sealing closed.published
+-- A worker of shell or control left the closing token of its engine's publisher, whose list is well blocked: for the
+-- engine's channel, under its key, and with ids and dates of its stamp.
+pub record EndsBlocked {I S W Cell : Type 0} (m : Meaning I Cell) (stamps : Stamping S)
+    (engine : Parts I (Publishing (Event W)) S W) (closed : Publishing (Event W)) : Type 0 where
+  pub queue : closed.queue ≡ engine.publishing.sink.queue
+  pub number : closed.number ≡ engine.publishing.sink.number
+  pub blocked : IsBlockedAndClosed m (stamps.is_date (stamps.meaning engine.publishing.stamp)) engine.side
+      (sealing_by stamps engine.publishing.signer engine.publishing.stamp) closed.published
 
 -- what is published is no message
 abbrev pub IsNoMessage : {W : Type 0} → Option (Event W) → Type 0
@@ -40,7 +43,8 @@ IsNoMessage (Some (events.Subscribe id topic)) = ⊤
 IsNoMessage (Some (events.Cancel id topic)) = ⊤
 IsNoMessage (Some (events.Detach id)) = ⊤
 
--- the door's worker left the closing token of its publisher, whose list has no message and ends with the close
+-- the worker of subscriptions left the closing token of its publisher, whose list has no message and ends with the
+-- close
 pub record EndsSilent {W : Type 0} (publisher closed : Publishing (Event W)) : Type 0 where
   pub queue : closed.queue ≡ publisher.queue
   pub number : closed.number ≡ publisher.number

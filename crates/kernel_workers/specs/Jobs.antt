@@ -16,8 +16,8 @@ abbrev pub TakesJob : {I S W Cell : Type 0} → World I (Publisher (Event W)) S 
 TakesJob world may frames old cause new =
     (done : Done) × Takes world may frames old done new × (cause ≡ cause_of done)
 
--- A job was done, or left undone, which changes nothing and ends nothing.
-abbrev pub DoesJob : {I S W Cell : Type 0} → World I (Publisher (Event W)) S W Cell → Type 0 → List (List ℕ)
+-- A job was done, or left undone if that may be, which changes nothing and ends nothing.
+abbrev pub DoesJob : {I S W Cell : Type 0} → World I (Publisher (Event W)) S W Cell → Type 0 → Type 0 → List (List ℕ)
     → Parts I (Publisher (Event W)) S W → Option Cause → Parts I (Publisher (Event W)) S W → Type 0
-DoesJob world may frames old cause new =
-    ((new ≡ old) × (cause ≡ None)) ⊎ TakesJob world may frames old cause new
+DoesJob world may_leave may_ask frames old cause new =
+    (may_leave × (new ≡ old) × (cause ≡ None)) ⊎ TakesJob world may_ask frames old cause new

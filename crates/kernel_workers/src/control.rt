@@ -1,182 +1,234 @@
 //! Control's worker.
 
-ghost use Rattle.std.specs.Prelude.{◌≡◌, [], true};
-ghost use Rattle.kernel_engine.specs.declared.side.Side.TheVariants.{Control};
-ghost use Rattle.kernel_workers.specs.Ending.{EndsBlocked, sealing_by};
-ghost use Rattle.kernel_engine.specs.World.{world_of};
+ghost use Rattle.std.specs.Prelude.{◌≡◌, IfSome};
 ghost use Rattle.iopub_queue.specs.Sink.{publisher_sink};
+ghost use Rattle.kernel_engine.specs.World.{world_of};
+ghost use Rattle.kernel_workers.specs.Ending.{EndsBlocked};
 ghost use Rattle.kernel_workers.specs.Jobs.{TakesJob};
 ghost use Rattle.kernel_workers.specs.Staying.{IsSameEngine};
 
 use crate::ended::{Cause, Ended};
 use crate::flags::{Flags, Never};
 use crate::inbox::{Note, tell_end};
-use crate::job::{Job, next_job};
-use crate::parts::ChannelParts;
+use crate::job::Job;
+use crate::promises::ClosesBlocked;
 use crate::request::{close, conclude};
 use crate::waking::Waking;
-use crossbeam_channel::{Receiver, Sender};
+use crate::working::{Answering, work};
+use crossbeam_channel::{Receiver, Sender, TryRecvError, unbounded};
 use interp_core::Interpreter;
 use iopub_event::Event;
 use jmsg_envelope::Stamp;
-use kernel_engine::{Engine, Side, Unread};
+use kernel_engine::{Asked, Engine, Unread};
 use listed::Frames;
-use std::alloc::Global;
+use std::alloc::{AllocError, Global};
+use std::snapshot::Snapshot;
 use std::sync::Wait;
+use std::thread;
+use std::thread::{PromisedHandle, Threads};
 
-/// What control's worker hears, and whom it ends.
+/// Control's worker: what it owns, what it hears, and whom it ends.
 #[derive(Drop)]
-pub struct ControlLines<W> {
+pub struct ControlWorker<I: Interpreter, S: Stamp, W, R: Wait> {
+    /// What handles its requests.
+    pub engine: Engine<I, Waking<Event<W>, R>, S, W>,
     /// Its inbox.
     pub inbox: Receiver<Note<Job>>,
-    /// What it stops shell by.
-    pub flags: Flags,
-    /// The inbox of shell, which it ends before itself.
-    pub shell: Sender<Note<Job>>,
-    /// Where shell tells that it ended.
-    pub shell_ended: Receiver<()>,
-    /// The inbox of the door, which it ends last.
-    pub door: Sender<Note<Event<W>>>,
+    /// By which it stops shell's worker, which it ends before itself.
+    pub shell: ShellEnd,
+    /// The inbox of subscriptions, which it ends last.
+    pub subscriptions: Sender<Note<Event<W>>>,
 }
 
-impl<W: Drop> ControlLines<W> {
-    /// Ends shell's worker, and waits until it ended.
-    fn end_shell<R: Wait>(&self, rt: &R) {
-        self.flags.end();
-        tell_end(rt, &self.shell);
-        let _ = self.shell_ended.recv(rt);
-    }
-
-    /// Ends shell's worker where that is due, and it didn't end before.
-    fn end_shell_where<R: Wait>(&self, rt: &R, due: bool, shell_ended: &mut bool) {
-        if due && !*shell_ended {
-            self.end_shell(rt);
-            *shell_ended = true;
-        }
-    }
-
-    /// Interrupts the cell that shell runs, where that is asked for.
-    fn interrupt_where(&self, asked: bool) {
-        if asked {
-            self.flags.interrupt();
-        }
-    }
-}
-
-/// The work of control: does the jobs of its inbox one after the other, until it is told to end, a request asks for the
-/// end, all ids were given, or nobody is left who could tell it anything. Shell is ended before a shutdown is handled,
-/// and in any case before control closes; the door is ended last.
-pub fn work_control<I, S, W, R>(
-    rt: R,
-    alloc: Global,
-    parts: ChannelParts<I, S, W, R>,
-    lines: ControlLines<W>,
-) -> Ended<W>
+impl<I, S, W, R> ControlWorker<I, S, W, R>
 where
     I: Interpreter + Drop,
     I::Cell: Drop,
     S: Stamp + Drop,
     W: Drop,
     R: Wait + Drop,
-    requires { parts.sink.published ≡ [] }
-    ensures { EndsBlocked I.meaning (S.stamp.is_date (S.stamp.meaning parts.stamp)) Control
-        (sealing_by S.stamp parts.signer parts.stamp) parts.sink result.closed }
 {
-    let ChannelParts {
-        interp,
-        stamp,
-        signer,
-        sink,
-    } = parts;
-    let mut engine = Engine::new(Side::Control, interp, sink, stamp, signer);
-    let mut shell_ended = false;
-    let cause = serve(&rt, alloc, &mut engine, &lines, &mut shell_ended);
-    lines.end_shell_where(&rt, true, &mut shell_ended);
-    let closed = close(engine);
-    tell_end(&rt, &lines.door);
-    drop(lines);
-    Ended {
-        closed,
-        restart: cause.restart(),
+    /// Does the jobs of its inbox one after the other. It goes on until it is told to end, a request asks for the end,
+    /// all ids were given, or nobody is left who could tell it anything. Shell is ended before a shutdown is handled,
+    /// and in any case before control closes; that of subscriptions is ended last.
+    pub fn run(self, rt: R, alloc: Global) -> Ended<W>
+        ensures { EndsBlocked I.meaning S.stamp self.engine result.closed }
+    {
+        let ControlWorker {
+            mut engine,
+            inbox,
+            shell,
+            subscriptions,
+        } = self;
+        let cause = work(&rt, alloc, &mut engine, &inbox, &shell);
+        shell.end(&rt);
+        let closed = close(engine);
+        tell_end(&rt, &subscriptions);
+        drop(inbox);
+        drop(shell);
+        drop(subscriptions);
+        Ended { closed, cause }
     }
 }
 
-/// Does the jobs of the inbox, until something ends that.
-fn serve<I, S, W, R>(
-    rt: &R,
-    alloc: Global,
-    engine: &mut Engine<I, Waking<Event<W>, R>, S, W>,
-    lines: &ControlLines<W>,
-    shell_ended: &mut bool,
-) -> Cause
+impl<I, S, W, R> ControlWorker<I, S, W, R>
 where
-    I: Interpreter,
-    S: Stamp,
-    W: Drop,
-    R: Wait,
-    ensures { IsSameEngine S.stamp engine.old engine.new }
+    I: Interpreter + Drop + Send + 'static,
+    I::Cell: Drop + Send + 'static,
+    S: Stamp + Drop + Send + 'static,
+    W: Drop + Send + 'static,
+    R: Threads + Wait + Copy + Send + Sync + Drop + 'static,
 {
-    for _ in rt.forever() {
-        match next_job(rt, &lines.inbox) {
-            Some(job) => {
-                if let Some(cause) = do_job(rt, alloc, engine, job, lines, shell_ended) {
-                    return cause;
-                }
+    /// Runs it in a thread of its own, as shell's. None if no thread can be made; then the worker is dropped.
+    pub fn spawn(
+        self,
+        rt: R,
+        alloc: Global,
+    ) -> Option<PromisedHandle<Ended<W>, ClosesBlocked<I, S, W, R>>>
+        ensures { IfSome result (λ handle. handle.promise.engine.value ≡ self.engine) }
+    {
+        let promise = ClosesBlocked {
+            engine: Snapshot::of(&self.engine),
+        };
+        match thread::spawn_with(&rt, promise, move || self.run(rt, alloc)) {
+            Ok(handle) => Some(handle),
+            Err(refused) => {
+                drop(refused);
+                None
             }
-            None => return Cause::Told,
         }
     }
-    unreachable!()
 }
 
-/// Does a job.
-fn do_job<I, S, W, R>(
-    rt: &R,
-    alloc: Global,
-    engine: &mut Engine<I, Waking<Event<W>, R>, S, W>,
-    job: Job,
-    lines: &ControlLines<W>,
-    shell_ended: &mut bool,
-) -> Option<Cause>
-where
-    I: Interpreter,
-    S: Stamp,
-    W: Drop,
-    R: Wait,
-    ensures does { TakesJob (world_of I.meaning publisher_sink S.stamp) ⊥ job.frames engine.old result engine.new }
-    ensures same { IsSameEngine S.stamp engine.old engine.new }
-{
-    let Job { frames, reply } = job;
-    let cause = answer(rt, alloc, engine, frames, &reply, lines, shell_ended);
-    drop(reply);
-    cause
+/// By which control stops shell's worker: its cells by flags, and itself by a note.
+#[derive(Drop)]
+pub struct ShellEnd {
+    /// What it stops shell by.
+    flags: Flags,
+    /// The inbox of shell.
+    inbox: Sender<Note<Job>>,
+    /// On which no message comes. Its sender is dropped once shell's worker has closed.
+    ended: Receiver<()>,
 }
 
-/// Takes the frames of a job, and sends the reply. Where they ask for a shutdown, shell is ended first; where they ask
-/// for an interrupt, the flag is raised before the reply is sent.
-fn answer<I, S, W, R>(
-    rt: &R,
-    alloc: Global,
-    engine: &mut Engine<I, Waking<Event<W>, R>, S, W>,
-    frames: Frames,
-    to: &Sender<Frames>,
-    lines: &ControlLines<W>,
-    shell_ended: &mut bool,
-) -> Option<Cause>
-where
-    I: Interpreter,
-    S: Stamp,
-    W: Drop,
-    R: Wait,
-    ensures does { TakesJob (world_of I.meaning publisher_sink S.stamp) ⊥ frames engine.old result engine.new }
-    ensures same { IsSameEngine S.stamp engine.old engine.new }
-{
-    let asked = match engine.read(alloc, frames) {
-        Ok(asked) => asked,
-        Err(Unread::NoRequest | Unread::NoMemory) => return None,
-    };
-    lines.end_shell_where(rt, asked.ends(), shell_ended);
-    let done = engine.finish(alloc, asked, &Never);
-    lines.interrupt_where(done.interrupts());
-    conclude(rt, done, to)
+impl ShellEnd {
+    /// By which the worker is ended that has these flags and this inbox; then the flags for that worker, and what it
+    /// drops once it has closed.
+    ///
+    /// # Errors
+    ///
+    /// If memory is refused.
+    pub fn new(
+        alloc: Global,
+        flags: &Flags,
+        inbox: &Sender<Note<Job>>,
+    ) -> Result<(ShellEnd, Flags, Sender<()>), AllocError> {
+        let (flags, of_shell) = flags.twice()?;
+        let Ok((dropped, ended)) = unbounded(alloc) else {
+            drop(flags);
+            drop(of_shell);
+            return Err(AllocError);
+        };
+        match inbox.clone() {
+            Ok(inbox) => Ok((
+                ShellEnd {
+                    flags,
+                    inbox,
+                    ended,
+                },
+                of_shell,
+                dropped,
+            )),
+            Err(AllocError) => {
+                drop(flags);
+                drop(of_shell);
+                drop(dropped);
+                drop(ended);
+                Err(AllocError)
+            }
+        }
+    }
+
+    /// Ends shell's worker, unless it has ended, and waits until it closed. The flag is raised before the note is put
+    /// in, so that shell does no job that waits before the note.
+    fn end<R: Wait>(&self, rt: &R) {
+        if self.has_ended(rt) {
+            return;
+        }
+        self.flags.end();
+        tell_end(rt, &self.inbox);
+        let _ = self.ended.recv(rt);
+    }
+
+    /// Whether shell's worker has closed.
+    fn has_ended<R: Wait>(&self, rt: &R) -> bool {
+        matches!(self.ended.try_recv(rt), Err(TryRecvError::Disconnected))
+    }
+
+    /// Does what is due before a request is handled: ends shell if it asks for the kernel's end, and interrupts the
+    /// cell that runs if it asks for that.
+    fn heed<R: Wait>(&self, rt: &R, asked: &Asked) {
+        if asked.ends() {
+            self.end(rt);
+        }
+        if asked.interrupts() {
+            self.flags.interrupt();
+        }
+    }
+
+    /// Takes the frames of a message, and sends the reply. If they ask for a shutdown, shell is ended first. If they
+    /// ask for an interrupt, the flag is raised before busy is published, which may have to wait for the relay.
+    fn take<I, S, W, R>(
+        &self,
+        rt: &R,
+        alloc: Global,
+        engine: &mut Engine<I, Waking<Event<W>, R>, S, W>,
+        frames: Frames,
+        to: &Sender<Frames>,
+    ) -> Option<Cause>
+    where
+        I: Interpreter,
+        S: Stamp,
+        W: Drop,
+        R: Wait,
+        ensures does { TakesJob (world_of I.meaning publisher_sink S.stamp) ⊥ frames engine.old result engine.new }
+        ensures same { IsSameEngine S.stamp engine.old engine.new }
+    {
+        let asked = match engine.read(alloc, frames) {
+            Ok(asked) => asked,
+            Err(Unread::NoRequest | Unread::NoMemory) => return None,
+        };
+        self.heed(rt, &asked);
+        let done = engine.finish(alloc, asked, &Never);
+        conclude(rt, done, to)
+    }
+}
+
+/// Control leaves no message undone, and its own cells are never interrupted. Once it asked for shell's end it ends,
+/// also if no memory was left to handle the shutdown.
+impl Answering for ShellEnd {
+    ghost may_leave = { ⊥ };
+
+    ghost may_ask = { ⊥ };
+
+    fn is_over(&self) -> bool {
+        self.flags.is_ending()
+    }
+
+    fn answer<I, S, W, R>(
+        &self,
+        rt: &R,
+        alloc: Global,
+        engine: &mut Engine<I, Waking<Event<W>, R>, S, W>,
+        frames: Frames,
+        to: &Sender<Frames>,
+    ) -> Option<Cause>
+    where
+        I: Interpreter,
+        S: Stamp,
+        W: Drop,
+        R: Wait,
+    {
+        self.take(rt, alloc, engine, frames, to)
+    }
 }

@@ -11,13 +11,13 @@ use iopub_queue::Closed;
 pub struct Ended<W> {
     /// The closing token of its publisher.
     pub closed: Closed<Event<W>>,
-    /// Whether the kernel is to begin anew, where a request for a shutdown ended it.
-    pub restart: Option<bool>,
+    /// Why it ended.
+    pub cause: Cause,
 }
 
 /// Why a worker ends.
 #[derive(Clone, Copy, Debug, PartialEq, Eq)]
-pub(crate) enum Cause {
+pub enum Cause {
     /// It was told to, or nobody is left who could tell it anything.
     Told,
     /// A request for a shutdown was handled.
@@ -30,7 +30,7 @@ pub(crate) enum Cause {
 }
 
 impl Cause {
-    /// Whether the kernel is to begin anew, where a request for a shutdown is the cause.
+    /// Whether the kernel is to begin anew, if a request for a shutdown is the cause.
     pub(crate) fn restart(self) -> Option<bool>
         ensures { result ≡ restart_of self }
     {

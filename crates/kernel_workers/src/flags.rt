@@ -5,12 +5,13 @@ use std::alloc::{AllocError, Global};
 use std::sync::Arc;
 use std::sync::atomic::{AtomicBool, Ordering};
 
-/// The flags by which control stops what shell does, for both of them. Control raises the one of the end before the one
-/// of an interrupt, and shell lowers the latter before it reads the former: so a job that begins behind a raised end
-/// isn't done, and the cell of one that began before is interrupted.
+/// The flags by which control stops what shell does, for both of them, and by which others see that the kernel is to
+/// end. Control raises the one of the end before the one of an interrupt, and shell lowers the latter before it reads
+/// the former: so a job that begins after the end was raised isn't done, and the cell of one that began before is
+/// interrupted.
 #[derive(Drop)]
 pub struct Flags {
-    /// Whether shell is to end.
+    /// Whether shell is to end, or ends.
     ending: Arc<AtomicBool, Global>,
     /// Whether the cell that runs is to be interrupted.
     interrupt: Arc<AtomicBool, Global>,
@@ -21,7 +22,7 @@ impl Flags {
     ///
     /// # Errors
     ///
-    /// Where an allocation is refused.
+    /// If an allocation is refused.
     pub fn new(alloc: Global) -> Result<Flags, AllocError> {
         let Ok(ending) = Arc::new(alloc, AtomicBool::new(false)) else {
             return Err(AllocError);
@@ -32,16 +33,32 @@ impl Flags {
         Ok(Flags { ending, interrupt })
     }
 
-    /// The same flags, for the other worker.
+    /// The same flags once more.
     ///
     /// # Errors
     ///
-    /// Where the flags have too many owners.
+    /// If the flags have too many owners.
     pub fn try_clone(&self) -> Result<Flags, AllocError> {
         Ok(Flags {
             ending: Arc::try_clone(&self.ending)?,
             interrupt: Arc::try_clone(&self.interrupt)?,
         })
+    }
+
+    /// The same flags twice more.
+    ///
+    /// # Errors
+    ///
+    /// If the flags have too many owners.
+    pub(crate) fn twice(&self) -> Result<(Flags, Flags), AllocError> {
+        let one = self.try_clone()?;
+        match self.try_clone() {
+            Ok(other) => Ok((one, other)),
+            Err(AllocError) => {
+                drop(one);
+                Err(AllocError)
+            }
+        }
     }
 
     /// Raises the flag of an interrupt.
@@ -58,7 +75,12 @@ impl Flags {
     /// Lowers the flag of an interrupt, and then says whether the one of the end is down.
     pub(crate) fn may_begin(&self) -> bool {
         self.interrupt.store(false, Ordering::SeqCst);
-        !self.ending.load(Ordering::SeqCst)
+        !self.is_ending()
+    }
+
+    /// Whether shell is to end, or ends: the whole kernel does then.
+    pub fn is_ending(&self) -> bool {
+        self.ending.load(Ordering::SeqCst)
     }
 }
 

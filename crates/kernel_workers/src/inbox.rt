@@ -7,8 +7,8 @@ use std::thread;
 /// What a worker finds in its inbox.
 #[derive(Debug, Drop)]
 pub enum Note<T> {
-    /// Something to do.
-    Job(T),
+    /// An item: a job of shell or control, or an event of a subscriber.
+    Item(T),
     /// That it is to end.
     End,
 }
@@ -22,7 +22,7 @@ pub struct Inbox<T> {
     pub from: Receiver<Note<T>>,
 }
 
-/// Tells a worker to end. Where memory is refused it is tried again; where the worker is gone nothing is to be done.
+/// Tells a worker to end. If memory is refused it is tried again; if the worker is gone nothing is to be done.
 pub(crate) fn tell_end<T: Drop, R: Wait>(rt: &R, to: &Sender<Note<T>>) {
     for _ in rt.forever() {
         if try_to_tell_end(rt, to) {
@@ -33,7 +33,7 @@ pub(crate) fn tell_end<T: Drop, R: Wait>(rt: &R, to: &Sender<Note<T>>) {
     unreachable!()
 }
 
-/// Tells a worker to end, where memory isn't refused; answers whether nothing is left to be done.
+/// Tells a worker to end, unless memory is refused; answers whether nothing is left to be done.
 fn try_to_tell_end<T: Drop, R: Wait>(rt: &R, to: &Sender<Note<T>>) -> bool {
     match to.send(rt, Note::End) {
         Ok(()) => true,

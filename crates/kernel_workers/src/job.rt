@@ -1,9 +1,8 @@
 //! The jobs of shell and control.
 
-use crate::inbox::Note;
-use crossbeam_channel::{Receiver, Sender};
+use crate::credit::Credit;
+use crossbeam_channel::Sender;
 use listed::Frames;
-use std::sync::Wait;
 
 /// A message that came in on shell or control.
 #[derive(Drop)]
@@ -12,12 +11,7 @@ pub struct Job {
     pub frames: Frames,
     /// Where its reply goes: a channel that holds any number, since the worker waits for room.
     pub reply: Sender<Frames>,
-}
-
-/// The next job of an inbox. None once the worker is to end, or nobody is left who could tell it anything.
-pub(crate) fn next_job<R: Wait>(rt: &R, inbox: &Receiver<Note<Job>>) -> Option<Job> {
-    match inbox.recv(rt) {
-        Ok(Note::Job(job)) => Some(job),
-        Ok(Note::End) | Err(_) => None,
-    }
+    /// Its part of what its connection may have in work, if that is counted. It is dropped after the reply was handed
+    /// on.
+    pub credit: Option<Credit>,
 }

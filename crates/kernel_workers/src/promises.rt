@@ -1,62 +1,34 @@
-//! The promises of the workers, which hold behind a join.
-
-ghost use Rattle.kernel_workers.specs.Staging.{Promises};
+//! The promises of the workers, which hold after a join.
 
 use crate::ended::Ended;
-use crate::parts::ChannelParts;
 use crate::waking::Waking;
 use interp_core::Interpreter;
 use iopub_event::Event;
 use iopub_queue::Closed;
 use iopub_relay::Relay;
-use jmsg_envelope::{Signer, Stamp};
-use kernel_engine::Side;
-use std::marker::PhantomData;
+use jmsg_envelope::Stamp;
+use kernel_engine::Engine;
 use std::snapshot::Snapshot;
+use std::sync::Wait;
 use std::thread::Promise;
 use zmtp_wire::Outlet;
 
-/// The promise of a worker of shell or control: it leaves the closing token of its publisher, whose list is well
-/// blocked.
+/// The promise of a worker of shell or control: it leaves the closing token of its engine's publisher, whose list is
+/// well blocked.
 #[derive(Drop)]
-pub struct ClosesBlocked<I, S, W, R> {
-    /// The channel of its requests.
-    pub side: Side,
-    /// What its messages are signed with, as it was given.
-    pub signer: Snapshot<Signer>,
-    /// Where its ids and dates come from, as it was given.
-    pub stamp: Snapshot<S>,
-    /// Its publisher, as it was given.
-    pub sink: Snapshot<Waking<Event<W>, R>>,
-    /// What runs its cells.
-    pub interp: PhantomData<I>,
+pub struct ClosesBlocked<I: Interpreter, S: Stamp, W, R: Wait> {
+    /// Its engine, as it was given.
+    pub engine: Snapshot<Engine<I, Waking<Event<W>, R>, S, W>>,
 }
 
-impl<I, S, W, R> ClosesBlocked<I, S, W, R> {
-    /// The promise of a worker of this channel that owns these parts.
-    pub(crate) fn of(side: Side, parts: &ChannelParts<I, S, W, R>) -> ClosesBlocked<I, S, W, R>
-        ensures { Promises side parts.now result }
-    {
-        ClosesBlocked {
-            side,
-            signer: Snapshot::of(&parts.signer),
-            stamp: Snapshot::of(&parts.stamp),
-            sink: Snapshot::of(&parts.sink),
-            interp: PhantomData,
-        }
-    }
+impl<I: Interpreter, S: Stamp, W, R: Wait> Promise<Ended<W>> for ClosesBlocked<I, S, W, R> {
+    ghost use Rattle.kernel_workers.specs.Ending.{EndsBlocked};
+
+    ghost kept_by = { λ promise ended. EndsBlocked I.meaning S.stamp promise.engine.value ended.closed };
 }
 
-impl<I: Interpreter, S: Stamp, W, R> Promise<Ended<W>> for ClosesBlocked<I, S, W, R> {
-    ghost use Rattle.kernel_workers.specs.Ending.{EndsBlocked, sealing_by};
-
-    ghost kept_by = { λ promise ended. EndsBlocked I.meaning
-        (S.stamp.is_date (S.stamp.meaning promise.stamp.value)) promise.side
-        (sealing_by S.stamp promise.signer.value promise.stamp.value) promise.sink.value ended.closed };
-}
-
-/// The promise of the door's worker: it leaves the closing token of its publisher, whose list has no message and ends
-/// with the close.
+/// The promise of the worker of subscriptions: it leaves the closing token of its publisher, whose list has no message
+/// and ends with the close.
 #[derive(Drop)]
 pub struct ClosesSilent<W, R> {
     /// Its publisher, as it was given.

@@ -1,19 +1,25 @@
 //! The relay's worker.
 
-ghost use Rattle.std.specs.Prelude.{◌≡◌};
+ghost use Rattle.std.specs.Prelude.{◌≡◌, IfOk, IfSome};
 
+use crate::promises::ServesOn;
 use crossbeam_utils::Backoff;
 use crossbeam_utils::sync::{Parker, Unparker};
 use iopub_relay::{Pumped, Relay};
 use std::alloc::{AllocError, Global};
+use std::snapshot::Snapshot;
 use std::sync::atomic::{AtomicBool, Ordering};
 use std::sync::{Arc, Wait};
+use std::thread;
+use std::thread::{PromisedHandle, Threads};
 use zmtp_wire::Outlet;
 
-/// What the relay's worker hears: whether it is to end, and what it sleeps on.
+/// The relay's worker: its relay, and what it hears, which is whether it is to end.
 #[derive(Drop)]
-pub struct RelayLines {
-    /// Whether the relay is to end once it finds nothing.
+pub struct RelayWorker<W: Outlet, R> {
+    /// What serves the subscribers.
+    relay: Relay<W, R>,
+    /// Whether it is to end once it finds nothing.
     ending: Arc<AtomicBool, Global>,
     /// What it sleeps on.
     parker: Parker,
@@ -22,64 +28,74 @@ pub struct RelayLines {
 /// By which the relay's worker is told to end.
 #[derive(Drop)]
 pub struct RelayEnd {
-    /// Whether the relay is to end once it finds nothing.
+    /// Whether it is to end once it finds nothing.
     ending: Arc<AtomicBool, Global>,
     /// Wakes it.
     relay: Unparker,
 }
 
-impl RelayLines {
-    /// Lines of a relay's worker that isn't to end yet, and by which it is told to.
-    ///
-    /// # Errors
-    ///
-    /// Where an allocation is refused.
-    pub fn new(alloc: Global) -> Result<(RelayLines, RelayEnd), AllocError> {
-        let Ok(ending) = Arc::new(alloc, AtomicBool::new(false)) else {
-            return Err(AllocError);
-        };
-        let Ok(parker) = Parker::new(alloc) else {
-            drop(ending);
-            return Err(AllocError);
-        };
-        let lines = RelayLines { ending, parker };
-        match lines.end_of() {
-            Ok(end) => Ok((lines, end)),
-            Err(AllocError) => {
-                drop(lines);
-                Err(AllocError)
-            }
+/// What a relay's worker hears, and by which it is told to end.
+///
+/// # Errors
+///
+/// If an allocation is refused.
+fn hearing(alloc: Global) -> Result<(Parker, RelayEnd), AllocError> {
+    let parker = Parker::new(alloc)?;
+    let Ok(relay) = parker.unparker().clone() else {
+        drop(parker);
+        return Err(AllocError);
+    };
+    match Arc::new(alloc, AtomicBool::new(false)) {
+        Ok(ending) => Ok((parker, RelayEnd { ending, relay })),
+        Err(_) => {
+            drop(parker);
+            drop(relay);
+            Err(AllocError)
         }
     }
+}
 
-    /// By which the relay's worker is told to end.
+impl<W: Outlet + Drop, R: Drop> RelayWorker<W, R> {
+    /// The worker of a relay, which isn't to end yet, and by which it is told to.
     ///
     /// # Errors
     ///
-    /// Where it has too many owners.
-    fn end_of(&self) -> Result<RelayEnd, AllocError> {
-        let relay = self.unparker()?;
-        match Arc::try_clone(&self.ending) {
-            Ok(ending) => Ok(RelayEnd { ending, relay }),
+    /// If an allocation is refused.
+    pub fn new(
+        alloc: Global,
+        relay: Relay<W, R>,
+    ) -> Result<(RelayWorker<W, R>, RelayEnd), AllocError>
+        ensures { IfOk result (λ made. made.0.relay ≡ relay) }
+    {
+        let Ok((parker, end)) = hearing(alloc) else {
+            drop(relay);
+            return Err(AllocError);
+        };
+        match Arc::try_clone(&end.ending) {
+            Ok(ending) => Ok((
+                RelayWorker {
+                    relay,
+                    ending,
+                    parker,
+                },
+                end,
+            )),
             Err(AllocError) => {
                 drop(relay);
+                drop(parker);
+                drop(end);
                 Err(AllocError)
             }
         }
     }
 
-    /// What wakes the relay's worker.
+    /// What wakes it.
     ///
     /// # Errors
     ///
-    /// Where it has too many owners.
+    /// If it has too many owners.
     pub fn unparker(&self) -> Result<Unparker, AllocError> {
         self.parker.unparker().clone()
-    }
-
-    /// Whether the relay is to end once it finds nothing.
-    fn is_ending(&self) -> bool {
-        self.ending.load(Ordering::SeqCst)
     }
 }
 
@@ -91,25 +107,55 @@ impl RelayEnd {
     }
 }
 
-/// The work of the relay: takes what is published and serves it, until the closes of all publishers were taken, or it
-/// is told to end and finds nothing. Where nothing is found it backs off, and once that is completed it sleeps until
-/// a publisher wakes it: each wakes it behind what it published, and one that did so before it slept keeps it awake.
-pub fn work_relay<W: Outlet + Drop, R: Wait + Drop>(
-    rt: R,
-    relay: Relay<W, R>,
-    lines: RelayLines,
-) -> Relay<W, R>
-    ensures queue { result.taker.queue ≡ relay.taker.queue }
-    ensures count { result.taker.count ≡ relay.taker.count }
+impl<W: Outlet + Drop, R: Wait + Drop> RelayWorker<W, R> {
+    /// Takes what is published and serves it, until the closes of all publishers were taken, or it is told to end and
+    /// finds nothing. If it finds nothing it backs off, and once that is completed it sleeps until a publisher wakes
+    /// it. Each wakes it after what it published, and one that did so before it slept keeps it awake.
+    pub fn run(self, rt: R) -> Relay<W, R>
+        ensures queue { result.taker.queue ≡ self.relay.taker.queue }
+        ensures count { result.taker.count ≡ self.relay.taker.count }
+    {
+        let RelayWorker {
+            mut relay,
+            ending,
+            parker,
+        } = self;
+        pump_all(&rt, &mut relay, &ending, &parker);
+        drop(ending);
+        drop(parker);
+        relay
+    }
+}
+
+impl<W, R> RelayWorker<W, R>
+where
+    W: Outlet + Drop + Send + 'static,
+    R: Threads + Wait + Copy + Send + Sync + Drop + 'static,
 {
-    let mut relay = relay;
-    pump_all(&rt, &mut relay, &lines);
-    drop(lines);
-    relay
+    /// Runs it in a thread of its own. None if no thread can be made; then the worker is dropped.
+    pub fn spawn(self, rt: R) -> Option<PromisedHandle<Relay<W, R>, ServesOn<W, R>>>
+        ensures { IfSome result (λ handle. handle.promise.relay.value ≡ self.relay) }
+    {
+        let promise = ServesOn {
+            relay: Snapshot::of(&self.relay),
+        };
+        match thread::spawn_with(&rt, promise, move || self.run(rt)) {
+            Ok(handle) => Some(handle),
+            Err(refused) => {
+                drop(refused);
+                None
+            }
+        }
+    }
 }
 
 /// Takes what is published and serves it, until the relay's worker is to end.
-fn pump_all<W: Outlet + Drop, R: Wait>(rt: &R, relay: &mut Relay<W, R>, lines: &RelayLines)
+fn pump_all<W: Outlet + Drop, R: Wait>(
+    rt: &R,
+    relay: &mut Relay<W, R>,
+    ending: &AtomicBool,
+    parker: &Parker,
+)
     ensures queue { relay.new.taker.queue ≡ relay.old.taker.queue }
     ensures count { relay.new.taker.count ≡ relay.old.taker.count }
 {
@@ -119,17 +165,17 @@ fn pump_all<W: Outlet + Drop, R: Wait>(rt: &R, relay: &mut Relay<W, R>, lines: &
             Pumped::Did | Pumped::Closed(_) | Pumped::NoRoom(_) => backoff.reset(),
             Pumped::Complete => return,
             Pumped::Empty => {
-                if lines.is_ending() {
+                if ending.load(Ordering::SeqCst) {
                     return;
                 }
-                rest(rt, &lines.parker, &backoff);
+                rest(rt, parker, &backoff);
             }
         }
     }
     unreachable!()
 }
 
-/// Backs off, or sleeps where that is completed.
+/// Backs off, or sleeps if that is completed.
 fn rest<R: Wait>(rt: &R, parker: &Parker, backoff: &Backoff) {
     if backoff.is_completed() {
         parker.park(rt);

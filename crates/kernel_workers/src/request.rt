@@ -2,7 +2,7 @@
 
 ghost use Rattle.std.specs.Prelude.{◌≡◌};
 ghost use Rattle.kernel_workers.specs.Causes.{cause_of, cause_of_fault, cause_of_order};
-ghost use Rattle.kernel_workers.specs.Ending.{EndsBlocked, sealing_by};
+ghost use Rattle.kernel_workers.specs.Ending.{EndsBlocked};
 
 use crate::ended::Cause;
 use crate::waking::Waking;
@@ -15,8 +15,8 @@ use kernel_engine::{Done, Engine, EngineFault, Order, Response};
 use listed::Frames;
 use std::sync::Wait;
 
-/// Sends the reply to a message that was taken, where it has one, and says whether what came of it ends the worker.
-/// Where nobody waits for the reply, or memory is refused for it, it is dropped.
+/// Sends the reply to a message that was taken, if it has one, and says whether what came of it ends the worker.
+/// If nobody waits for the reply, or memory is refused for it, it is dropped.
 pub(crate) fn conclude<R: Wait>(rt: &R, done: Done, to: &Sender<Frames>) -> Option<Cause>
     ensures { result ≡ cause_of done }
 {
@@ -30,7 +30,7 @@ pub(crate) fn conclude<R: Wait>(rt: &R, done: Done, to: &Sender<Frames>) -> Opti
     }
 }
 
-/// Sends a reply, where there is one.
+/// Sends a reply, if there is one.
 fn send<R: Wait>(rt: &R, reply: Option<Frames>, to: &Sender<Frames>) {
     if let Some(frames) = reply {
         drop(to.send(rt, frames));
@@ -67,10 +67,7 @@ where
     S: Stamp + Drop,
     W: Drop,
     R: Wait + Drop,
-    ensures { EndsBlocked I.meaning
-        (S.stamp.is_date (S.stamp.meaning engine.publishing.stamp)) engine.side
-        (sealing_by S.stamp engine.publishing.signer engine.publishing.stamp) engine.publishing.sink
-        result }
+    ensures { EndsBlocked I.meaning S.stamp engine result }
 {
     let parts = engine.close().into_parts();
     let publishing = parts.publishing;

@@ -1,26 +1,36 @@
-//! A running kernel: four workers in threads of their own.
+//! A running kernel: four workers in threads of their own, which are started, joined, and settled with.
 
-ghost use Rattle.std.specs.Prelude.{◌≡◌, ◌≤◌, [], IfOk, IfErr, OnOk, vec_capacity};
+ghost use Rattle.std.specs.Prelude.{◌≡◌, ◌≤◌, [], IfErr, IfOk, IfSome, OnOk, vec_capacity};
 ghost use Rattle.iopub_queue.specs.Calls.{IsCapacity};
 ghost use Rattle.iopub_queue.specs.Entries.{EndsWithClose};
-ghost use Rattle.kernel_workers.specs.Ending.{EndsBlocked, EndsSilent, sealing_by};
+ghost use Rattle.kernel_workers.specs.Causes.{restart_of};
+ghost use Rattle.kernel_workers.specs.Ending.{EndsBlocked, EndsSilent};
 ghost use Rattle.kernel_workers.specs.Running.{EndsWell, FailsBy, TookAll, restart_by};
-ghost use Rattle.kernel_workers.specs.Staging.{IsSetUp};
+ghost use Rattle.kernel_workers.specs.Starting.{IsOpened, IsSetUp};
 
+use crate::control::{ControlWorker, ShellEnd};
 use crate::ended::Ended;
 use crate::fault::KernelFault;
-use crate::opening::open_three;
+use crate::flags::Flags;
+use crate::inbox::{Note, tell_end};
+use crate::job::Job;
 use crate::parts::Parts;
-use crate::staging::{Stage, set_up};
-use crate::starting::{Workers, start};
+use crate::promises::{ClosesBlocked, ClosesSilent, ServesOn};
+use crate::relaying::{RelayEnd, RelayWorker};
+use crate::shell::ShellWorker;
+use crate::subscriptions::SubscriptionsWorker;
+use crate::waking::Waking;
+use crossbeam_channel::Sender;
+use crossbeam_utils::sync::Unparker;
 use interp_core::Interpreter;
 use iopub_event::Event;
-use iopub_queue::{Closed, OpenFault};
+use iopub_queue::{Closed, OpenFault, Publisher, Taker, open_queue};
 use iopub_relay::Relay;
-use jmsg_envelope::Stamp;
+use jmsg_envelope::{Signer, Stamp};
+use kernel_engine::{Engine, Side};
 use std::alloc::{AllocError, Global};
 use std::sync::Wait;
-use std::thread::Threads;
+use std::thread::{Promise, PromisedHandle, Threads};
 use zmtp_wire::Outlet;
 
 /// How a kernel ended.
@@ -36,49 +46,655 @@ pub struct KernelEnd<W> {
     pub no_room: u64,
 }
 
-/// Whether a kernel is to begin anew: control's word counts before shell's.
-fn restart_of(control: Option<bool>, shell: Option<bool>) -> bool
-    ensures { result ≡ restart_by control shell }
+/// Runs a kernel until a request asks for a shutdown, all ids of a channel were given, or an end note comes into the
+/// inbox of control or of shell: four workers, each in a thread of its own. Shell and control handle the requests of
+/// their inboxes. The worker of subscriptions publishes that subscribers come, ask for topics, give them up and leave.
+/// The relay serves all that is published. The workers hold senders of the inboxes themselves, so dropping all
+/// others ends nothing.
+///
+/// # Errors
+///
+/// `Queue` if the capacity isn't from 1 to 65,536, which is judged first, or memory is refused, also for what is left
+/// in the end; `NoThread` if a thread can't be made. The parts are dropped then.
+pub fn run_kernel<I, S, W, R>(
+    rt: R,
+    alloc: Global,
+    parts: Parts<I, S, W>,
+) -> Result<KernelEnd<W>, KernelFault>
+where
+    I: Interpreter + Drop + Send + 'static,
+    I::Cell: Drop + Send + 'static,
+    S: Stamp + Drop + Send + 'static,
+    W: Outlet + Drop + Send + 'static,
+    R: Threads + Wait + Copy + Send + Sync + Drop + 'static,
+    ensures ends { IfOk result (EndsWell I.meaning S.stamp W.outflow parts) }
+    ensures refused { IfErr result (FailsBy parts.capacity) }
 {
-    match control {
-        Some(restart) => restart,
-        None => match shell {
-            Some(restart) => restart,
-            None => false,
-        },
+    match begin(rt, alloc, parts) {
+        Ok((running, tokens)) => {
+            let (left, relay) = join(&rt, running);
+            settle(&rt, relay, left, tokens)
+        }
+        Err(fault) => Err(fault),
     }
+}
+
+/// Makes the workers of a kernel of these parts, and starts them; gives room for the tokens of its publishers, too.
+///
+/// # Errors
+///
+/// As `run_kernel`, but for what is left in the end.
+fn begin<I, S, W, R>(
+    rt: R,
+    alloc: Global,
+    parts: Parts<I, S, W>,
+) -> Result<(Running<I, S, W, R>, Vec<Closed<Event<W>>>), KernelFault>
+where
+    I: Interpreter + Drop + Send + 'static,
+    I::Cell: Drop + Send + 'static,
+    S: Stamp + Drop + Send + 'static,
+    W: Outlet + Drop + Send + 'static,
+    R: Threads + Wait + Copy + Send + Sync + Drop + 'static,
+    ensures set { IfOk result (λ begun. IsSetUp parts begun.0.publishers.shell.promise.engine.value
+        begun.0.publishers.control.promise.engine.value begun.0.publishers.subscriptions.promise.sink.value
+        begun.0.relay.promise.relay.value.taker) }
+    ensures none { IfOk result (λ begun. begun.1.items ≡ []) }
+    ensures room { IfOk result (λ begun. 3 ≤ vec_capacity begun.1) }
+    ensures capacity { OnOk result (IsCapacity parts.capacity) }
+    ensures refused { IfErr result (FailsBy parts.capacity) }
+{
+    match make_workers(&rt, alloc, parts) {
+        Ok((workers, tokens)) => match start(rt, alloc, workers) {
+            Some(running) => Ok((running, tokens)),
+            None => {
+                drop(tokens);
+                Err(KernelFault::NoThread)
+            }
+        },
+        Err(fault) => Err(fault),
+    }
+}
+
+/// Makes the workers of a kernel of these parts, and room for the tokens of its publishers: first what can fail.
+///
+/// # Errors
+///
+/// `Queue` if the capacity isn't from 1 to 65,536, which is judged first, or memory is refused.
+fn make_workers<I, S, W, R>(
+    rt: &R,
+    alloc: Global,
+    parts: Parts<I, S, W>,
+) -> Result<(Workers<I, S, W, R>, Vec<Closed<Event<W>>>), KernelFault>
+where
+    I: Interpreter + Drop,
+    S: Stamp + Drop,
+    W: Outlet + Drop,
+    R: Wait + Copy + Drop,
+    ensures set { IfOk result (λ made. IsSetUp parts made.0.publishers.shell.engine made.0.publishers.control.engine
+        made.0.publishers.subscriptions.sink made.0.relay.relay.taker) }
+    ensures none { IfOk result (λ made. made.1.items ≡ []) }
+    ensures room { IfOk result (λ made. 3 ≤ vec_capacity made.1) }
+    ensures capacity { OnOk result (IsCapacity parts.capacity) }
+    ensures refused { IfErr result (FailsBy parts.capacity) }
+{
+    match prepare(rt, alloc, &parts) {
+        Ok((queue, shared, tokens)) => Ok((set_up(parts, queue, shared), tokens)),
+        Err(fault) => {
+            drop(parts);
+            Err(fault)
+        }
+    }
+}
+
+/// The queue of a kernel that was just opened: its publishers, each of which wakes the relay's worker, which takes.
+#[derive(Drop)]
+struct Queue<W: Outlet, R> {
+    /// The publisher of shell, number 0.
+    shell: Waking<Event<W>, R>,
+    /// The publisher of control, number 1.
+    control: Waking<Event<W>, R>,
+    /// The publisher of subscriptions, number 2.
+    subscriptions: Waking<Event<W>, R>,
+    /// The relay's worker.
+    relay: RelayWorker<W, R>,
+    /// By which that is told to end.
+    relay_end: RelayEnd,
+}
+
+/// What is made for a kernel beside its queue, before any of its parts is moved.
+#[derive(Drop)]
+struct Shared {
+    /// A copy of the key.
+    key: Vec<u8>,
+    /// By which control ends shell.
+    shell_end: ShellEnd,
+    /// What shell is stopped by.
+    flags: Flags,
+    /// What shell drops once it has closed.
+    ended: Sender<()>,
+    /// The inbox of control, for shell.
+    to_control: Sender<Note<Job>>,
+}
+
+/// Makes all that a kernel of these parts needs beside them, room for the tokens of its publishers, too: what can fail.
+///
+/// # Errors
+///
+/// `Queue` if the capacity isn't from 1 to 65,536, which is judged first, or memory is refused.
+fn prepare<I, S, W, R>(
+    rt: &R,
+    alloc: Global,
+    parts: &Parts<I, S, W>,
+) -> Result<(Queue<W, R>, Shared, Vec<Closed<Event<W>>>), KernelFault>
+where
+    W: Outlet + Drop,
+    R: Copy + Drop,
+    ensures opened { IfOk result (λ made. IsOpened made.0.shell made.0.control made.0.subscriptions
+        made.0.relay.relay.taker) }
+    ensures key { IfOk result (λ made. made.1.key.items ≡ parts.now.key.items) }
+    ensures none { IfOk result (λ made. made.2.items ≡ []) }
+    ensures room { IfOk result (λ made. 3 ≤ vec_capacity made.2) }
+    ensures capacity { OnOk result (IsCapacity parts.now.capacity) }
+    ensures refused { IfErr result (FailsBy parts.now.capacity) }
+{
+    let queue = match open(rt, alloc, parts.capacity) {
+        Ok(queue) => queue,
+        Err(fault) => return Err(fault),
+    };
+    let Ok(tokens) = room_for_three(alloc) else {
+        drop(queue);
+        return Err(KernelFault::Queue(OpenFault::OutOfMemory));
+    };
+    match share(alloc, parts) {
+        Ok(shared) => Ok((queue, shared, tokens)),
+        Err(AllocError) => {
+            drop(queue);
+            drop(tokens);
+            Err(KernelFault::Queue(OpenFault::OutOfMemory))
+        }
+    }
+}
+
+/// Opens the queue of a kernel, with so many places.
+///
+/// # Errors
+///
+/// `Queue`: `Capacity` if the capacity isn't from 1 to 65,536, which is judged first, `OutOfMemory` if memory is
+/// refused.
+fn open<W: Outlet + Drop, R: Copy + Drop>(
+    rt: &R,
+    alloc: Global,
+    capacity: usize,
+) -> Result<Queue<W, R>, KernelFault>
+    ensures opened { IfOk result (λ queue. IsOpened queue.shell queue.control queue.subscriptions
+        queue.relay.relay.taker) }
+    ensures capacity { OnOk result (IsCapacity capacity) }
+    ensures refused { IfErr result (FailsBy capacity) }
+{
+    let (shell, control, subscriptions, taker) = match open_three(rt, alloc, capacity) {
+        Ok(opened) => opened,
+        Err(fault) => return Err(fault),
+    };
+    let Ok((relay, relay_end)) = RelayWorker::new(alloc, Relay::new(alloc, taker)) else {
+        drop((shell, control, subscriptions));
+        return Err(KernelFault::Queue(OpenFault::OutOfMemory));
+    };
+    match unparkers_of(&relay) {
+        Ok((for_shell, for_control, for_subscriptions)) => Ok(Queue {
+            shell: Waking::new(shell, for_shell),
+            control: Waking::new(control, for_control),
+            subscriptions: Waking::new(subscriptions, for_subscriptions),
+            relay,
+            relay_end,
+        }),
+        Err(AllocError) => {
+            drop((shell, control, subscriptions, relay, relay_end));
+            Err(KernelFault::Queue(OpenFault::OutOfMemory))
+        }
+    }
+}
+
+/// The publishers of shell, of control and of subscriptions, and the taker, of a queue of so many places.
+///
+/// # Errors
+///
+/// As `open`.
+fn open_three<T: Drop, R: Copy + Drop>(
+    rt: &R,
+    alloc: Global,
+    capacity: usize,
+) -> Result<
+    (
+        Publisher<T, R>,
+        Publisher<T, R>,
+        Publisher<T, R>,
+        Taker<T, R>,
+    ),
+    KernelFault,
+>
+    ensures opened { IfOk result (λ opened. IsOpened opened.0 opened.1 opened.2 opened.3) }
+    ensures capacity { OnOk result (IsCapacity capacity) }
+    ensures refused { IfErr result (FailsBy capacity) }
+{
+    let (publishers, taker) = open_queue(rt, alloc, 3, capacity)?;
+    let mut publishers = publishers.into_iter();
+    let shell = publishers.next().unwrap();
+    let control = publishers.next().unwrap();
+    let subscriptions = publishers.next().unwrap();
+    drop(publishers);
+    Ok((shell, control, subscriptions, taker))
+}
+
+/// What wakes the relay's worker, once for each publisher.
+///
+/// # Errors
+///
+/// If it has too many owners.
+fn unparkers_of<W: Outlet + Drop, R: Drop>(
+    relay: &RelayWorker<W, R>,
+) -> Result<(Unparker, Unparker, Unparker), AllocError> {
+    Ok((relay.unparker()?, relay.unparker()?, relay.unparker()?))
+}
+
+/// Room for three tokens.
+///
+/// # Errors
+///
+/// If memory is refused.
+fn room_for_three<T: Drop>(alloc: Global) -> Result<Vec<T>, AllocError>
+    ensures none { IfOk result (λ tokens. tokens.items ≡ []) }
+    ensures room { IfOk result (λ tokens. 3 ≤ vec_capacity tokens) }
+{
+    let mut tokens = Vec::new(alloc);
+    match tokens.reserve(3) {
+        Ok(()) => Ok(tokens),
+        Err(AllocError) => {
+            drop(tokens);
+            Err(AllocError)
+        }
+    }
+}
+
+/// Makes what the workers of shell and control share, and a copy of the key.
+///
+/// # Errors
+///
+/// If memory is refused.
+fn share<I, S, W>(alloc: Global, parts: &Parts<I, S, W>) -> Result<Shared, AllocError>
+    ensures { IfOk result (λ shared. shared.key.items ≡ parts.now.key.items) }
+{
+    let (shell_end, flags, ended) = ShellEnd::new(alloc, &parts.flags, &parts.shell_in.to)?;
+    let Ok(to_control) = parts.control_in.to.clone() else {
+        drop((shell_end, flags, ended));
+        return Err(AllocError);
+    };
+    match parts.key.as_slice().to_vec(alloc) {
+        Ok(key) => Ok(Shared {
+            key,
+            shell_end,
+            flags,
+            ended,
+            to_control,
+        }),
+        Err(_) => {
+            drop((shell_end, flags, ended, to_control));
+            Err(AllocError)
+        }
+    }
+}
+
+/// What there is of each worker that publishes: the worker itself, its thread, or what it left.
+#[derive(Drop)]
+struct Publishers<Shell, Control, Subscriptions> {
+    /// Of shell's.
+    shell: Shell,
+    /// Of control's.
+    control: Control,
+    /// Of that of subscriptions.
+    subscriptions: Subscriptions,
+}
+
+/// The workers that publish.
+type PublishingWorkers<I, S, W, R> = Publishers<
+    ShellWorker<I, S, W, R>,
+    ControlWorker<I, S, W, R>,
+    SubscriptionsWorker<W, R>,
+>;
+
+/// The workers of a kernel before they run, and what ends those that do: control ends shell.
+#[derive(Drop)]
+struct Workers<I: Interpreter, S: Stamp, W: Outlet, R: Wait> {
+    /// Those that publish.
+    publishers: PublishingWorkers<I, S, W, R>,
+    /// The relay's.
+    relay: RelayWorker<W, R>,
+    /// The inbox of control.
+    to_control: Sender<Note<Job>>,
+    /// By which the relay's worker is told to end.
+    relay_end: RelayEnd,
+}
+
+/// Gives each worker of a kernel what it owns and hears.
+fn set_up<I, S, W, R>(
+    parts: Parts<I, S, W>,
+    queue: Queue<W, R>,
+    shared: Shared,
+) -> Workers<I, S, W, R>
+where
+    I: Interpreter,
+    S: Stamp,
+    W: Outlet + Drop,
+    R: Wait,
+    requires opened { IsOpened queue.shell queue.control queue.subscriptions queue.relay.relay.taker }
+    requires key { shared.key.items ≡ parts.key.items }
+    ensures { IsSetUp parts result.publishers.shell.engine result.publishers.control.engine
+        result.publishers.subscriptions.sink result.relay.relay.taker }
+{
+    let Parts {
+        shell,
+        control,
+        key,
+        capacity: _,
+        shell_in,
+        control_in,
+        flags,
+        subscriptions_in,
+    } = parts;
+    drop(flags);
+    drop(shell_in.to);
+    let publishers = Publishers {
+        shell: ShellWorker {
+            engine: Engine::new(
+                Side::Shell,
+                shell.0,
+                queue.shell,
+                shell.1,
+                Signer::new(shared.key),
+            ),
+            inbox: shell_in.from,
+            flags: shared.flags,
+            ended: shared.ended,
+            control: shared.to_control,
+        },
+        control: ControlWorker {
+            engine: Engine::new(
+                Side::Control,
+                control.0,
+                queue.control,
+                control.1,
+                Signer::new(key),
+            ),
+            inbox: control_in.from,
+            shell: shared.shell_end,
+            subscriptions: subscriptions_in.to,
+        },
+        subscriptions: SubscriptionsWorker {
+            sink: queue.subscriptions,
+            inbox: subscriptions_in.from,
+        },
+    };
+    Workers {
+        publishers,
+        relay: queue.relay,
+        to_control: control_in.to,
+        relay_end: queue.relay_end,
+    }
+}
+
+/// The thread of a worker of shell or control.
+type ChannelThread<I, S, W, R> = PromisedHandle<Ended<W>, ClosesBlocked<I, S, W, R>>;
+
+/// The threads of the workers that publish.
+type PublishingThreads<I, S, W, R> = Publishers<
+    ChannelThread<I, S, W, R>,
+    ChannelThread<I, S, W, R>,
+    PromisedHandle<Closed<Event<W>>, ClosesSilent<W, R>>,
+>;
+
+/// The workers of a kernel in their threads, and what ends that of the relay: control ends shell and subscriptions.
+struct Running<I: Interpreter, S: Stamp, W: Outlet, R: Wait> {
+    /// Those that publish.
+    publishers: PublishingThreads<I, S, W, R>,
+    /// The relay's.
+    relay: PromisedHandle<Relay<W, R>, ServesOn<W, R>>,
+    /// By which the relay's worker is told to end.
+    relay_end: RelayEnd,
+}
+
+/// Starts the workers of a kernel, the relay's first, since it makes room for what the others publish. None if a thread
+/// can't be made; then those that were are ended and joined.
+fn start<I, S, W, R>(
+    rt: R,
+    alloc: Global,
+    workers: Workers<I, S, W, R>,
+) -> Option<Running<I, S, W, R>>
+where
+    I: Interpreter + Drop + Send + 'static,
+    I::Cell: Drop + Send + 'static,
+    S: Stamp + Drop + Send + 'static,
+    W: Outlet + Drop + Send + 'static,
+    R: Threads + Wait + Copy + Send + Sync + Drop + 'static,
+    requires { workers.publishers.subscriptions.sink.published ≡ [] }
+    ensures shell { IfSome result
+        (λ running. running.publishers.shell.promise.engine.value ≡ workers.publishers.shell.engine) }
+    ensures control { IfSome result
+        (λ running. running.publishers.control.promise.engine.value ≡ workers.publishers.control.engine) }
+    ensures subscriptions { IfSome result
+        (λ running. running.publishers.subscriptions.promise.sink.value ≡ workers.publishers.subscriptions.sink) }
+    ensures relay { IfSome result (λ running. running.relay.promise.relay.value ≡ workers.relay.relay) }
+{
+    let Workers {
+        publishers,
+        relay,
+        to_control,
+        relay_end,
+    } = workers;
+    let Some(relay) = relay.spawn(rt) else {
+        drop((publishers, to_control, relay_end));
+        return None;
+    };
+    match start_publishing(rt, alloc, publishers, to_control) {
+        Some(publishers) => Some(Running {
+            publishers,
+            relay,
+            relay_end,
+        }),
+        None => {
+            end_relay(&rt, relay_end, relay);
+            None
+        }
+    }
+}
+
+/// Starts the workers that publish: those of control, of shell and of subscriptions. None if a thread can't be made;
+/// then those that were are ended and joined: control ends shell.
+fn start_publishing<I, S, W, R>(
+    rt: R,
+    alloc: Global,
+    publishers: PublishingWorkers<I, S, W, R>,
+    to_control: Sender<Note<Job>>,
+) -> Option<PublishingThreads<I, S, W, R>>
+where
+    I: Interpreter + Drop + Send + 'static,
+    I::Cell: Drop + Send + 'static,
+    S: Stamp + Drop + Send + 'static,
+    W: Drop + Send + 'static,
+    R: Threads + Wait + Copy + Send + Sync + Drop + 'static,
+    requires { publishers.subscriptions.sink.published ≡ [] }
+    ensures shell { IfSome result (λ threads. threads.shell.promise.engine.value ≡ publishers.shell.engine) }
+    ensures control { IfSome result (λ threads. threads.control.promise.engine.value ≡ publishers.control.engine) }
+    ensures subscriptions { IfSome result
+        (λ threads. threads.subscriptions.promise.sink.value ≡ publishers.subscriptions.sink) }
+{
+    let Publishers {
+        shell,
+        control,
+        subscriptions,
+    } = publishers;
+    let Some((shell, control, to_control)) = start_channels(rt, alloc, shell, control, to_control)
+    else {
+        drop(subscriptions);
+        return None;
+    };
+    match subscriptions.spawn(rt) {
+        Some(subscriptions) => {
+            drop(to_control);
+            Some(Publishers {
+                shell,
+                control,
+                subscriptions,
+            })
+        }
+        None => {
+            end_channels(&rt, to_control, shell, control);
+            None
+        }
+    }
+}
+
+/// Starts the workers of control and of shell, and gives the inbox of control back. None if a thread can't be made;
+/// then control's was ended and joined.
+fn start_channels<I, S, W, R>(
+    rt: R,
+    alloc: Global,
+    shell: ShellWorker<I, S, W, R>,
+    control: ControlWorker<I, S, W, R>,
+    to_control: Sender<Note<Job>>,
+) -> Option<
+    (
+        ChannelThread<I, S, W, R>,
+        ChannelThread<I, S, W, R>,
+        Sender<Note<Job>>,
+    ),
+>
+where
+    I: Interpreter + Drop + Send + 'static,
+    I::Cell: Drop + Send + 'static,
+    S: Stamp + Drop + Send + 'static,
+    W: Drop + Send + 'static,
+    R: Threads + Wait + Copy + Send + Sync + Drop + 'static,
+    ensures shell { IfSome result (λ threads. threads.0.promise.engine.value ≡ shell.engine) }
+    ensures control { IfSome result (λ threads. threads.1.promise.engine.value ≡ control.engine) }
+{
+    let Some(control) = control.spawn(rt, alloc) else {
+        drop((shell, to_control));
+        return None;
+    };
+    match shell.spawn(rt, alloc) {
+        Some(shell) => Some((shell, control, to_control)),
+        None => {
+            end_worker(&rt, to_control, control);
+            None
+        }
+    }
+}
+
+/// Tells a worker to end, and joins it.
+fn end_worker<T, E, P, R>(rt: &R, to: Sender<Note<T>>, worker: PromisedHandle<E, P>)
+where
+    T: Drop,
+    E: Drop,
+    P: Promise<E>,
+    R: Threads + Wait,
+{
+    tell_end(rt, &to);
+    drop(to);
+    drop(worker.join(rt));
+}
+
+/// Tells control's worker to end, which ends shell's, and joins both.
+fn end_channels<E, P, R>(
+    rt: &R,
+    to_control: Sender<Note<Job>>,
+    shell: PromisedHandle<E, P>,
+    control: PromisedHandle<E, P>,
+)
+where
+    E: Drop,
+    P: Promise<E>,
+    R: Threads + Wait,
+{
+    end_worker(rt, to_control, control);
+    drop(shell.join(rt));
+}
+
+/// Tells the relay's worker to end, and joins it.
+fn end_relay<E, P, R>(rt: &R, relay_end: RelayEnd, worker: PromisedHandle<E, P>)
+where
+    E: Drop,
+    P: Promise<E>,
+    R: Threads,
+{
+    relay_end.end();
+    drop(worker.join(rt));
+}
+
+/// What the workers that publish left.
+type Left<W> = Publishers<Ended<W>, Ended<W>, Closed<Event<W>>>;
+
+/// Joins the workers of a kernel, and tells the relay's to end once the others did: what they left, and the relay.
+fn join<I, S, W, R>(rt: &R, running: Running<I, S, W, R>) -> (Left<W>, Relay<W, R>)
+where
+    I: Interpreter,
+    S: Stamp,
+    W: Outlet,
+    R: Threads + Wait,
+    ensures shell { EndsBlocked I.meaning S.stamp running.publishers.shell.promise.engine.value result.0.shell.closed }
+    ensures control { EndsBlocked I.meaning S.stamp running.publishers.control.promise.engine.value
+        result.0.control.closed }
+    ensures subscriptions { EndsSilent running.publishers.subscriptions.promise.sink.value result.0.subscriptions }
+    ensures queue { result.1.taker.queue ≡ running.relay.promise.relay.value.taker.queue }
+    ensures count { result.1.taker.count ≡ running.relay.promise.relay.value.taker.count }
+{
+    let Running {
+        publishers,
+        relay,
+        relay_end,
+    } = running;
+    let left = Publishers {
+        shell: publishers.shell.join(rt),
+        control: publishers.control.join(rt),
+        subscriptions: publishers.subscriptions.join(rt),
+    };
+    relay_end.end();
+    (left, relay.join(rt))
 }
 
 /// Settles with the publishers of a kernel, which all have closed, and gives what is left of its relay.
 ///
 /// # Errors
 ///
-/// `OutOfMemory` where memory is refused for what is left.
-fn settle_up<W: Outlet + Drop, R: Wait + Drop>(
+/// `OutOfMemory` if memory is refused for what is left.
+fn settle<W: Outlet + Drop, R: Wait + Drop>(
     rt: &R,
     mut relay: Relay<W, R>,
+    left: Left<W>,
     tokens: Vec<Closed<Event<W>>>,
-    shell: Ended<W>,
-    control: Ended<W>,
-    door: Closed<Event<W>>,
 ) -> Result<KernelEnd<W>, KernelFault>
     requires count { relay.taker.count ≡ 3 }
-    requires shell { (shell.closed.queue ≡ relay.taker.queue) × (shell.closed.number ≡ 0) }
-    requires control { (control.closed.queue ≡ relay.taker.queue) × (control.closed.number ≡ 1) }
-    requires door { (door.queue ≡ relay.taker.queue) × (door.number ≡ 2) }
-    requires closed { EndsWithClose shell.closed.published × EndsWithClose control.closed.published
-        × EndsWithClose door.published }
+    requires shell { (left.shell.closed.queue ≡ relay.taker.queue) × (left.shell.closed.number ≡ 0) }
+    requires control { (left.control.closed.queue ≡ relay.taker.queue) × (left.control.closed.number ≡ 1) }
+    requires subscriptions { (left.subscriptions.queue ≡ relay.taker.queue) × (left.subscriptions.number ≡ 2) }
+    requires closed { EndsWithClose left.shell.closed.published × EndsWithClose left.control.closed.published
+        × EndsWithClose left.subscriptions.published }
     requires tokens { tokens.items ≡ [] }
     requires room { 3 ≤ vec_capacity tokens }
-    ensures took { IfOk result (TookAll W.outflow shell.closed.published control.closed.published door.published) }
-    ensures restart { IfOk result (λ ended. ended.restart ≡ restart_by control.restart shell.restart) }
+    ensures took { IfOk result
+        (TookAll W.outflow left.shell.closed.published left.control.closed.published left.subscriptions.published) }
+    ensures restart { IfOk result
+        (λ ended. ended.restart ≡ restart_by (restart_of left.control.cause) (restart_of left.shell.cause)) }
     ensures refused { IfErr result (λ fault. fault ≡ KernelFault.Queue OpenFault.OutOfMemory) }
 {
-    let restart = restart_of(control.restart, shell.restart);
+    let Publishers {
+        shell,
+        control,
+        subscriptions,
+    } = left;
+    let restart = restarts(control.cause.restart(), shell.cause.restart());
     let mut tokens = tokens;
     tokens.push_reserved(shell.closed);
     tokens.push_reserved(control.closed);
-    tokens.push_reserved(door);
+    tokens.push_reserved(subscriptions);
     let complete = relay.conclude(rt, tokens);
     let no_room = relay.no_room();
     match relay.finish() {
@@ -95,185 +711,15 @@ fn settle_up<W: Outlet + Drop, R: Wait + Drop>(
     }
 }
 
-/// What a kernel has once it may start.
-#[derive(Drop)]
-struct Begun<I, S, W: Outlet, R> {
-    /// What its workers own and hear.
-    stage: Stage<I, S, W, R>,
-    /// Room for the tokens of its publishers.
-    tokens: Vec<Closed<Event<W>>>,
-}
-
-/// Opens the queue of a kernel, and sets it up.
-///
-/// # Errors
-///
-/// `Queue` where the capacity isn't from 1 to 65,536, which is judged first, or memory is refused.
-fn begin<I, S, W, R>(
-    rt: &R,
-    alloc: Global,
-    parts: Parts<I, S, W>,
-) -> Result<Begun<I, S, W, R>, KernelFault>
-where
-    I: Drop,
-    S: Drop,
-    W: Outlet + Drop,
-    R: Copy + Drop,
-    ensures set { IfOk result (λ begun. IsSetUp parts begun.stage) }
-    ensures none { IfOk result (λ begun. begun.tokens.items ≡ []) }
-    ensures room { IfOk result (λ begun. 3 ≤ vec_capacity begun.tokens) }
-    ensures capacity { OnOk result (IsCapacity parts.capacity) }
-    ensures refused { IfErr result (FailsBy parts.capacity) }
+/// Whether a kernel is to begin anew: control's word counts before shell's.
+fn restarts(control: Option<bool>, shell: Option<bool>) -> bool
+    ensures { result ≡ restart_by control shell }
 {
-    let stage = stage_of(rt, alloc, parts)?;
-    match room_for_three(alloc) {
-        Ok(tokens) => Ok(Begun { stage, tokens }),
-        Err(AllocError) => {
-            drop(stage);
-            Err(KernelFault::Queue(OpenFault::OutOfMemory))
-        }
-    }
-}
-
-/// Opens the queue of a kernel, and sets it up.
-///
-/// # Errors
-///
-/// `Queue` where the capacity isn't from 1 to 65,536, which is judged first, or memory is refused.
-fn stage_of<I, S, W, R>(
-    rt: &R,
-    alloc: Global,
-    parts: Parts<I, S, W>,
-) -> Result<Stage<I, S, W, R>, KernelFault>
-where
-    I: Drop,
-    S: Drop,
-    W: Outlet + Drop,
-    R: Copy + Drop,
-    ensures set { IfOk result (IsSetUp parts) }
-    ensures capacity { OnOk result (IsCapacity parts.capacity) }
-    ensures refused { IfErr result (FailsBy parts.capacity) }
-{
-    match open_three(rt, alloc, parts.capacity) {
-        Ok(opened) => match set_up(alloc, opened, parts) {
-            Ok(stage) => Ok(stage),
-            Err(AllocError) => Err(KernelFault::Queue(OpenFault::OutOfMemory)),
+    match control {
+        Some(restart) => restart,
+        None => match shell {
+            Some(restart) => restart,
+            None => false,
         },
-        Err(fault) => {
-            drop(parts);
-            Err(fault)
-        }
-    }
-}
-
-/// Room for three tokens.
-///
-/// # Errors
-///
-/// Where memory is refused.
-fn room_for_three<T: Drop>(alloc: Global) -> Result<Vec<T>, AllocError>
-    ensures none { IfOk result (λ tokens. tokens.items ≡ []) }
-    ensures room { IfOk result (λ tokens. 3 ≤ vec_capacity tokens) }
-{
-    let mut tokens = Vec::new(alloc);
-    match tokens.reserve(3) {
-        Ok(()) => Ok(tokens),
-        Err(AllocError) => {
-            drop(tokens);
-            Err(AllocError)
-        }
-    }
-}
-
-/// Runs a kernel until a request asks for a shutdown, all ids of a channel were given, or an end note comes into the
-/// inbox of control or of shell: four workers, each in a thread of its own. Shell and control handle the requests of
-/// their inboxes, the door publishes that subscribers come, ask for topics, give them up and leave, and the relay
-/// serves all that is published. The workers hold senders of the inboxes themselves, so dropping all others ends
-/// nothing.
-///
-/// # Errors
-///
-/// `Queue` where the capacity isn't from 1 to 65,536, which is judged first, or memory is refused, also for what is
-/// left in the end; `NoThread` where a thread can't be made. The parts are dropped then.
-pub fn run_kernel<I, S, W, R>(
-    rt: R,
-    alloc: Global,
-    parts: Parts<I, S, W>,
-) -> Result<KernelEnd<W>, KernelFault>
-where
-    I: Interpreter + Drop + Send + 'static,
-    I::Cell: Drop + Send + 'static,
-    S: Stamp + Drop + Send + 'static,
-    W: Outlet + Drop + Send + 'static,
-    R: Threads + Wait + Copy + Send + Sync + Drop + 'static,
-    ensures ends { IfOk result (EndsWell I.meaning S.stamp W.outflow parts) }
-    ensures refused { IfErr result (FailsBy parts.capacity) }
-{
-    let begun = begin(&rt, alloc, parts)?;
-    match start(rt, alloc, begun.stage) {
-        Ok(workers) => {
-            let Left {
-                shell,
-                control,
-                door,
-                relay,
-            } = join_all(&rt, workers);
-            settle_up(&rt, relay, begun.tokens, shell, control, door)
-        }
-        Err(fault) => {
-            drop(begun.tokens);
-            Err(fault)
-        }
-    }
-}
-
-/// What the workers of a kernel left.
-struct Left<W: Outlet, R> {
-    /// What shell's left.
-    shell: Ended<W>,
-    /// What control's left.
-    control: Ended<W>,
-    /// What the door's left.
-    door: Closed<Event<W>>,
-    /// The relay.
-    relay: Relay<W, R>,
-}
-
-/// Joins the workers of a kernel, and tells the relay's to end once the others did.
-fn join_all<I, S, W, R>(rt: &R, workers: Workers<I, S, W, R>) -> Left<W, R>
-where
-    I: Interpreter,
-    S: Stamp,
-    W: Outlet,
-    R: Threads,
-    ensures shell { EndsBlocked I.meaning (S.stamp.is_date (S.stamp.meaning workers.shell.promise.stamp.value))
-        workers.shell.promise.side
-        (sealing_by S.stamp workers.shell.promise.signer.value workers.shell.promise.stamp.value)
-        workers.shell.promise.sink.value result.shell.closed }
-    ensures control { EndsBlocked I.meaning (S.stamp.is_date (S.stamp.meaning workers.control.promise.stamp.value))
-        workers.control.promise.side
-        (sealing_by S.stamp workers.control.promise.signer.value workers.control.promise.stamp.value)
-        workers.control.promise.sink.value result.control.closed }
-    ensures door { EndsSilent workers.door.promise.sink.value result.door }
-    ensures queue { result.relay.taker.queue ≡ workers.relay.promise.relay.value.taker.queue }
-    ensures count { result.relay.taker.count ≡ workers.relay.promise.relay.value.taker.count }
-{
-    let Workers {
-        shell,
-        control,
-        door,
-        relay,
-        relay_end,
-    } = workers;
-    let shell = shell.join(rt);
-    let control = control.join(rt);
-    let door = door.join(rt);
-    relay_end.end();
-    let relay = relay.join(rt);
-    Left {
-        shell,
-        control,
-        door,
-        relay,
     }
 }

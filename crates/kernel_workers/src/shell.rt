@@ -1,81 +1,116 @@
 //! Shell's worker.
 
-ghost use Rattle.std.specs.Prelude.{◌≡◌, []};
-ghost use Rattle.kernel_engine.specs.declared.side.Side.TheVariants.{Shell};
-ghost use Rattle.kernel_workers.specs.Ending.{EndsBlocked, sealing_by};
-ghost use Rattle.kernel_engine.specs.World.{world_of};
+ghost use Rattle.std.specs.Prelude.{◌≡◌, IfSome};
 ghost use Rattle.iopub_queue.specs.Sink.{publisher_sink};
-ghost use Rattle.kernel_workers.specs.Jobs.{DoesJob, TakesJob};
+ghost use Rattle.kernel_engine.specs.World.{world_of};
+ghost use Rattle.kernel_workers.specs.Ending.{EndsBlocked};
+ghost use Rattle.kernel_workers.specs.Jobs.{TakesJob};
 ghost use Rattle.kernel_workers.specs.Staying.{IsSameEngine};
 
 use crate::ended::{Cause, Ended};
 use crate::flags::Flags;
 use crate::inbox::{Note, tell_end};
-use crate::job::{Job, next_job};
-use crate::parts::ChannelParts;
+use crate::job::Job;
+use crate::promises::ClosesBlocked;
 use crate::request::{close, conclude};
 use crate::waking::Waking;
+use crate::working::{Answering, work};
 use crossbeam_channel::{Receiver, Sender};
 use interp_core::Interpreter;
 use iopub_event::Event;
 use jmsg_envelope::Stamp;
-use kernel_engine::{Engine, Side};
+use kernel_engine::Engine;
 use listed::Frames;
 use std::alloc::Global;
+use std::snapshot::Snapshot;
 use std::sync::Wait;
+use std::thread;
+use std::thread::{PromisedHandle, Threads};
 
-/// What shell's worker hears, and whom it tells that it ended.
+/// Shell's worker: what it owns, what it hears, and whom it tells that it ended.
 #[derive(Drop)]
-pub struct ShellLines {
+pub struct ShellWorker<I: Interpreter, S: Stamp, W, R: Wait> {
+    /// What handles its requests.
+    pub engine: Engine<I, Waking<Event<W>, R>, S, W>,
     /// Its inbox.
     pub inbox: Receiver<Note<Job>>,
     /// What control stops it by.
     pub flags: Flags,
-    /// Tells control that it ended.
+    /// By whose drop control learns that it closed. No message goes through it.
     pub ended: Sender<()>,
-    /// The inbox of control, which it ends where a client asked for that.
+    /// The inbox of control, which it ends unless control asked for its end.
     pub control: Sender<Note<Job>>,
 }
 
-/// The work of shell: publishes that the kernel starts, and does the jobs of its inbox one after the other, until it is
-/// told to end, a request asks for the end, all ids were given, or nobody is left who could tell it anything. Then it
-/// closes, and tells control.
-pub fn work_shell<I, S, W, R>(
-    rt: R,
-    alloc: Global,
-    parts: ChannelParts<I, S, W, R>,
-    lines: ShellLines,
-) -> Ended<W>
+impl<I, S, W, R> ShellWorker<I, S, W, R>
 where
     I: Interpreter + Drop,
     I::Cell: Drop,
     S: Stamp + Drop,
     W: Drop,
     R: Wait + Drop,
-    requires { parts.sink.published ≡ [] }
-    ensures { EndsBlocked I.meaning (S.stamp.is_date (S.stamp.meaning parts.stamp)) Shell
-        (sealing_by S.stamp parts.signer parts.stamp) parts.sink result.closed }
 {
-    let ChannelParts {
-        interp,
-        stamp,
-        signer,
-        sink,
-    } = parts;
-    let mut engine = Engine::new(Side::Shell, interp, sink, stamp, signer);
-    start(alloc, &mut engine);
-    let cause = serve(&rt, alloc, &mut engine, &lines);
-    let closed = close(engine);
-    let _ = lines.ended.send(&rt, ());
-    tell_end(&rt, &lines.control);
-    drop(lines);
-    Ended {
-        closed,
-        restart: cause.restart(),
+    /// Publishes that the kernel starts, and does the jobs of its inbox one after the other. It goes on until it is
+    /// told to end, a request asks for the end, all ids were given, or nobody is left who could tell it anything. Then
+    /// it closes, and tells control.
+    pub fn run(self, rt: R, alloc: Global) -> Ended<W>
+        ensures { EndsBlocked I.meaning S.stamp self.engine result.closed }
+    {
+        let ShellWorker {
+            mut engine,
+            inbox,
+            flags,
+            ended,
+            control,
+        } = self;
+        start(alloc, &mut engine);
+        let cause = work(&rt, alloc, &mut engine, &inbox, &flags);
+        // Others see that the kernel is to end before the close is published, which may have to wait for the relay.
+        let is_told = flags.is_ending();
+        flags.end();
+        let closed = close(engine);
+        drop(inbox);
+        drop(ended);
+        drop(flags);
+        if !is_told {
+            tell_end(&rt, &control);
+        }
+        drop(control);
+        Ended { closed, cause }
     }
 }
 
-/// Publishes that the kernel starts. Where memory is refused it isn't published, and shell goes on.
+impl<I, S, W, R> ShellWorker<I, S, W, R>
+where
+    I: Interpreter + Drop + Send + 'static,
+    I::Cell: Drop + Send + 'static,
+    S: Stamp + Drop + Send + 'static,
+    W: Drop + Send + 'static,
+    R: Threads + Wait + Copy + Send + Sync + Drop + 'static,
+{
+    /// Runs it in a thread of its own, with the stack that the system gives a thread. What takes the most of one is
+    /// JSON that nests as deep as may be, 127 deep: 96 KiB. None if no thread can be made; then the worker is dropped.
+    pub fn spawn(
+        self,
+        rt: R,
+        alloc: Global,
+    ) -> Option<PromisedHandle<Ended<W>, ClosesBlocked<I, S, W, R>>>
+        ensures { IfSome result (λ handle. handle.promise.engine.value ≡ self.engine) }
+    {
+        let promise = ClosesBlocked {
+            engine: Snapshot::of(&self.engine),
+        };
+        match thread::spawn_with(&rt, promise, move || self.run(rt, alloc)) {
+            Ok(handle) => Some(handle),
+            Err(refused) => {
+                drop(refused);
+                None
+            }
+        }
+    }
+}
+
+/// Publishes that the kernel starts. If memory is refused it isn't published, and shell goes on.
 fn start<I, S, W, R>(alloc: Global, engine: &mut Engine<I, Waking<Event<W>, R>, S, W>)
 where
     I: Interpreter,
@@ -87,62 +122,41 @@ where
     drop(engine.start(alloc));
 }
 
-/// Does the jobs of the inbox, until something ends that.
-fn serve<I, S, W, R>(
-    rt: &R,
-    alloc: Global,
-    engine: &mut Engine<I, Waking<Event<W>, R>, S, W>,
-    lines: &ShellLines,
-) -> Cause
-where
-    I: Interpreter,
-    S: Stamp,
-    W: Drop,
-    R: Wait,
-    ensures { IsSameEngine S.stamp engine.old engine.new }
-{
-    for _ in rt.forever() {
-        match next_job(rt, &lines.inbox) {
-            Some(job) => {
-                if let Some(cause) = do_job(rt, alloc, engine, job, &lines.flags) {
-                    return cause;
-                }
-            }
-            None => return Cause::Told,
+/// Shell leaves a message undone that it begins once its end was asked for. A cell that runs is interrupted by the
+/// flags.
+impl Answering for Flags {
+    ghost may_leave = { Unit };
+
+    ghost may_ask = { Unit };
+
+    fn is_over(&self) -> bool {
+        self.is_ending()
+    }
+
+    fn answer<I, S, W, R>(
+        &self,
+        rt: &R,
+        alloc: Global,
+        engine: &mut Engine<I, Waking<Event<W>, R>, S, W>,
+        frames: Frames,
+        to: &Sender<Frames>,
+    ) -> Option<Cause>
+    where
+        I: Interpreter,
+        S: Stamp,
+        W: Drop,
+        R: Wait,
+    {
+        if self.may_begin() {
+            return take(rt, alloc, engine, frames, to, self);
         }
+        drop(frames);
+        None
     }
-    unreachable!()
 }
 
-/// Does a job. One that begins once the end was asked for is dropped.
-fn do_job<I, S, W, R>(
-    rt: &R,
-    alloc: Global,
-    engine: &mut Engine<I, Waking<Event<W>, R>, S, W>,
-    job: Job,
-    flags: &Flags,
-) -> Option<Cause>
-where
-    I: Interpreter,
-    S: Stamp,
-    W: Drop,
-    R: Wait,
-    ensures does { DoesJob (world_of I.meaning publisher_sink S.stamp) Unit job.frames engine.old result
-        engine.new }
-    ensures same { IsSameEngine S.stamp engine.old engine.new }
-{
-    if !flags.may_begin() {
-        drop(job);
-        return None;
-    }
-    let Job { frames, reply } = job;
-    let cause = answer(rt, alloc, engine, frames, &reply, flags);
-    drop(reply);
-    cause
-}
-
-/// Takes the frames of a job, and sends the reply.
-fn answer<I, S, W, R>(
+/// Takes the frames of a message, and sends the reply.
+fn take<I, S, W, R>(
     rt: &R,
     alloc: Global,
     engine: &mut Engine<I, Waking<Event<W>, R>, S, W>,

@@ -8,7 +8,7 @@ use iopub_queue::{Closed, Publish, Publisher, Refused};
 use std::marker::Model;
 use std::sync::Wait;
 
-/// A publisher that wakes the relay's worker behind each publication, and behind its close. A contract sees the
+/// A publisher that wakes the relay's worker after each publication, and after its close. A contract sees the
 /// publisher.
 #[derive(Drop)]
 pub struct Waking<T, R> {
@@ -36,7 +36,7 @@ impl<T, R> Waking<T, R> {
 }
 
 impl<T: Drop, R: Wait + Drop> Waking<T, R> {
-    /// Publishes the close, behind all that this publisher published, and wakes the relay's worker. Needs no memory.
+    /// Publishes the close, after all that this publisher published, and wakes the relay's worker. Needs no memory.
     pub fn close(self) -> Closed<T>
         ensures { Adds self None result }
     {

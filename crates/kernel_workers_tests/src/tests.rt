@@ -2,10 +2,11 @@
 //! by.
 
 mod control;
-mod door;
+mod credit;
 mod long;
 mod running;
 mod shell;
+mod subscriptions;
 
 ghost use Rattle.std.specs.Prelude.{◌≡◌, [], IfOk};
 
@@ -15,7 +16,8 @@ use crossbeam_utils::sync::{Parker, Unparker};
 use iopub_event::Event;
 use iopub_queue::{Taken, Taker, open_queue};
 use jmsg_envelope::{Signer, Stamp};
-use kernel_workers::{ChannelParts, Job, Note, Waking};
+use kernel_engine::{Engine, Side};
+use kernel_workers::{Job, Note, Waking};
 use listed::Frames;
 use std::alloc::{AllocError, Global};
 use std::process::Abort;
@@ -61,8 +63,8 @@ struct Queue<R> {
     shell: Waking<Event<()>, R>,
     /// The publisher of control.
     control: Waking<Event<()>, R>,
-    /// The publisher of the door.
-    door: Waking<Event<()>, R>,
+    /// The publisher of subscriptions.
+    subscriptions: Waking<Event<()>, R>,
     /// What takes.
     taker: Taker<Event<()>, R>,
     /// What the taker sleeps on.
@@ -79,13 +81,13 @@ impl<R: Wait + Copy + Drop> Queue<R> {
     /// A queue of three publishers and so many places.
     fn open(rt: &R, alloc: Global, capacity: usize) -> Result<Queue<R>, Fail>
         ensures { IfOk result (λ queue. (queue.shell.published ≡ []) × (queue.control.published ≡ [])
-            × (queue.door.published ≡ [])) }
+            × (queue.subscriptions.published ≡ [])) }
     {
         let parker = Parker::new(alloc)?;
-        let (wakes_for_shell, wakes_for_control, wakes_for_door) = unparkers_of(&parker)?;
+        let (wakes_for_shell, wakes_for_control, wakes_for_subscriptions) = unparkers_of(&parker)?;
         let (publishers, taker) = open_queue(rt, alloc, 3, capacity)?;
         let mut publishers = publishers.into_iter();
-        let (Some(shell), Some(control), Some(door)) = (
+        let (Some(shell), Some(control), Some(subscriptions)) = (
             publishers.next(),
             publishers.next(),
             publishers.next(),
@@ -95,32 +97,28 @@ impl<R: Wait + Copy + Drop> Queue<R> {
         Ok(Queue {
             shell: Waking::new(shell, wakes_for_shell),
             control: Waking::new(control, wakes_for_control),
-            door: Waking::new(door, wakes_for_door),
+            subscriptions: Waking::new(subscriptions, wakes_for_subscriptions),
             taker,
             parker,
         })
     }
 }
 
-/// What a worker that publishes by a sink owns: arithmetic, and no key.
-fn arith_parts<R>(
-    alloc: Global,
-    sink: Waking<Event<()>, R>,
-) -> ChannelParts<ShellArith, OneDate, (), R>
-    ensures { result.sink ≡ sink }
+/// What handles the requests of a worker that publishes by a sink.
+type ArithEngine<R> = Engine<ShellArith, Waking<Event<()>, R>, OneDate, ()>;
+
+/// An engine of a channel that publishes by a sink: arithmetic, and no key.
+fn arith_engine<R: Wait>(alloc: Global, side: Side, sink: Waking<Event<()>, R>) -> ArithEngine<R>
+    requires { sink.published ≡ [] }
 {
-    ChannelParts {
-        interp: ShellArith::new(alloc),
-        stamp: OneDate,
-        signer: Signer::new(Vec::new(alloc)),
-        sink,
-    }
+    let signer = Signer::new(Vec::new(alloc));
+    Engine::new(side, ShellArith::new(alloc), sink, OneDate, signer)
 }
 
 /// What was taken, each as a text: its publisher's number, and its frames or what else it is.
 type Seen = Vec<String>;
 
-/// What was published, as a text behind its publisher's number.
+/// What was published, as a text after its publisher's number.
 fn text_of(alloc: Global, number: usize, event: &Event<()>) -> Result<String, Fail> {
     match event {
         Event::Message(frames) => Ok(format!(in alloc;
@@ -144,7 +142,7 @@ fn see(alloc: Global, taken: Taken<Event<()>>, seen: &mut Seen) -> Result<(), Fa
     Ok(())
 }
 
-/// Takes all that the three publishers publish, and sleeps where nothing waits.
+/// Takes all that the three publishers publish, and sleeps if nothing waits.
 fn take_all<R: Wait>(
     rt: &R,
     alloc: Global,
@@ -174,7 +172,7 @@ fn frames_text(alloc: Global, frames: &Frames) -> Result<String, Fail> {
     Ok(String::from_utf8(octets)?)
 }
 
-/// A message behind what stands before its delimiter: its type, the number of its id, and its content, with a request
+/// A message after what stands before its delimiter: its type, the number of its id, and its content, with a request
 /// of a type as its parent.
 fn due_text(
     alloc: Global,
@@ -186,7 +184,7 @@ fn due_text(
     due_message(alloc, front, due, parent.as_str())
 }
 
-/// A message behind what stands before its delimiter: its type, the number of its id, and its content, with this header
+/// A message after what stands before its delimiter: its type, the number of its id, and its content, with this header
 /// as its parent.
 fn due_message(
     alloc: Global,
@@ -229,8 +227,9 @@ fn put<R: Wait>(
     let job = Job {
         frames: Frames::new(frames),
         reply: replies.clone()?,
+        credit: None,
     };
-    inbox.send(rt, Note::Job(job))?;
+    inbox.send(rt, Note::Item(job))?;
     Ok(())
 }
 

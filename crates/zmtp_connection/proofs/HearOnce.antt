@@ -16,8 +16,8 @@ use Rattle.zmtp_wire.specs.Traffic.{is_error}
 use Rattle.zmtp_connection.specs.declared.end.ConnectionEnd.{ConnectionEnd}
 use Rattle.zmtp_connection.specs.declared.end.ConnectionEnd.TheVariants.{Eof, Failed, Wire}
 use Rattle.zmtp_connection.specs.Peer.{BeginsWithError, ComesFirst, EndsAs, EndsBehind, IsCalm, IsTurnedAway, Says}
-use Rattle.zmtp_connection.specs.Laws.{EndStays, HearsOnce, MetOrTurnedAway}
-use Rattle.zmtp_connection.proofs.MetLemmas.{take_more, drop_more, greeted_more, first_more, met_more}
+use Rattle.zmtp_connection.specs.Laws.{EndStays, HearsOnce, OpenOrTurnedAway}
+use Rattle.zmtp_connection.proofs.OpenLemmas.{take_more, drop_more, greeted_more, first_more, open_more}
 
 -- the laws of the layer below
 pub record Laws : Type 0 where
@@ -210,19 +210,20 @@ away_once laws ours octets opening other ending end (inr (inr (inr first))) (inr
     let fault : first.fault ≡ second.fault = cc in
     (first.greeted.greets ∙ sym second.greeted.greets, first.ends ∙ ap Wire fault ∙ sym second.ends)
 
--- a peer that is met isn't turned away
-pub met_away : Laws → MetOrTurnedAway
-met_away laws ours octets opening other peer behind end met (inl away) = let a = away.short in let b =
-    met.greeted.whole in absurd (omega arith)
-met_away laws ours octets opening other peer behind end met (inr (inl away)) =
-    refused_greeting (take 64 octets) away.fault away.refused met.greeted.accepted
-met_away laws ours octets opening other peer behind end met (inr (inr (inl away))) =
-    no_first laws octets met.first behind end met.comes away.ends
-met_away laws ours octets opening other peer behind end met (inr (inr (inr away))) =
-    let (same, rest) = first_once laws octets met.first away.first behind away.behind met.comes away.comes in
-    let refused : IsReady met.first ours (Err away.fault) =
+-- a peer that is open isn't turned away
+pub open_away : Laws → OpenOrTurnedAway
+open_away laws ours octets opening other peer behind end is_open (inl away) = let a = away.short in let b =
+    is_open.greeted.whole in absurd (omega arith)
+open_away laws ours octets opening other peer behind end is_open (inr (inl away)) =
+    refused_greeting (take 64 octets) away.fault away.refused is_open.greeted.accepted
+open_away laws ours octets opening other peer behind end is_open (inr (inr (inl away))) =
+    no_first laws octets is_open.first behind end is_open.comes away.ends
+open_away laws ours octets opening other peer behind end is_open (inr (inr (inr away))) =
+    let (same, rest) = first_once laws octets is_open.first away.first behind away.behind is_open.comes away.comes in
+    let refused : IsReady is_open.first ours (Err away.fault) =
     subst (λ t. IsReady t ours (Err away.fault)) (sym same) away.refused in
-    let outcome = laws.ready met.first ours (Ok (record { peer = peer })) (Err away.fault) met.accepted refused in
+    let outcome = laws.ready is_open.first ours (Ok (record { peer = peer })) (Err away.fault) is_open.accepted
+    refused in
     absurd cc
 
 pub hears_once : Laws → HearsOnce
@@ -230,15 +231,15 @@ hears_once laws ours octets opening other traffic others ending end (inl (first,
     let (same, ends) = away_once laws ours octets opening other ending end first second in
     (same, none ∙ sym nothing, ends)
 hears_once laws ours octets opening other traffic others ending end (inl (first, none)) (inr second) =
-    absurd (met_away laws ours octets other opening second.peer second.behind ending second.met first)
+    absurd (open_away laws ours octets other opening second.peer second.behind ending second.is_open first)
 hears_once laws ours octets opening other traffic others ending end (inr first) (inl (second, none)) =
-    absurd (met_away laws ours octets opening other first.peer first.behind end first.met second)
+    absurd (open_away laws ours octets opening other first.peer first.behind end first.is_open second)
 hears_once laws ours octets opening other traffic others ending end (inr first) (inr second) =
-    let (same, rest) = first_once laws octets first.met.first second.met.first first.behind second.behind
-    first.met.comes second.met.comes in
+    let (same, rest) = first_once laws octets first.is_open.first second.is_open.first first.behind second.behind
+    first.is_open.comes second.is_open.comes in
     let (said, ends) = says_once laws first.behind traffic others ending end first.says
     (subst (λ o. Says o others end) (sym rest) second.says) in
-    (first.met.greeted.greets ∙ sym second.met.greeted.greets, said, ends)
+    (first.is_open.greeted.greets ∙ sym second.is_open.greeted.greets, said, ends)
 
 -- traffic and its rest, with more behind
 pub reads_more : (octets after : List ℕ) (traffic : List Traffic) (rest : List ℕ)
@@ -302,7 +303,7 @@ end_stays laws ours octets after opening traffic ending ended (inl (away, none))
 end_stays laws ours octets after opening traffic ending ended (inr heard) = inr (record {
   peer = heard.peer;
   behind = heard.behind ++ after;
-  met = met_more ours octets after opening heard.peer heard.behind heard.met;
+  is_open = open_more ours octets after opening heard.peer heard.behind heard.is_open;
   says = record {
     rest = heard.says.rest ++ after;
     read = reads_more heard.behind after traffic heard.says.rest heard.says.read;

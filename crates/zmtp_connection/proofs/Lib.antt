@@ -5,7 +5,7 @@ pub mod HearOnce
 pub mod IntakeLemmas
 pub mod Legs
 pub mod ListenLemmas
-pub mod MetLemmas
+pub mod OpenLemmas
 pub mod Opening
 pub mod PromptLemmas
 pub mod RespondLemmas

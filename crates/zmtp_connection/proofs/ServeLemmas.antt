@@ -15,11 +15,11 @@ use Rattle.zmtp_connection.specs.Ending.{of_connection}
 use Rattle.zmtp_connection.specs.Peer.{BeginsWith}
 use Rattle.zmtp_connection.specs.Exchange.{Devices, Exchange, Leg, Source, failed_writes_of}
 use Rattle.zmtp_connection.specs.Steps.{IsPrompt, TurnsAway}
-use Rattle.zmtp_connection.specs.Open.{Meets, Open}
+use Rattle.zmtp_connection.specs.Open.{ShakesHands, Open}
 use Rattle.zmtp_connection.specs.Server.{Answering, IsLast, ServesPeer, Serving}
 use Rattle.zmtp_connection.specs.Respond.{ConversesOn}
 use Rattle.zmtp_connection.proofs.Legs.{leg_on, reading_of_on, puts_on}
-use Rattle.zmtp_connection.proofs.MetLemmas.{met_more}
+use Rattle.zmtp_connection.proofs.OpenLemmas.{open_more}
 use Rattle.zmtp_connection.proofs.PromptLemmas.{prompt_on}
 
 -- what stands behind traffic that was read is no longer than all of it
@@ -85,12 +85,13 @@ prompt_all answers now traffic rest replies written new ending out one two three
     leg first (inr prompt) =
     prompt_on one two three octets more last.comes.behind leg prompt
 
--- a peer was met, and responded to
-pub serve_met : {Server End : Type 0} (dropped : Bool) (answers : Answering Server End) (ours : SocketType)
-    (old new : Server) (peer : Open) (one two three : Devices) (ending : Ending End) (meets : Meets ours one two peer)
+-- a peer was open, and responded to
+pub serve_open : {Server End : Type 0} (dropped : Bool) (answers : Answering Server End) (ours : SocketType)
+    (old new : Server) (peer : Open) (one two three : Devices) (ending : Ending End)
+    (meets : ShakesHands ours one two peer)
     → ConversesOn dropped answers old meets.behind two three new ending
     → ServesPeer dropped answers ours old one three new ending
-serve_met dropped answers ours old new peer one two three ending meets said =
+serve_open dropped answers ours old new peer one two three ending meets said =
     let e = said.exchange in
     let talk = e.outcome in
     record {
@@ -106,7 +107,7 @@ serve_met dropped answers ours old new peer one two three ending meets said =
           peer = peer.socket;
           behind = meets.behind ++ e.read;
           replies = e.written;
-          met = met_more ours meets.read e.read meets.written peer.socket meets.behind meets.met;
+          is_open = open_more ours meets.read e.read meets.written peer.socket meets.behind meets.is_open;
           converses = talk;
           all = refl;
         });
@@ -116,7 +117,7 @@ serve_met dropped answers ours old new peer one two three ending meets said =
           meets.behind e.read talk.ends talk.read meets.leg meets.prompt said.prompt;
     }
 
--- a peer wasn't met
+-- a peer wasn't open
 pub serve_away : {Server End : Type 0} (answers : Answering Server End) (ours : SocketType) (old : Server)
     (one two : Devices) (end : ConnectionEnd) → Exchange (TurnsAway ours end) one two (Some end)
     → ServesPeer false answers ours old one two old (Connection end)

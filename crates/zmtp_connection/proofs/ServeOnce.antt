@@ -21,7 +21,7 @@ use Rattle.zmtp_connection.specs.Server.{Answering, AnswersAll, Converses, GoesO
 use Rattle.zmtp_connection.specs.Server.{marked}
 use Rattle.zmtp_connection.specs.Laws.{IsDone, IsFunction, IsSettled, IsSettledBy, ServesOnce}
 use Rattle.zmtp_connection.proofs.HearOnce.{Laws, ends_without, no_more, calm_behind, behind_once, away_once}
-use Rattle.zmtp_connection.proofs.HearOnce.{first_once, met_away}
+use Rattle.zmtp_connection.proofs.HearOnce.{first_once, open_away}
 
 -- one step
 step_once : {Server End : Type 0} (settles : End → Bool) (answers : Answering Server End) → IsFunction settles answers
@@ -76,9 +76,9 @@ all_once settles answers once old one other (first ∷ items) replies also
     back
     (Ok answered) (Ok did) (unmarked settles old.dropped answered middle.dropped mark calm).1
     (unmarked settles old.dropped did between.dropped marks quiet).1 step took in
-    let met : middle ≡ between = same_serving middle between state (calm ∙ sym quiet) in
+    let is_open : middle ≡ between = same_serving middle between state (calm ∙ sym quiet) in
     let (rests, new) = all_once settles answers once middle one other items later others rest
-    (subst (λ s. AnswersAll (GoesOn answers) s items others other) (sym met) more) kept stays in (
+    (subst (λ s. AnswersAll (GoesOn answers) s items others other) (sym is_open) more) kept stays in (
       is ∙ ap (λ o. o ++ later) replied ∙ ap (λ o. back ++ o) rests ∙ sym same,
       new,
     )
@@ -370,20 +370,21 @@ serves_once laws answers settles once ours old one other octets written also end
     (wrote, stays ∙ sym keeps, is ∙ ap Connection ends ∙ sym same)
 serves_once laws answers settles once ours old one other octets written also ending end settled quiet
     (inl (out, is, away, stays, none)) (inr served) =
-    absurd (met_away laws ours octets served.opening written served.peer served.behind out served.met
+    absurd (open_away laws ours octets served.opening written served.peer served.behind out served.is_open
     (away_settled ours octets written out (subst (IsSettledBy settles) is settled) away))
 serves_once laws answers settles once ours old one other octets written also ending end settled quiet
     (inr served) (inl (over, same, gone, keeps, nothing)) =
-    absurd (met_away laws ours octets served.opening also served.peer served.behind over served.met
+    absurd (open_away laws ours octets served.opening also served.peer served.behind over served.is_open
     (away_settled ours octets also over (subst (IsSettledBy settles) same quiet) gone))
 serves_once laws answers settles once ours old one other octets written also ending end settled quiet (inr served)
     (inr others) =
-    let (item, behind) = first_once laws octets served.met.first others.met.first served.behind others.behind
-    served.met.comes others.met.comes in
+    let (item, behind) = first_once laws octets served.is_open.first others.is_open.first served.behind others.behind
+    served.is_open.comes others.is_open.comes in
     let same = talk_once laws settles answers once old one other served.behind served.replies others.replies ending end
     settled quiet served.converses
     (subst (λ o. Talk answers old o others.replies other end) (sym behind) others.converses) in
-    let openings : served.opening ≡ others.opening = served.met.greeted.greets ∙ sym others.met.greeted.greets in (
+    let openings : served.opening ≡ others.opening =
+    served.is_open.greeted.greets ∙ sym others.is_open.greeted.greets in (
       served.all ∙ ap (λ o. o ++ served.replies) openings ∙ ap (λ o. others.opening ++ o) same.wrote ∙ sym others.all,
       same.server,
       same.ends,

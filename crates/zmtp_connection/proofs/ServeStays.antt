@@ -9,7 +9,7 @@ use Rattle.zmtp_connection.specs.Listen.{RunsOut}
 use Rattle.zmtp_connection.specs.Server.{Answering, Converses, IsLast, Serving}
 use Rattle.zmtp_connection.specs.Laws.{IsFinal, IsSettled, ServesOn}
 use Rattle.zmtp_connection.proofs.HearOnce.{Laws, away_more, ends_more, reads_more}
-use Rattle.zmtp_connection.proofs.MetLemmas.{met_more}
+use Rattle.zmtp_connection.proofs.OpenLemmas.{open_more}
 
 away_stays : Laws → (ours : SocketType) (octets after written : List ℕ) (end : ConnectionEnd) → IsSettled end
     → end ≢ Eof → TurnsAway ours end octets written → TurnsAway ours end (octets ++ after) written
@@ -81,7 +81,7 @@ serves_on laws answers ours old new octets after written ending final (inr serve
   peer = served.peer;
   behind = served.behind ++ after;
   replies = served.replies;
-  met = met_more ours octets after served.opening served.peer served.behind served.met;
+  is_open = open_more ours octets after served.opening served.peer served.behind served.is_open;
   converses = talk_stays laws answers old served.behind after served.replies new ending final served.converses;
   all = served.all;
 })

@@ -9,7 +9,7 @@ use Rattle.zmtp_wire.specs.declared.handshake.socket_type.SocketType.{SocketType
 use Rattle.zmtp_wire.specs.Limits.{usual_limits}
 use Rattle.zmtp_wire.specs.Grammar.{Spells, IsFaulty, IsUnfinished}
 use Rattle.zmtp_wire.specs.Greeting.{greeting_octets, IsGreeting, IsRefusedGreeting}
-use Rattle.zmtp_wire.specs.Ready.{IsReady, ready_octets}
+use Rattle.zmtp_wire.specs.Ready.{IsIdentity, IsReady, ready_octets}
 use Rattle.zmtp_wire.specs.Decoding.{Decoding, Feeds}
 use Rattle.zmtp_wire.specs.Device.{Outflow, Puts}
 use Rattle.zmtp_wire.specs.declared.traffic.decoder.Fed.{Fed}
@@ -19,8 +19,9 @@ use Rattle.zmtp_connection.specs.declared.end.ConnectionEnd.TheVariants.{Eof, Fa
 use Rattle.zmtp_connection.specs.declared.shaking.Unheard.{Unheard}
 use Rattle.zmtp_connection.specs.Peer.{IsGreeted, IsTurnedAway}
 use Rattle.zmtp_connection.specs.Exchange.{ComesToByEnd, Exchange, Leg, Reading, Source, failed_writes}
-use Rattle.zmtp_connection.specs.Steps.{BringsNothing, ComesLate, IsFed, IsPrompt, IsStop, PutsAll, TurnsAway, fresh}
-use Rattle.zmtp_connection.specs.Open.{IsLeft, Meets, Open}
+use Rattle.zmtp_connection.specs.Steps.{BringsNothing, ComesLate, IsFed, IsNotMet, IsPrompt, IsStop, PutsAll}
+use Rattle.zmtp_connection.specs.Steps.{TurnsAway, fresh}
+use Rattle.zmtp_connection.specs.Open.{IsLeft, ShakesHands, Open}
 use Rattle.zmtp_connection.proofs.Legs.{leg_none, leg_on, reading_on, decided, wire_decided, memory_decided}
 use Rattle.zmtp_connection.proofs.Legs.{write_decided, puts_on, over}
 use Rattle.zmtp_connection.proofs.PromptLemmas.{piece_needed, prompt_on}
@@ -294,15 +295,16 @@ ready_prompt old new octets first front behind late split spelled = record {
       (record { front = front; behind = behind; split = sym late.last.split ∙ split; spelled = spelled });
 }
 
--- the peer was met
-peer_met : (ours : SocketType) (one two three : Source) (before after : Outflow)
+-- the peer was open
+peer_open : (ours : SocketType) (one two three : Source) (before after : Outflow)
     (opening octets : List ℕ) (fed fed' : Fed) (decoder : Decoding) (first : Traffic) (peer : Open)
     → Opened ours one two before after opening → Leg two three octets
     → ComesLate two three octets → IsFed fed decoder octets → fed.traffic ≡ first ∷ fed'.traffic
     → fed'.fault ≡ fed.fault → peer.unheard ≡ Some (record { fed = fed'; decoder = decoder })
-    → IsReady first ours (Ok (record { peer = peer.socket })) → Meets ours (over one before) (over three after) peer
-peer_met ours one two three before after opening octets fed fed' decoder first peer o leg late
-    (feeds, limits) traffic_is fault_is unheard_is accepted =
+    → IsReady first ours (Ok (record { peer = peer.socket })) → IsIdentity first peer.identity
+    → ShakesHands ours (over one before) (over three after) peer
+peer_open ours one two three before after opening octets fed fed' decoder first peer o leg late
+    (feeds, limits) traffic_is fault_is unheard_is accepted identified =
     let feeds' : Feeds fresh octets (first ∷ fed'.traffic) fed'.fault decoder =
     subst (λ t. Feeds fresh octets t fed'.fault decoder) traffic_is
     (subst (λ f. Feeds fresh octets fed.traffic f decoder) (sym fault_is) feeds) in
@@ -313,12 +315,13 @@ peer_met ours one two three before after opening octets fed fed' decoder first p
       behind = s.behind;
       leg = leg_on one two three opening octets o.leg leg;
       puts = o.puts;
-      met = record {
+      is_open = record {
         greeted = greeted ours opening octets (greeting_octets ++ ready_octets ours) o.whole o.accepted refl;
         first = first;
         comes = record { front = s.front; split = behind_64 opening octets o.whole ∙ s.split; spelled = s.spelled };
         accepted = accepted;
       };
+      identified = identified;
       holds = (record { fed = fed'; decoder = decoder }, unheard_is, (s.feeds, limits));
       prompt = prompt_on one two three opening octets s.behind o.leg
           (ready_prompt two three octets first s.front s.behind late s.split s.spelled);
@@ -361,34 +364,57 @@ left_behind fed decoder first others (octets, (feeds, limits)) traffic_is =
     let s = split_first octets first others fed.fault decoder
     (subst (λ t. Feeds fresh octets t fed.fault decoder) traffic_is feeds) in (s.behind, (s.feeds, limits))
 
--- a peer whose READY was accepted was met
-pub judged_met : (result : Result Open ConnectionEnd) (ours : SocketType) (one two three : Source)
+-- a peer whose READY was accepted was open
+pub judged_open : (result : Result Open ConnectionEnd) (ours : SocketType) (one two three : Source)
     (before after : Outflow) (opening octets : List ℕ) (fed : Fed) (decoder : Decoding)
     → Opened ours one two before after opening → Leg two three octets
     → ComesLate two three octets → IsFed fed decoder octets
     → IfOk result (λ peer. (first : Traffic) × (unheard : Unheard) × (peer.unheard ≡ Some unheard)
     × (fed.traffic ≡ first ∷ unheard.fed.traffic) × (unheard.fed.fault ≡ fed.fault) × (unheard.decoder ≡ decoder)
-    × IsReady first ours (Ok (record { peer = peer.socket })))
-    → IfOk result (λ peer. Meets ours (over one before) (over three after) peer)
-judged_met (Err end) ours one two three before after opening octets fed decoder o leg late is judged
+    × IsReady first ours (Ok (record { peer = peer.socket })) × IsIdentity first peer.identity)
+    → IfOk result (λ peer. ShakesHands ours (over one before) (over three after) peer)
+judged_open (Err end) ours one two three before after opening octets fed decoder o leg late is judged
     = tt
-judged_met (Ok peer) ours one two three before after opening octets fed decoder o leg late is
-    (first, unheard, unheard_is, traffic_is, fault_is, decoder_is, accepted) =
-    peer_met ours one two three before after opening octets fed unheard.fed decoder first peer
+judged_open (Ok peer) ours one two three before after opening octets fed decoder o leg late is
+    (first, unheard, unheard_is, traffic_is, fault_is, decoder_is, accepted, identified) =
+    peer_open ours one two three before after opening octets fed unheard.fed decoder first peer
     o leg late is traffic_is fault_is
     (unheard_is ∙ ap (λ (d : Decoding). Some (record { fed = unheard.fed; decoder = d })) decoder_is) accepted
+    identified
 
--- a peer whose READY was refused was turned away
+-- there was no memory for what the peer's READY says
+peer_forgotten : (ours : SocketType) (one two three : Source) (before after : Outflow) (opening octets : List ℕ)
+    → Opened ours one two before after opening → Leg two three octets
+    → Exchange (TurnsAway ours (Failed Memory)) (over one before) (over three after) (Some (Failed Memory))
+peer_forgotten ours one two three before after opening octets o leg = record {
+  read = opening ++ octets;
+  written = greeting_octets ++ ready_octets ours;
+  reading = decided one three (opening ++ octets) (Failed Memory) memory_decided
+      (leg_on one two three opening octets o.leg leg);
+  puts = o.puts;
+  outcome = record {
+    front = opening ++ [];
+    behind = octets;
+    split = ap (λ o. o ++ octets) (sym (append-nil opening));
+    so_far = not_ready ours opening [] (greeting_octets ++ ready_octets ours) o.whole o.accepted refl
+        (nothing_unfinished usual_limits);
+  };
+}
+
+-- a peer that wasn't met was turned away
 pub judged_refused : (result : Result Open ConnectionEnd) (ours : SocketType) (one two three : Source)
     (before after : Outflow) (opening octets : List ℕ) (fed : Fed) (decoder : Decoding)
     → Opened ours one two before after opening → Leg two three octets
     → IsFed fed decoder octets
-    → IfErr result (λ end. (first : Traffic) × (others : List Traffic) × (fault : WireFault)
-    × (fed.traffic ≡ first ∷ others) × IsReady first ours (Err fault) × (end ≡ Wire fault))
+    → IfErr result (λ end. (first : Traffic) × (others : List Traffic) × (fed.traffic ≡ first ∷ others)
+    × IsNotMet ours first end)
     → IfErr result (λ end. Exchange (TurnsAway ours end) (over one before) (over three after) (Some end))
 judged_refused (Ok peer) ours one two three before after opening octets fed decoder o leg is
     judged = tt
 judged_refused (Err end) ours one two three before after opening octets fed decoder o leg is
-    (first, others, fault, traffic_is, refused, end_is) = rw end_is
+    (first, others, traffic_is, inl (fault, end_is, refused)) = rw end_is
     (peer_refused ours one two three before after opening octets fed decoder first others fault o leg
     is traffic_is refused)
+judged_refused (Err end) ours one two three before after opening octets fed decoder o leg is
+    (first, others, traffic_is, inr end_is) = rw end_is
+    (peer_forgotten ours one two three before after opening octets o leg)

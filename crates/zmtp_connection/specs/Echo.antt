@@ -15,7 +15,7 @@ use Rattle.zmtp_connection.specs.declared.server.Answered.TheVariants.{Done, Dro
 use Rattle.zmtp_connection.specs.declared.fault.ConnectionFault.TheVariants.{Memory, Write}
 use Rattle.zmtp_connection.specs.declared.end.ConnectionEnd.{ConnectionEnd}
 use Rattle.zmtp_connection.specs.declared.end.ConnectionEnd.TheVariants.{Failed}
-use Rattle.zmtp_connection.specs.Peer.{IsCalm, BeginsWith, IsMet}
+use Rattle.zmtp_connection.specs.Peer.{IsCalm, BeginsWith, IsOpenPeer}
 use Rattle.zmtp_connection.specs.Listen.{RunsOut}
 use Rattle.zmtp_connection.specs.Server.{BreaksIn}
 use Rattle.zmtp_connection.specs.Steps.{TurnsAway}
@@ -41,12 +41,12 @@ pub record IsCutShort (opening : List ℕ) (traffic : List Traffic) (rest writte
   pub how : ((end ≡ Failed Memory) × (written ≡ opening ++ flat_map echo_of traffic))
       ⊎ ((end ≡ Failed Write) × BreaksIn (opening ++ flat_map echo_of traffic) (echo_of last) written)
 
--- A peer was met, and each of its messages came back whole, behind what opens the connection.
+-- A peer was open, and each of its messages came back whole, behind what opens the connection.
 pub record IsEchoed (octets written : List ℕ) (end : ConnectionEnd) : Type 0 where
   pub opening : List ℕ
   pub peer : SocketType
   pub behind : List ℕ
-  pub met : IsMet Rep octets opening peer behind
+  pub is_open : IsOpenPeer Rep octets opening peer behind
   pub traffic : List Traffic
   pub rest : List ℕ
   pub read : ReadsUpTo usual_limits behind traffic rest

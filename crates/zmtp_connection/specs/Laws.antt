@@ -10,7 +10,7 @@ use Rattle.zmtp_connection.specs.declared.end.Ending.{Ending}
 use Rattle.zmtp_connection.specs.declared.end.Ending.TheVariants.{Connection, Host}
 use Rattle.zmtp_connection.specs.declared.server.Answered.{Answered}
 use Rattle.zmtp_connection.specs.declared.server.Answered.TheVariants.{Done, Dropped}
-use Rattle.zmtp_connection.specs.Peer.{IsMet, IsTurnedAway, Hears}
+use Rattle.zmtp_connection.specs.Peer.{IsOpenPeer, IsTurnedAway, Hears}
 use Rattle.zmtp_connection.specs.Server.{Answering, Serves}
 
 -- what is heard of a peer has one value: what opens the connection, the traffic and the end
@@ -27,11 +27,11 @@ EndStays =
     (ours : SocketType) (octets after opening : List ℕ) (traffic : List Traffic) (ending : ConnectionEnd)
     → ending ≢ Eof → Hears ours octets opening traffic ending → Hears ours (octets ++ after) opening traffic ending
 
--- no peer is both met and turned away
-abbrev pub MetOrTurnedAway : Type 0
-MetOrTurnedAway =
+-- no peer is both open and turned away
+abbrev pub OpenOrTurnedAway : Type 0
+OpenOrTurnedAway =
     (ours : SocketType) (octets opening other : List ℕ) (peer : SocketType) (behind : List ℕ) (ending : ConnectionEnd)
-    → IsMet ours octets opening peer behind → IsTurnedAway ours octets other ending → ⊥
+    → IsOpenPeer ours octets opening peer behind → IsTurnedAway ours octets other ending → ⊥
 
 -- what the peer sent ended the connection, and neither memory nor a device did
 abbrev pub IsSettled : ConnectionEnd → Type 0

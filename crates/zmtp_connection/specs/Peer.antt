@@ -1,4 +1,4 @@
--- What is heard of a peer: whether it is met, which traffic it sends, and how its octets end the connection.
+-- What is heard of a peer: whether it is open, which traffic it sends, and how its octets end the connection.
 use Rattle.std.specs.Prelude.{◌≡◌, ◌⊎◌, ℕ, ◌<◌, ◌≤◌, List, [], ◌∷◌, ◌++◌, length, take, drop, true, false, Ok}
 use Rattle.std.specs.Prelude.{Err, ⊤}
 use Rattle.zmtp_wire.specs.declared.fault.WireFault.{WireFault}
@@ -88,25 +88,25 @@ pub record IsNotPaired (ours : SocketType) (octets opening : List ℕ) (ending :
   pub refused : IsReady first ours (Err fault)
   pub ends : ending ≡ Wire fault
 
--- The peer isn't met: what is written to it by then, and how its octets end the connection.
+-- The peer isn't open: what is written to it by then, and how its octets end the connection.
 abbrev pub IsTurnedAway : SocketType → List ℕ → List ℕ → ConnectionEnd → Type 0
 IsTurnedAway ours octets opening ending =
     IsSilent octets opening ending ⊎ (IsNotGreeted octets opening ending
     ⊎ (IsNotReady ours octets opening ending ⊎ IsNotPaired ours octets opening ending))
 
--- The peer is met: its greeting and its READY are accepted, and these octets stand behind its READY.
-pub record IsMet (ours : SocketType) (octets opening : List ℕ) (peer : SocketType) (behind : List ℕ) : Type 0 where
+-- The peer is open: its greeting and its READY are accepted, and these octets stand behind its READY.
+pub record IsOpenPeer (ours : SocketType) (octets opening : List ℕ) (peer : SocketType) (behind : List ℕ) : Type 0 where
   pub greeted : IsGreeted ours octets opening
   pub first : Traffic
   pub comes : ComesFirst octets first behind
   pub accepted : IsReady first ours (Ok (record { peer = peer }))
 
--- a peer that is met says this traffic
+-- a peer that is open says this traffic
 pub record IsListenedTo (ours : SocketType) (octets opening : List ℕ) (traffic : List Traffic) (ending : ConnectionEnd)
     : Type 0 where
   pub peer : SocketType
   pub behind : List ℕ
-  pub met : IsMet ours octets opening peer behind
+  pub is_open : IsOpenPeer ours octets opening peer behind
   pub says : Says behind traffic ending
 
 -- What is heard of a peer that sends these octets: what opens the connection to it, which traffic it sends up to a

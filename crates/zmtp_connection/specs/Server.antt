@@ -17,7 +17,7 @@ use Rattle.zmtp_connection.specs.declared.end.ConnectionEnd.TheVariants.{Failed}
 use Rattle.zmtp_connection.specs.declared.end.Ending.{Ending}
 use Rattle.zmtp_connection.specs.declared.end.Ending.TheVariants.{Connection, Host}
 use Rattle.zmtp_connection.specs.Ending.{of_connection}
-use Rattle.zmtp_connection.specs.Peer.{IsCalm, BeginsWith, IsMet}
+use Rattle.zmtp_connection.specs.Peer.{IsCalm, BeginsWith, IsOpenPeer}
 use Rattle.zmtp_connection.specs.Exchange.{Devices, Exchange}
 use Rattle.zmtp_connection.specs.Listen.{RunsOut}
 use Rattle.zmtp_connection.specs.Steps.{TurnsAway, IsPrompt}
@@ -100,14 +100,14 @@ pub record Converses {Server End : Type 0} (dropped : Bool) (answers : Answering
       × (now ≡ record { server = new; dropped = dropped }))
       ⊎ IsLast answers now rest replies written (record { server = new; dropped = dropped }) ending
 
--- A peer was met, and what it says came to this with a server, behind what opens the connection.
+-- A peer was open, and what it says came to this with a server, behind what opens the connection.
 pub record IsServed {Server End : Type 0} (dropped : Bool) (answers : Answering Server End) (ours : SocketType)
     (old : Server) (octets written : List ℕ) (new : Server) (ending : Ending End) : Type 0 where
   pub opening : List ℕ
   pub peer : SocketType
   pub behind : List ℕ
   pub replies : List ℕ
-  pub met : IsMet ours octets opening peer behind
+  pub is_open : IsOpenPeer ours octets opening peer behind
   pub converses : Converses dropped answers old behind replies new ending
   pub all : written ≡ opening ++ replies
 

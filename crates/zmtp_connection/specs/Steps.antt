@@ -3,12 +3,14 @@ use Rattle.std.specs.Prelude.{◌≡◌, ◌⊎◌, ℕ, ◌+◌, ◌<◌, List,
 use Rattle.zmtp_wire.specs.declared.fault.WireFault.{WireFault}
 use Rattle.zmtp_wire.specs.declared.fault.WireFault.TheVariants.{OutOfMemory}
 use Rattle.zmtp_wire.specs.declared.handshake.socket_type.SocketType.{SocketType}
+use Rattle.zmtp_wire.specs.declared.traffic.Traffic.{Traffic}
 use Rattle.zmtp_wire.specs.declared.traffic.decoder.Fed.{Fed}
 use Rattle.zmtp_wire.specs.Limits.{usual_limits}
 use Rattle.zmtp_wire.specs.Grammar.{HasNoTraffic, IsFaulty, IsUnfinished}
 use Rattle.zmtp_wire.specs.Decoding.{Decoding, Feeds}
 use Rattle.zmtp_wire.specs.Device.{Outflow, Puts}
-use Rattle.zmtp_connection.specs.declared.fault.ConnectionFault.TheVariants.{Read, Write, Turns}
+use Rattle.zmtp_wire.specs.Ready.{IsReady}
+use Rattle.zmtp_connection.specs.declared.fault.ConnectionFault.TheVariants.{Memory, Read, Write, Turns}
 use Rattle.zmtp_connection.specs.declared.end.ConnectionEnd.{ConnectionEnd}
 use Rattle.zmtp_connection.specs.declared.end.ConnectionEnd.TheVariants.{Eof, Wire, Failed}
 use Rattle.zmtp_connection.specs.Peer.{IsTurnedAway}
@@ -47,7 +49,7 @@ PutsAll before after octets (Ok done) = Puts before after octets 0
 PutsAll before after octets (Err end) = (end ≡ Failed Write)
     × ((front : List ℕ) × (lost : List ℕ) × (octets ≡ front ++ lost) × (0 < length lost) × Puts before after front 1)
 
--- what a peer that wasn't met comes to, by the way the exchange ended
+-- what a peer that wasn't open comes to, by the way the exchange ended
 abbrev pub TurnsAway : SocketType → ConnectionEnd → List ℕ → List ℕ → Type 0
 TurnsAway ours end octets written = ComesToByEnd (IsTurnedAway ours) octets written end
 
@@ -60,3 +62,8 @@ pub record ComesLate (old new : Source) (octets : List ℕ) : Type 0 where
 abbrev pub BringsNothing : List ℕ → ConnectionEnd → Type 0
 BringsNothing octets end = (IsStop end × IsUnfinished usual_limits octets)
     ⊎ ((fault : WireFault) × (end ≡ Wire fault) × ((fault ≡ OutOfMemory) ⊎ IsFaulty usual_limits octets fault))
+
+-- a peer's first traffic doesn't open the connection: it is refused as its READY, or memory was refused
+abbrev pub IsNotMet : SocketType → Traffic → ConnectionEnd → Type 0
+IsNotMet ours first end =
+    ((fault : WireFault) × (end ≡ Wire fault) × IsReady first ours (Err fault)) ⊎ (end ≡ Failed Memory)

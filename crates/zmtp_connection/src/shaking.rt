@@ -1,25 +1,23 @@
 //! Shaking hands with a peer: greetings, and then READY (ZMTP 3.0, "Greeting" and "The NULL Security Mechanism").
 
 ghost use Rattle.std.specs.Prelude.{◌≡◌, ◌≢◌, ◌<◌, ℕ, List, [], ◌∷◌, ◌++◌, length, Some, IfOk, IfErr};
-ghost use Rattle.zmtp_wire.specs.declared.fault.WireFault.{WireFault};
-ghost use Rattle.zmtp_wire.specs.declared.traffic.Traffic.{Traffic};
 ghost use Rattle.zmtp_wire.specs.Device.{Puts};
 ghost use Rattle.zmtp_wire.specs.Greeting.{IsGreeting, greeting_octets};
-ghost use Rattle.zmtp_wire.specs.Ready.{IsReady, ready_octets};
+ghost use Rattle.zmtp_wire.specs.Ready.{IsIdentity, IsReady, ready_octets};
 ghost use Rattle.zmtp_connection.specs.Exchange.{Leg, Reading, Exchange, devices_at, source_at};
 ghost use Rattle.zmtp_connection.specs.declared.shaking.Unheard.{Unheard};
-ghost use Rattle.zmtp_connection.specs.Open.{IsLeft, Meets, once_heard};
-ghost use Rattle.zmtp_connection.specs.Steps.{IsStop, IsFed, TurnsAway, BringsNothing, ComesLate, fresh};
+ghost use Rattle.zmtp_connection.specs.Open.{IsLeft, ShakesHands, once_heard};
+ghost use Rattle.zmtp_connection.specs.Steps.{IsStop, IsFed, IsNotMet, TurnsAway, BringsNothing, ComesLate, fresh};
 
 use crate::end::ConnectionEnd;
 use crate::fault::ConnectionFault;
 use crate::turn::{put, read_turn};
-use listed::Row;
+use listed::{Octets, Row};
 use std::alloc::Global;
 use std::marker::Model;
 use zmtp_wire::{
-    Decoder, Fed, Inlet, Limits, Outlet, SocketType, greeting, read_greeting, read_ready,
-    ready_text,
+    Decoder, Fed, Inlet, Limits, Outlet, SocketType, Traffic, greeting, read_greeting,
+    read_identity, read_ready, ready_text,
 };
 
 /// How many octets one read asks for until the peer's READY came.
@@ -34,12 +32,23 @@ pub(crate) struct Unheard {
     pub(crate) decoder: Decoder,
 }
 
+/// What a peer's READY says of it.
+#[derive(Drop)]
+struct Introduction {
+    /// The socket type of the peer.
+    socket: SocketType,
+    /// The identity of the peer, which is empty if it gave none.
+    identity: Octets,
+}
+
 /// An open peer: its greeting and its READY were accepted. It is heard once: what came with its READY is left to hear
 /// until then, and nothing afterwards.
 #[derive(Drop)]
 pub struct OpenPeer {
     /// The socket type of the peer.
     socket: SocketType,
+    /// The identity of the peer, which is empty if it gave none.
+    identity: Octets,
     /// What is left to hear, or none once the peer was heard.
     unheard: Option<Unheard>,
 }
@@ -49,7 +58,7 @@ impl Model for OpenPeer {
 
     ghost Value = { Open };
 
-    ghost view = { λ peer. record { socket = peer.socket; unheard = peer.unheard } };
+    ghost view = { λ peer. record { socket = peer.socket; identity = peer.identity; unheard = peer.unheard } };
 
     ghost invariant = { λ peer. IsLeft peer.unheard };
 }
@@ -60,6 +69,13 @@ impl OpenPeer {
         ensures { result ≡ self.now.socket }
     {
         self.socket
+    }
+
+    /// The identity that the peer gave itself in its READY: no octet if it gave none.
+    pub fn identity(&self) -> &[u8]
+        ensures { result.now ≡ self.now.identity }
+    {
+        self.identity.as_slice()
     }
 
     /// Takes what is left to hear, and leaves nothing.
@@ -88,7 +104,7 @@ pub fn shake<R: Inlet, W: Outlet>(
     ours: SocketType,
     turns: u64,
 ) -> Result<OpenPeer, ConnectionEnd>
-    ensures met { IfOk result (λ peer. (left : ℕ) × Meets ours
+    ensures is_open { IfOk result (λ peer. (left : ℕ) × ShakesHands ours
         (devices_at (R.inflow reader.old) turns (W.outflow writer.old))
         (devices_at (R.inflow reader.new) left (W.outflow writer.new)) peer) }
     ensures turned_away { IfErr result (λ end. (left : ℕ) × Exchange (TurnsAway ours end)
@@ -107,7 +123,7 @@ pub(crate) fn shake_within<R: Inlet, W: Outlet>(
     ours: SocketType,
     turns: &mut u64,
 ) -> Result<OpenPeer, ConnectionEnd>
-    ensures met { IfOk result (λ peer. Meets ours
+    ensures is_open { IfOk result (λ peer. ShakesHands ours
         (devices_at (R.inflow reader.old) turns.old (W.outflow writer.old))
         (devices_at (R.inflow reader.new) turns.new (W.outflow writer.new)) peer) }
     ensures turned_away { IfErr result (λ end. Exchange (TurnsAway ours end)
@@ -117,7 +133,7 @@ pub(crate) fn shake_within<R: Inlet, W: Outlet>(
     greet(alloc, reader, writer, ours, turns)?;
     let mut decoder = Decoder::new(alloc, Limits::usual());
     match read_first(reader, &mut decoder, turns) {
-        Ok(fed) => meet(fed, decoder, ours),
+        Ok(fed) => meet(alloc, fed, decoder, ours),
         Err(end) => {
             drop(decoder);
             Err(end)
@@ -198,28 +214,67 @@ fn read_first<R: Inlet>(
 }
 
 /// Judges the first traffic, which is to be READY, and keeps the others.
-fn meet(fed: Fed, decoder: Decoder, ours: SocketType) -> Result<OpenPeer, ConnectionEnd>
+fn meet(
+    alloc: Global,
+    fed: Fed,
+    decoder: Decoder,
+    ours: SocketType,
+) -> Result<OpenPeer, ConnectionEnd>
     requires some { fed.traffic ≢ [] }
     requires came { (octets : List ℕ) × IsFed fed decoder octets }
     ensures ok { IfOk result (λ peer. (first : Traffic) × (unheard : Unheard) × (peer.unheard ≡ Some unheard)
         × (fed.traffic ≡ first ∷ unheard.fed.traffic) × (unheard.fed.fault ≡ fed.fault)
-        × (unheard.decoder ≡ decoder) × IsReady first ours (Ok (record { peer = peer.socket }))) }
-    ensures err { IfErr result (λ end. (first : Traffic) × (others : List Traffic) × (fault : WireFault)
-        × (fed.traffic ≡ first ∷ others) × IsReady first ours (Err fault) × (end ≡ ConnectionEnd.Wire fault)) }
+        × (unheard.decoder ≡ decoder) × IsReady first ours (Ok (record { peer = peer.socket }))
+        × IsIdentity first peer.identity) }
+    ensures err { IfErr result (λ end. (first : Traffic) × (others : List Traffic)
+        × (fed.traffic ≡ first ∷ others) × IsNotMet ours first end) }
 {
     let Fed { traffic, fault } = fed;
     let mut traffic = traffic.into_vec();
     let first = traffic.remove(0);
-    let ready = match read_ready(&first, ours) {
-        Ok(ready) => ready,
-        Err(fault) => return Err(ConnectionEnd::Wire(fault)),
-    };
+    let introduced = introduced(alloc, &first, ours);
+    drop(first);
     let fed = Fed {
         traffic: Row::new(traffic),
         fault,
     };
-    Ok(OpenPeer {
-        socket: ready.peer,
-        unheard: Some(Unheard { fed, decoder }),
-    })
+    match introduced {
+        Ok(Introduction { socket, identity }) => Ok(OpenPeer {
+            socket,
+            identity,
+            unheard: Some(Unheard { fed, decoder }),
+        }),
+        Err(end) => {
+            drop(fed);
+            drop(decoder);
+            Err(end)
+        }
+    }
+}
+
+/// What the first traffic says of a peer, which is to be READY.
+fn introduced(
+    alloc: Global,
+    first: &Traffic,
+    ours: SocketType,
+) -> Result<Introduction, ConnectionEnd>
+    ensures ok { IfOk result (λ introduction. IsReady first.now ours (Ok (record { peer = introduction.socket }))
+        × IsIdentity first.now introduction.identity) }
+    ensures err { IfErr result (λ end. IsNotMet ours first.now end) }
+{
+    let ready = match read_ready(first, ours) {
+        Ok(ready) => ready,
+        Err(fault) => return Err(ConnectionEnd::Wire(fault)),
+    };
+    let identity = match read_identity(first) {
+        Some(identity) => Vec::from_slice(alloc, identity),
+        None => Ok(Vec::new(alloc)),
+    };
+    match identity {
+        Ok(identity) => Ok(Introduction {
+            socket: ready.peer,
+            identity: Octets::new(identity),
+        }),
+        Err(_) => Err(ConnectionEnd::Failed(ConnectionFault::Memory)),
+    }
 }

@@ -7,7 +7,7 @@ use crate::shelf::Shelf;
 use crate::sink::Sink;
 use std::alloc::Global;
 use std::{io, mem};
-use zmtp_connection::{ConnectionEnd, Ending, OpenPeer, echo, hear, serve, shake};
+use zmtp_connection::{ConnectionEnd, ConnectionFault, Ending, OpenPeer, echo, hear, serve, shake};
 use zmtp_wire::{Counted, SocketType};
 
 /// A peer, and what meets it.
@@ -31,6 +31,8 @@ pub(crate) struct Bench<'n> {
     clerk: Clerk,
     /// The peer, once hands were shaken.
     met: Option<OpenPeer>,
+    /// Why a connection couldn't go on, once one couldn't.
+    fault: Option<ConnectionFault>,
     /// What was told.
     pub(crate) text: String,
 }
@@ -52,6 +54,7 @@ impl<'n> Bench<'n> {
                 leave: Leave::Failed(Want::Worn),
             },
             met: None,
+            fault: None,
             text: String::new(alloc),
         }
     }
@@ -163,6 +166,17 @@ impl<'n> Bench<'n> {
                     write!(self.text, " met {socket:?}.")?;
                 }
             }
+            "identity" => {
+                if let Some(peer) = &self.met {
+                    let identity = peer.identity().escape_ascii();
+                    write!(self.text, " identity '{identity}'.")?;
+                }
+            }
+            "why" => {
+                if let Some(fault) = self.fault {
+                    write!(self.text, " {fault}.")?;
+                }
+            }
             _ => return Ok(false),
         }
         Ok(true)
@@ -181,6 +195,9 @@ impl<'n> Bench<'n> {
     /// Tells how a connection ended.
     fn tell_end(&mut self, end: ConnectionEnd) -> io::Result<()> {
         write!(self.text, " {end:?}.")?;
+        if let ConnectionEnd::Failed(fault) = end {
+            self.fault = Some(fault);
+        }
         Ok(())
     }
 

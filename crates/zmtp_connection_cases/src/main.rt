@@ -17,8 +17,9 @@
 //! - `last=N`, and `worn`, `memory`, `restart` or `shutdown`: the message at which the server leaves, and how;
 //! - `turns=N`: how many reads an exchange may make;
 //! - `shake=TYPE`, `echo`, `serve`, `hear`: has the exchange, and tells how it ended;
-//! - `written`, `put`, `met`, `asked=N`, `answered=N`, `reads=N`: tells what was written, what was put into the intake,
-//!   what socket the peer is, and whether the intake was asked, the server answered and the peer was read so often;
+//! - `written`, `put`, `met`, `identity`, `why`, `asked=N`, `answered=N`, `reads=N`: tells what was written, what was
+//! put into the intake, what socket the peer is and of what identity, in words why a connection couldn't go on, and
+//! whether the intake was asked, the server answered and the peer was read so often;
 //! - `peer`: a fresh peer that sends nothing yet; `anew`: such a peer and a fresh intake.
 //!
 //! A case may begin with `@` and places, as `@0..90,95`. Then it is done with each in turn, which `$` stands for, as
@@ -35,13 +36,13 @@ mod sweep;
 
 use names::Names;
 use std::io;
-use zmtp_connection::one_hearing;
+use zmtp_connection::law_one_hearing;
 
 /// Prints each case with its answers.
 fn main(rt: HostRuntime) -> io::Result<()> {
     let alloc = rt.alloc();
     // What the answers rest on: what is heard of a peer has one value.
-    one_hearing();
+    law_one_hearing();
     let mut names = Names::new(alloc);
     for line in rt.lines(alloc) {
         let line = line?;

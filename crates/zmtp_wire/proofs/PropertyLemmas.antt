@@ -1,7 +1,7 @@
 -- The octets of a list of properties have one reading, and what was read so far says what is left to read.
 use Rattle.std.proofs.Common.{◌≡◌, ◌≢◌, ℕ, ◌^◌, ◌<◌, ◌≤◌, true, false, cond, List, [], ◌∷◌, ◌++◌, length, get_or, take}
 use Rattle.std.proofs.Common.{drop, Option, Some, None, refl, sym, ap, subst, ◌∙◌, append_assoc, arith, inl, inr}
-use Rattle.std.specs.Prelude.{find, codes}
+use Rattle.std.specs.Prelude.{find}
 use Rattle.std.specs.Borrow.{Bor}
 use Rattle.std.specs.Option.{option_copied, option_map, option_or}
 use Rattle.std.specs.Str.{str_eq_ignore_ascii_case, str_to_ascii_lowercase}
@@ -13,7 +13,7 @@ use Rattle.std.proofs.lemmas.List.{append-nil}
 use Rattle.std.proofs.lemmas.Bool.{cases_lt, false_from_ne_true}
 use Rattle.std.proofs.lemmas.Nat.{be_bytes_4, from_be_bytes-to_be_bytes_4}
 use Rattle.zmtp_wire.specs.Lengths.{short_text, long_text}
-use Rattle.zmtp_wire.specs.Ready.{Property, IsProperty, Properties, property_octets, is_socket_type, announced}
+use Rattle.zmtp_wire.specs.Ready.{Property, IsProperty, Properties, property_octets, is_named, announced}
 use Rattle.zmtp_wire.specs.Ready.{BeginsWithProperty, HasNoProperties}
 
 -- ---- one text behind its length
@@ -118,16 +118,16 @@ one_reading octets ps qs left right =
 
 -- ---- what was read so far
 
--- rest is properties that were read, and left; found is the first Socket-Type among those
-pub record HasRead (rest left : List ℕ) (found : Option (List ℕ)) : Type 0 where
+-- rest is properties that were read, and left; found is the value of the first of those of this name
+pub record HasRead (sought rest left : List ℕ) (found : Option (List ℕ)) : Type 0 where
   pub read : List Property
   pub text : rest ≡ flat_map property_octets read ++ left
   pub are : AllByRecursion IsProperty read
-  pub value : announced read ≡ found
+  pub value : announced sought read ≡ found
 
--- the name is Socket-Type, without regard to ASCII case
-abbrev pub IsSocketTypeName : List ℕ → Type 0
-IsSocketTypeName name = str_to_ascii_lowercase name ≡ str_to_ascii_lowercase (codes "Socket-Type")
+-- the names are the same, without regard to ASCII case
+abbrev pub IsSameName : List ℕ → List ℕ → Type 0
+IsSameName sought name = str_to_ascii_lowercase name ≡ str_to_ascii_lowercase sought
 
 -- properties, and one more
 All_push : (ps : List Property) (p : Property) → AllByRecursion IsProperty ps → IsProperty p
@@ -144,68 +144,70 @@ octets_push (q ∷ ps) p rest =
     ∙ ap (λ (t : List ℕ). property_octets q ++ t) (octets_push ps p rest)
     ∙ sym (append_assoc (property_octets q) (flat_map property_octets (ps ++ p ∷ [])) rest)
 
--- the first Socket-Type with one property more
-announced_push : (ps : List Property) (p : Property) → announced (ps ++ p ∷ [])
-    ≡ option_or (announced ps) (announced (p ∷ []))
-announced_push [] p = refl
-announced_push (q ∷ ps) p =
-    elim (is_socket_type q) as (λ b. option_map (λ r. r.value) (cond b (Some q) (find is_socket_type (ps ++ p ∷ [])))
-    ≡ option_or (option_map (λ r. r.value) (cond b (Some q) (find is_socket_type ps))) (announced (p ∷ []))) [
+-- the first of a name with one property more
+announced_push : (sought : List ℕ) (ps : List Property) (p : Property) → announced sought (ps ++ p ∷ [])
+    ≡ option_or (announced sought ps) (announced sought (p ∷ []))
+announced_push sought [] p = refl
+announced_push sought (q ∷ ps) p =
+    elim (is_named sought q) as (λ b. option_map (λ r. r.value)
+    (cond b (Some q) (find (is_named sought) (ps ++ p ∷ [])))
+    ≡ option_or (option_map (λ r. r.value) (cond b (Some q) (find (is_named sought) ps)))
+    (announced sought (p ∷ []))) [
       | true ↦ refl
-      | false ↦ announced_push ps p
+      | false ↦ announced_push sought ps p
     ]
 
 -- one property more was read
-read_more : (rest left behind : List ℕ) (found : Option (List ℕ)) (p : Property) → HasRead rest left found
-    → BeginsWithProperty left p behind → HasRead rest behind (option_or found (announced (p ∷ [])))
-read_more rest left behind found p has begins = record {
+read_more : (sought rest left behind : List ℕ) (found : Option (List ℕ)) (p : Property)
+    → HasRead sought rest left found → BeginsWithProperty left p behind
+    → HasRead sought rest behind (option_or found (announced sought (p ∷ [])))
+read_more sought rest left behind found p has begins = record {
   read = has.read ++ p ∷ [];
   text = has.text ∙ ap (λ (t : List ℕ). flat_map property_octets has.read ++ t) begins.1
       ∙ octets_push has.read p behind;
   are = All_push has.read p has.are begins.0;
-  value = announced_push has.read p ∙ ap (λ (o : Option (List ℕ)). option_or o (announced (p ∷ []))) has.value;
+  value = announced_push sought has.read p
+      ∙ ap (λ (o : Option (List ℕ)). option_or o (announced sought (p ∷ []))) has.value;
 }
 
 -- the test of a name, by what it compares
-names_socket_type : (name : List ℕ) → IsSocketTypeName name → str_eq_ignore_ascii_case name (codes "Socket-Type") ≡ true
-names_socket_type name is = (bytes_eq-Decides (str_to_ascii_lowercase name)
-    (str_to_ascii_lowercase (codes "Socket-Type"))).1 is
+named : (sought name : List ℕ) → IsSameName sought name → str_eq_ignore_ascii_case name sought ≡ true
+named sought name is = (bytes_eq-Decides (str_to_ascii_lowercase name) (str_to_ascii_lowercase sought)).1 is
 
 -- the same for a name that differs
-names_another : (name : List ℕ) → ¬ (IsSocketTypeName name) → str_eq_ignore_ascii_case name (codes "Socket-Type")
-    ≡ false
-names_another name not = false_from_ne_true _ (λ is. not
-    ((bytes_eq-Decides (str_to_ascii_lowercase name) (str_to_ascii_lowercase (codes "Socket-Type"))).0 is))
+named_otherwise : (sought name : List ℕ) → ¬ (IsSameName sought name) → str_eq_ignore_ascii_case name sought ≡ false
+named_otherwise sought name not = false_from_ne_true _ (λ is. not
+    ((bytes_eq-Decides (str_to_ascii_lowercase name) (str_to_ascii_lowercase sought)).0 is))
 
--- the name is Socket-Type
-pub read_type : (rest left behind name value : List ℕ) (found : Option (List ℕ)) → HasRead rest left found
-    → BeginsWithProperty left (record { name = name; value = value }) behind → IsSocketTypeName name
-    → HasRead rest behind (option_or found (Some value))
-read_type rest left behind name value found has begins is =
-    let test : str_eq_ignore_ascii_case name (codes "Socket-Type") ≡ true = names_socket_type name is in
-    let here : announced (record { name = name; value = value } ∷ []) ≡ Some value = rw test refl in
-    subst (HasRead rest behind) (ap (option_or found) here)
-    (read_more rest left behind found (record { name = name; value = value }) has begins)
+-- a property of the name was read
+pub read_sought : (sought rest left behind name value : List ℕ) (found : Option (List ℕ))
+    → HasRead sought rest left found → BeginsWithProperty left (record { name = name; value = value }) behind
+    → IsSameName sought name → HasRead sought rest behind (option_or found (Some value))
+read_sought sought rest left behind name value found has begins is =
+    let test : str_eq_ignore_ascii_case name sought ≡ true = named sought name is in
+    let here : announced sought (record { name = name; value = value } ∷ []) ≡ Some value = rw test refl in
+    subst (HasRead sought rest behind) (ap (option_or found) here)
+    (read_more sought rest left behind found (record { name = name; value = value }) has begins)
 
--- the name isn't Socket-Type
-pub read_other : (rest left behind name value : List ℕ) (found : Option (List ℕ)) → HasRead rest left found
-    → BeginsWithProperty left (record { name = name; value = value }) behind → ¬ (IsSocketTypeName name)
-    → HasRead rest behind found
-read_other rest left behind name value found has begins not =
-    let test : str_eq_ignore_ascii_case name (codes "Socket-Type") ≡ false = names_another name not in
-    let here : announced (record { name = name; value = value } ∷ []) ≡ None = rw test refl in
-    subst (HasRead rest behind) (ap (option_or found) here ∙ or_none found)
-    (read_more rest left behind found (record { name = name; value = value }) has begins)
+-- a property of another name was read
+pub read_other : (sought rest left behind name value : List ℕ) (found : Option (List ℕ))
+    → HasRead sought rest left found → BeginsWithProperty left (record { name = name; value = value }) behind
+    → ¬ (IsSameName sought name) → HasRead sought rest behind found
+read_other sought rest left behind name value found has begins not =
+    let test : str_eq_ignore_ascii_case name sought ≡ false = named_otherwise sought name not in
+    let here : announced sought (record { name = name; value = value } ∷ []) ≡ None = rw test refl in
+    subst (HasRead sought rest behind) (ap (option_or found) here ∙ or_none found)
+    (read_more sought rest left behind found (record { name = name; value = value }) has begins)
   where
     or_none : (o : Option (List ℕ)) → option_or o None ≡ o
     or_none None = refl
     or_none (Some x) = refl
 
 -- what is left begins with no property: rest is no list of properties
-pub read_broken : (rest left : List ℕ) (found : Option (List ℕ)) → left ≢ []
-    → ((p : Property) (behind : List ℕ) → ¬ (BeginsWithProperty left p behind)) → HasRead rest left found
+pub read_broken : (sought rest left : List ℕ) (found : Option (List ℕ)) → left ≢ []
+    → ((p : Property) (behind : List ℕ) → ¬ (BeginsWithProperty left p behind)) → HasRead sought rest left found
     → HasNoProperties rest
-read_broken rest left found some none has ps are =
+read_broken sought rest left found some none has ps are =
     let more = after has.read ps left has.are are.1 (sym has.text ∙ are.0) in
     broken more.0 more.2
   where

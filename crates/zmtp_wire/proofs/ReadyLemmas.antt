@@ -1,6 +1,6 @@
 -- The outcome of READY: what its parts say, and that there is one at most.
-use Rattle.std.proofs.Common.{◌≡◌, true, ℕ, cond, eqb, List, [], ◌∷◌, Some, None, Ok, Err, Result, get_or, refl, sym}
-use Rattle.std.proofs.Common.{ap, subst, ◌∙◌, inl, inr, ◌+◌, ◌<◌, ◌^◌, length, arith}
+use Rattle.std.proofs.Common.{◌≡◌, ◌≢◌, ◌⊎◌, true, ℕ, cond, eqb, List, [], ◌∷◌, Some, None, Ok, Err, Result, get_or}
+use Rattle.std.proofs.Common.{refl, sym, ap, subst, ◌∙◌, inl, inr, ◌+◌, ◌<◌, ◌^◌, length, arith}
 use Rattle.std.specs.Prelude.{codes, bytes_eq, IfOk, IfErr}
 use Rattle.std.proofs.lemmas.Slice.Eq.{bytes_eq-Decides}
 use Rattle.std.specs.Str.{str_to_ascii_lowercase}
@@ -15,12 +15,13 @@ use Rattle.zmtp_wire.specs.declared.traffic.Traffic.{Traffic}
 use Rattle.zmtp_wire.specs.declared.traffic.Traffic.TheVariants.{Message, Command}
 use Rattle.zmtp_wire.specs.SocketType.{type_name, NamesType, Pairs}
 use Rattle.zmtp_wire.specs.Ready.{Property, Properties, property_octets, type_property, announced, AnnouncesIn}
-use Rattle.zmtp_wire.specs.Ready.{Announces, IsError, IsNoReady, Accepts, AcceptsNone, IsReady}
+use Rattle.zmtp_wire.specs.Ready.{Announces, AnnouncesNoneIn, Gives, GivesNoIdentity}
+use Rattle.zmtp_wire.specs.Ready.{HasNoProperties, IsError, IsIdentity, IsNoReady, Accepts, AcceptsNone, IsReady}
 use Rattle.zmtp_wire.proofs.PropertyLemmas.{one_reading}
 
 -- a READY that announces a type: it is accepted, or it doesn't pair
 pub judged_type : (name rest value : List ℕ) (ours : SocketType) (r : Result Ready WireFault) → name ≡ codes "READY"
-    → AnnouncesIn rest value → IfOk r (λ ready. Accepts ours value ready.peer)
+    → AnnouncesIn (codes "Socket-Type") rest value → IfOk r (λ ready. Accepts ours value ready.peer)
     → IfErr r (λ e. (e ≡ fault.Pairing) × AcceptsNone ours value) → IsReady (Command name rest) ours r
 judged_type name rest value ours (Ok ready) is announces ok err = (value, (is, announces), ok)
 judged_type name rest value ours (Err e) is announces ok err = rw err.0 (value, (is, announces), err.1)
@@ -52,24 +53,31 @@ one_type value t u names_t names_u = sym (letters_tell t)
 
 -- ---- one outcome at most
 
--- the first Socket-Type of one list of properties
-one_value : (rest : List ℕ) (ps qs : List Property) → Properties rest ps → Properties rest qs → announced ps
-    ≡ announced qs
-one_value rest ps qs are_ps are_qs = ap announced (one_reading rest ps qs are_ps are_qs)
+-- the first of a name in one list of properties
+one_value : (name rest : List ℕ) (ps qs : List Property) → Properties rest ps → Properties rest qs → announced name ps
+    ≡ announced name qs
+one_value name rest ps qs are_ps are_qs = ap (announced name) (one_reading rest ps qs are_ps are_qs)
+
+same_in : (name rest v w : List ℕ) → AnnouncesIn name rest v → AnnouncesIn name rest w → v ≡ w
+same_in name rest v w one other =
+    let same : Some v ≡ Some w = sym one.2 ∙ one_value name rest one.0 other.0 one.1 other.1 ∙ other.2 in cc
+
+none_in : (name rest v : List ℕ) → AnnouncesIn name rest v → ¬ (HasNoProperties rest ⊎ AnnouncesNoneIn name rest)
+none_in name rest v one (inl broken) = broken one.0 one.1
+none_in name rest v one (inr none) =
+    let same : Some v ≡ None = sym one.2 ∙ one_value name rest one.0 none.0 one.1 none.1 ∙ none.2 in cc
+
+same_given : (name : List ℕ) (first : Traffic) (v w : List ℕ) → Gives name first v → Gives name first w → v ≡ w
+same_given property (Message _) v w one other = absurd one
+same_given property (Command name rest) v w one other = same_in property rest v w one.1 other.1
 
 same_value : (first : Traffic) (v w : List ℕ) → Announces first v → Announces first w → v ≡ w
-same_value (Message _) v w one other = absurd one
-same_value (Command name rest) v w one other =
-    let same : Some v ≡ Some w = sym one.1.2 ∙ one_value rest one.1.0 other.1.0 one.1.1 other.1.1 ∙ other.1.2 in
-    cc
+same_value = same_given (codes "Socket-Type")
 
 announces_ready : (first : Traffic) (v : List ℕ) → Announces first v → ¬ (IsNoReady first)
 announces_ready (Message _) v one not = absurd one
 announces_ready (Command name rest) v one (inl other) = other.0 one.0
-announces_ready (Command name rest) v one (inr (_, inl broken)) = broken one.1.0 one.1.1
-announces_ready (Command name rest) v one (inr (_, inr none)) =
-    let same : Some v ≡ None = sym one.1.2 ∙ one_value rest one.1.0 none.0 one.1.1 none.1 ∙ none.2 in
-    cc
+announces_ready (Command name rest) v one (inr (_, none)) = none_in (codes "Socket-Type") rest v one.1 none
 
 ready_no_error : (name : List ℕ) → name ≡ codes "READY" → name ≡ codes "ERROR" → ⊥
 ready_no_error name is_ready is_error =
@@ -137,6 +145,35 @@ pub same_outcome : (first : Traffic) (ours : SocketType) (r s : Result Ready Wir
     → IsReady first ours s → r ≡ s
 same_outcome first ours r s one other = one_outcome first ours r s (outcome first ours r one)
     (outcome first ours s other)
+
+-- ---- the identity
+
+-- a message gives no identity
+pub message_gives_none : (bodies : List (List ℕ)) → GivesNoIdentity (Message bodies)
+message_gives_none bodies identity gives = gives.announced
+
+-- a command that isn't READY gives none
+pub other_gives_none : (name rest : List ℕ) → name ≢ codes "READY" → GivesNoIdentity (Command name rest)
+other_gives_none name rest not identity gives = not gives.announced.0
+
+-- a READY gives none whose list of properties is broken or has none
+pub none_gives_none : (name rest : List ℕ) → HasNoProperties rest ⊎ AnnouncesNoneIn (codes "Identity") rest
+    → GivesNoIdentity (Command name rest)
+none_gives_none name rest none identity gives = none_in (codes "Identity") rest identity gives.announced.1 none
+
+-- a READY gives none whose first is empty
+pub empty_gives_none : (name rest : List ℕ) → AnnouncesIn (codes "Identity") rest []
+    → GivesNoIdentity (Command name rest)
+empty_gives_none name rest empty identity gives =
+    gives.some (same_in (codes "Identity") rest identity [] gives.announced.1 empty)
+
+-- a peer has one identity at most
+pub one_identity : (first : Traffic) (one other : List ℕ) → IsIdentity first one → IsIdentity first other → one ≡ other
+one_identity first one other (inl gives) (inl gives') =
+    same_given (codes "Identity") first one other gives.announced gives'.announced
+one_identity first one other (inl gives) (inr (none, is)) = absurd (none one gives)
+one_identity first one other (inr (none, is)) (inl gives) = absurd (none other gives)
+one_identity first one other (inr (none, is)) (inr (none', is')) = is ∙ sym is'
 
 -- ---- our own READY
 

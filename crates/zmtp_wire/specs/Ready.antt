@@ -1,7 +1,7 @@
 -- The command READY of the mechanism NULL (ZeroMQ RFC 23, section "The NULL Security Mechanism"): a list of
--- properties, which says the socket type of the peer.
-use Rattle.std.specs.Prelude.{◌≡◌, ◌≢◌, ◌⊎◌, ℕ, ◌<◌, ◌≤◌, ◌^◌, Bool, true, false, List, ◌++◌, length, codes, find}
-use Rattle.std.specs.Prelude.{Option, Some, None, Result, Ok, Err}
+-- properties, which says the socket type of the peer, and its identity if it has one.
+use Rattle.std.specs.Prelude.{◌≡◌, ◌≢◌, ◌⊎◌, ℕ, ◌<◌, ◌≤◌, ◌^◌, Bool, true, false, List, [], ◌++◌, length, codes}
+use Rattle.std.specs.Prelude.{find, Option, Some, None, Result, Ok, Err}
 use Rattle.std.specs.List.{AllByRecursion, flat_map}
 use Rattle.std.specs.Option.{option_map}
 use Rattle.std.specs.Str.{str_eq_ignore_ascii_case}
@@ -40,13 +40,13 @@ Properties octets ps = (octets ≡ flat_map property_octets ps) × AllByRecursio
 abbrev pub BeginsWithProperty : List ℕ → Property → List ℕ → Type 0
 BeginsWithProperty octets p rest = IsProperty p × (octets ≡ property_octets p ++ rest)
 
--- the property is named Socket-Type, without regard to ASCII case
-abbrev pub is_socket_type : Property → Bool
-is_socket_type p = str_eq_ignore_ascii_case p.name (codes "Socket-Type")
+-- the property has this name, without regard to ASCII case
+abbrev pub is_named : List ℕ → Property → Bool
+is_named name p = str_eq_ignore_ascii_case p.name name
 
--- the value of the first property of that name
-abbrev pub announced : List Property → Option (List ℕ)
-announced ps = option_map (λ p. p.value) (find is_socket_type ps)
+-- the value of the first property of this name
+abbrev pub announced : List ℕ → List Property → Option (List ℕ)
+announced name ps = option_map (λ p. p.value) (find (is_named name) ps)
 
 -- the property Socket-Type of a socket of ours
 abbrev pub type_property : SocketType → Property
@@ -57,22 +57,39 @@ abbrev pub ready_octets : SocketType → List ℕ
 ready_octets socket = frame_octets false true (shortest
     (command_body (codes "READY") (property_octets (type_property socket))))
 
--- the octets behind READY are properties, and the first Socket-Type among them has this value
-abbrev pub AnnouncesIn : List ℕ → List ℕ → Type 0
-AnnouncesIn rest value = (ps : List Property) × Properties rest ps × (announced ps ≡ Some value)
+-- the octets behind READY are properties, and the first of this name among them has this value
+abbrev pub AnnouncesIn : List ℕ → List ℕ → List ℕ → Type 0
+AnnouncesIn name rest value = (ps : List Property) × Properties rest ps × (announced name ps ≡ Some value)
 
 -- the octets behind READY are no list of properties
 abbrev pub HasNoProperties : List ℕ → Type 0
 HasNoProperties rest = (ps : List Property) → ¬ (Properties rest ps)
 
--- the octets behind READY are properties, and none of them is a Socket-Type
-abbrev pub AnnouncesNoneIn : List ℕ → Type 0
-AnnouncesNoneIn rest = (ps : List Property) × Properties rest ps × (announced ps ≡ None)
+-- the octets behind READY are properties, and none of them has this name
+abbrev pub AnnouncesNoneIn : List ℕ → List ℕ → Type 0
+AnnouncesNoneIn name rest = (ps : List Property) × Properties rest ps × (announced name ps ≡ None)
+
+-- the command is READY, and the first property of this name in it has this value
+abbrev pub Gives : List ℕ → Traffic → List ℕ → Type 0
+Gives property (Message _) value = ⊥
+Gives property (Command name rest) value = (name ≡ codes "READY") × AnnouncesIn property rest value
 
 -- the command is READY, and its first Socket-Type has this value
 abbrev pub Announces : Traffic → List ℕ → Type 0
-Announces (Message _) value = ⊥
-Announces (Command name rest) value = (name ≡ codes "READY") × AnnouncesIn rest value
+Announces first value = Gives (codes "Socket-Type") first value
+
+-- The peer gives this identity: the command is READY, and its first Identity has this value, which isn't empty.
+pub record GivesIdentity (first : Traffic) (identity : List ℕ) : Type 0 where
+  pub announced : Gives (codes "Identity") first identity
+  pub some : identity ≢ []
+
+-- the peer gives no identity
+abbrev pub GivesNoIdentity : Traffic → Type 0
+GivesNoIdentity first = (identity : List ℕ) → ¬ (GivesIdentity first identity)
+
+-- the identity of a peer, by its READY: the one that it gives, or no octet if it gives none
+abbrev pub IsIdentity : Traffic → List ℕ → Type 0
+IsIdentity first identity = GivesIdentity first identity ⊎ (GivesNoIdentity first × (identity ≡ []))
 
 -- the command ERROR, whatever it says
 abbrev pub IsError : Traffic → Type 0
@@ -83,7 +100,7 @@ abbrev pub IsNoReady : Traffic → Type 0
 IsNoReady (Message _) = Unit {0}
 IsNoReady (Command name rest) =
     ((name ≢ codes "READY") × (name ≢ codes "ERROR"))
-    ⊎ ((name ≡ codes "READY") × (HasNoProperties rest ⊎ AnnouncesNoneIn rest))
+    ⊎ ((name ≡ codes "READY") × (HasNoProperties rest ⊎ AnnouncesNoneIn (codes "Socket-Type") rest))
 
 -- the value names the peer's type, which ours accepts
 abbrev pub Accepts : SocketType → List ℕ → SocketType → Type 0
@@ -113,6 +130,11 @@ IsReady first ours (Err fault.OutOfMemory) = ⊥
 abbrev pub PropertiesHaveOneReading : Type 0
 PropertiesHaveOneReading =
     (octets : List ℕ) (ps qs : List Property) → Properties octets ps → Properties octets qs → ps ≡ qs
+
+-- a peer has one identity at most
+abbrev pub OneIdentity : Type 0
+OneIdentity =
+    (first : Traffic) (one other : List ℕ) → IsIdentity first one → IsIdentity first other → one ≡ other
 
 -- what comes behind the greeting has one outcome at most
 abbrev pub ReadyHasOneOutcome : Type 0

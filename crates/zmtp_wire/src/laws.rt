@@ -7,7 +7,7 @@ ghost use Rattle.zmtp_wire.specs.Laws.{CuttingsAgree, HasOneFault, FaultyHasNoTr
 /// No octets are read in two ways: what stands in front is one traffic and its rest; of two readings one goes on
 /// where the other ends; and up to a rest that begins with no whole traffic, the traffic and the rest are these
 /// and no others.
-pub fn one_reading()
+pub fn law_one_reading()
     ensures front { FrontHasOneReading }
     ensures goes_on { ReadingGoesOn }
     ensures whole { WholeHasOneReading }
@@ -15,19 +15,19 @@ pub fn one_reading()
 
 /// The cutting doesn't matter: what feeds in turn read of their pieces is read of the pieces joined, and two
 /// cuttings of one stream give the same traffic and leave the same rest.
-pub fn any_cutting()
+pub fn law_any_cutting()
     ensures joined { FeedsReadJoined }
     ensures same { CuttingsAgree }
 {}
 
 /// What is refused is refused for one fault, begins with no whole traffic, and stays refused however it goes on.
-pub fn one_fault()
+pub fn law_one_fault()
     ensures once { HasOneFault }
     ensures no_traffic { FaultyHasNoTraffic }
     ensures stays { FaultStays }
 {}
 
 /// A message within the limits is read from its text first, whatever follows.
-pub fn text_is_read_first()
+pub fn law_text_is_read_first()
     ensures { TextIsReadFirst }
 {}

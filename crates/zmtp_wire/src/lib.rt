@@ -9,13 +9,13 @@ mod traffic;
 
 pub use device::{Counted, Inlet, Outlet, ReadFailed, WriteFailed, write_all};
 pub use fault::WireFault;
-pub use handshake::greeting::{Peer, greeting, our_greeting_is_accepted, read_greeting};
+pub use handshake::greeting::{Peer, greeting, law_our_greeting_is_accepted, read_greeting};
 pub use handshake::ready::{
-    Ready, our_ready_is_read, properties_have_one_reading, read_ready, ready_has_one_outcome,
-    ready_text,
+    Ready, law_one_identity, law_our_ready_is_read, law_properties_have_one_reading,
+    law_ready_has_one_outcome, read_identity, read_ready, ready_text,
 };
 pub use handshake::socket_type::SocketType;
-pub use laws::{any_cutting, one_fault, one_reading, text_is_read_first};
+pub use laws::{law_any_cutting, law_one_fault, law_one_reading, law_text_is_read_first};
 pub use traffic::Traffic;
 pub use traffic::decoder::{Decoder, Fed};
 pub use traffic::frame::Frame;

@@ -3,7 +3,8 @@
 use crate::spelling::Spelled;
 use std::alloc::{AllocError, Global};
 use zmtp_wire::{
-    Decoder, Limits, SocketType, WireFault, greeting, read_greeting, read_ready, ready_text,
+    Decoder, Limits, SocketType, WireFault, greeting, read_greeting, read_identity, read_ready,
+    ready_text,
 };
 
 /// The faults.
@@ -92,8 +93,8 @@ pub(crate) fn judge(
     }
 }
 
-/// Says what a socket of ours makes of the one traffic that octets are: of a READY, of an ERROR, and by topics that it
-/// subscribes to or gives up.
+/// Says what a socket of ours makes of the one traffic that octets are: of a READY, of an ERROR, by the identity that
+/// it gives, and by topics that it subscribes to or gives up.
 fn judge_first(
     alloc: Global,
     ours: &[u8],
@@ -111,6 +112,9 @@ fn judge_first(
     write!(said, "{:?}", read_ready(first, ours))?;
     if first.is_error() {
         said.push_str(" ERROR")?;
+    }
+    if let Some(identity) = read_identity(first) {
+        write!(said, " identity {}", Spelled(identity))?;
     }
     if let Some(topic) = first.subscribed_topic() {
         write!(said, " subscribes {}", Spelled(topic))?;

@@ -5,7 +5,7 @@ use crate::{After, DATE, Refusing, Scarce};
 use arith_shell::ShellArith;
 use jmsg_envelope::Signer;
 use jmsg_types::{Publication, Reply, State};
-use kernel_engine::{EngineFault, Heading, Parts, Publishing, Response, Side};
+use kernel_engine::{Asked, EngineFault, Heading, Parts, Publishing, Response, Side};
 use listed::{Frames, Octets, Text};
 use std::alloc::{AllocError, Global};
 use std::test::Fail;
@@ -21,7 +21,7 @@ fn number_of(handled: Result<Response, EngineFault>) -> u8 {
 /// What an engine that gives this number next answers a request that has a reply: a fault's number, or 0; the next
 /// number then; and how many messages it published.
 fn handled_at(alloc: Global, next: u64) -> Result<(u8, u64, usize), Fail> {
-    let asked = request(alloc, ("q", "interrupt_request"), "{}")?;
+    let request = request(alloc, ("q", "interrupt_request"), "{}")?;
     let mut parts = Parts {
         side: Side::Shell,
         interp: ShellArith::new(alloc),
@@ -34,8 +34,8 @@ fn handled_at(alloc: Global, next: u64) -> Result<(u8, u64, usize), Fail> {
         },
         owed: None,
     };
-    let does = parts.read(alloc, &asked);
-    let number = number_of(parts.finish(alloc, asked, does, &After::new(u64::MAX)));
+    let does = parts.read(alloc, &request);
+    let number = number_of(parts.finish(alloc, Asked { request, does }, &After::new(u64::MAX)));
     let publishing = parts.publishing;
     let next = publishing.next;
     let sink = publishing.sink;

@@ -1,6 +1,8 @@
 //! The types of requests and of their replies.
 
-use jmsg_types::{MessageType, each_type_is_found, replies_are_named_for_requests, reply_type};
+use jmsg_types::{
+    MessageType, law_each_type_is_found, law_replies_are_named_for_requests, reply_type,
+};
 
 /// Types of messages, each with that of its reply.
 const REPLY_TYPES: [(&str, Option<&str>); 17] = [
@@ -32,8 +34,8 @@ const NAMES: [(&str, Option<MessageType>); 3] = [
 
 #[test]
 fn replies_and_types_have_their_names(rt: HostRuntime) {
-    each_type_is_found();
-    replies_are_named_for_requests();
+    law_each_type_is_found();
+    law_replies_are_named_for_requests();
     for (msg_type, expected) in REPLY_TYPES {
         assert!(rt; reply_type(msg_type) == expected, "{msg_type}");
     }

@@ -1,7 +1,9 @@
-//! Control beside shell and the door: it interrupts a cell, and ends all.
+//! Control beside shell and subscriptions: it interrupts a cell, and ends all.
+
+ghost use Rattle.std.specs.Prelude.{◌≡◌};
 
 use super::*;
-use kernel_workers::{ControlLines, Flags, ShellLines, spawn_control, spawn_door, spawn_shell};
+use kernel_workers::{Cause, ControlWorker, Flags, ShellEnd, ShellWorker, SubscriptionsWorker};
 use std::thread;
 
 /// The steps of the cell that is interrupted.
@@ -13,48 +15,84 @@ pub(crate) const INTERRUPTED: &str = concat!(
     r#""status":"error","traceback":["Interrupted: interrupted"]}"#,
 );
 
-/// The lines of the three workers, and the inboxes of shell and control.
+/// Three workers who know one another, and the inboxes of shell and control.
 #[derive(Drop)]
-struct Wires {
-    /// The lines of shell.
-    shell: ShellLines,
-    /// The lines of control.
-    control: ControlLines<()>,
-    /// The inbox of the door.
-    door: Receiver<Note<Event<()>>>,
+pub(crate) struct Trio<R: Wait> {
+    /// Shell's.
+    pub(crate) shell: ShellWorker<ShellArith, OneDate, (), R>,
+    /// Control's.
+    pub(crate) control: ControlWorker<ShellArith, OneDate, (), R>,
+    /// That of subscriptions.
+    pub(crate) subscriptions: SubscriptionsWorker<(), R>,
     /// Where requests to shell are put.
-    to_shell: Sender<Note<Job>>,
+    pub(crate) to_shell: Sender<Note<Job>>,
     /// Where requests to control are put.
-    to_control: Sender<Note<Job>>,
+    pub(crate) to_control: Sender<Note<Job>>,
 }
 
-/// The lines of three workers who know one another.
-fn lay_wires(alloc: Global) -> Result<Wires, Fail> {
-    let (to_shell, inbox) = unbounded(alloc)?;
-    let (to_control, control_inbox) = unbounded(alloc)?;
-    let (to_door, door) = unbounded(alloc)?;
-    let (ended, shell_ended) = unbounded(alloc)?;
-    let flags = Flags::new(alloc)?;
-    let shell = ShellLines {
-        inbox,
-        flags: flags.try_clone()?,
-        ended,
-        control: to_control.clone()?,
-    };
-    let control = ControlLines {
-        inbox: control_inbox,
+/// By which three workers know one another.
+#[derive(Drop)]
+pub(crate) struct Lines {
+    /// Where requests to shell are put, and its inbox.
+    pub(crate) shell: (Sender<Note<Job>>, Receiver<Note<Job>>),
+    /// Where requests to control are put, twice, and its inbox.
+    pub(crate) control: (Sender<Note<Job>>, Sender<Note<Job>>, Receiver<Note<Job>>),
+    /// Where what subscribers ask for is put, and its inbox.
+    subscriptions: (Sender<Note<Event<()>>>, Receiver<Note<Event<()>>>),
+    /// By which control ends shell, the flags of shell, and what shell drops once it has closed.
+    end: (ShellEnd, Flags, Sender<()>),
+}
+
+impl Lines {
+    /// The lines of three workers.
+    pub(crate) fn lay(alloc: Global) -> Result<Lines, Fail> {
+        let shell = unbounded(alloc)?;
+        let end = ShellEnd::new(alloc, &Flags::new(alloc)?, &shell.0)?;
+        let (to_control, inbox) = unbounded(alloc)?;
+        let control = (to_control.clone()?, to_control, inbox);
+        let subscriptions = unbounded(alloc)?;
+        Ok(Lines {
+            shell,
+            control,
+            subscriptions,
+            end,
+        })
+    }
+}
+
+/// Three workers who know one another by these lines, with these engines, and this publisher of subscriptions.
+pub(crate) fn trio_of<R: Wait + Drop>(
+    lines: Lines,
+    shell: ArithEngine<R>,
+    control: ArithEngine<R>,
+    sink: Waking<Event<()>, R>,
+) -> Trio<R>
+    ensures { result.subscriptions.sink ≡ sink }
+{
+    let (to_shell, shell_inbox) = lines.shell;
+    let (to_control, control_of_shell, control_inbox) = lines.control;
+    let (to_subscriptions, inbox) = lines.subscriptions;
+    let (shell_end, flags, ended) = lines.end;
+    let shell = ShellWorker {
+        engine: shell,
+        inbox: shell_inbox,
         flags,
-        shell: to_shell.clone()?,
-        shell_ended,
-        door: to_door,
+        ended,
+        control: control_of_shell,
     };
-    Ok(Wires {
+    let control = ControlWorker {
+        engine: control,
+        inbox: control_inbox,
+        shell: shell_end,
+        subscriptions: to_subscriptions,
+    };
+    Trio {
         shell,
         control,
-        door,
+        subscriptions: SubscriptionsWorker { sink, inbox },
         to_shell,
         to_control,
-    })
+    }
 }
 
 /// The content of an execute request for a cell of many steps.
@@ -129,24 +167,25 @@ fn converse<R: Wait + Abort>(
 #[test]
 fn control_interrupts_a_cell_and_ends_all_in_order(rt: HostRuntime) -> Result<(), Fail> {
     let alloc = rt.alloc();
-    let wires = lay_wires(alloc)?;
+    let lines = Lines::lay(alloc)?;
     let Queue {
         shell,
         control,
-        door,
+        subscriptions,
         mut taker,
         parker,
     } = Queue::open(&rt, alloc, 2)?;
-    let parts = arith_parts(alloc, shell);
-    let shell = spawn_shell(rt, alloc, parts, wires.shell).expect(&rt, "a thread");
-    let parts = arith_parts(alloc, control);
-    let control = spawn_control(rt, alloc, parts, wires.control).expect(&rt, "a thread");
-    let door = spawn_door(rt, door, wires.door).expect(&rt, "a thread");
-    let peers = (&wires.to_shell, &wires.to_control);
+    let shell = arith_engine(alloc, Side::Shell, shell);
+    let control = arith_engine(alloc, Side::Control, control);
+    let trio = trio_of(lines, shell, control, subscriptions);
+    let shell = trio.shell.spawn(rt, alloc).expect(&rt, "a thread");
+    let control = trio.control.spawn(rt, alloc).expect(&rt, "a thread");
+    let subscriptions = trio.subscriptions.spawn(rt).expect(&rt, "a thread");
+    let peers = (&trio.to_shell, &trio.to_control);
     let seen = converse(&rt, alloc, peers, &mut taker, &parker)?;
-    assert_eq!(rt; shell.join(&rt).restart, None);
-    assert_eq!(rt; control.join(&rt).restart, Some(false));
-    let _ = door.join(&rt);
+    assert_eq!(rt; shell.join(&rt).cause, Cause::Told);
+    assert_eq!(rt; control.join(&rt).cause, Cause::Shutdown { restart: false });
+    let _ = subscriptions.join(&rt);
     let due = ["0 closed", "1 status", "1 status", "1 closed", "2 closed"];
     assert!(rt; seen.len() > due.len());
     for (text, due) in seen.iter().rev().zip(due.iter().rev()) {

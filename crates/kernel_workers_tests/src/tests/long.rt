@@ -12,7 +12,7 @@ use std::alloc::{AllocError, Global};
 /// The steps of each cell.
 const STEPS: u64 = 1_000_000_000;
 
-/// A language in which each text is a cell of a thousand million steps. It writes a line where the steps that it has
+/// A language in which each text is a cell of a thousand million steps. It writes a line if the steps that it has
 /// left are whole thousands. All else has a fault.
 #[derive(Clone, Copy, Debug)]
 pub(crate) struct Long;

@@ -4,7 +4,7 @@ use super::*;
 use crate::tests::control::INTERRUPTED;
 use crate::tests::long::Long;
 use crate::tests::shell::{ASKED, INFO, SHUTDOWN};
-use kernel_workers::{Inbox, KernelEnd, Parts, run_kernel};
+use kernel_workers::{Flags, Inbox, KernelEnd, Parts, run_kernel};
 use listed::Octets;
 use std::sync::Arc;
 use std::sync::atomic::{AtomicBool, Ordering};
@@ -77,20 +77,20 @@ fn inbox_of<T: Drop>(alloc: Global) -> Result<(Inbox<T>, Sender<Note<T>>), Fail>
     Ok((Inbox { to, from }, other))
 }
 
-/// Has subscriber 1 come to a door, and ask for everything.
+/// Has subscriber 1 come, and ask for everything.
 fn subscribe<R: Wait>(
     rt: &R,
     alloc: Global,
-    to_door: &Sender<Note<Event<Keeper>>>,
+    to_subscriptions: &Sender<Note<Event<Keeper>>>,
     keeper: Keeper,
 ) -> Result<(), Fail> {
-    to_door.send(rt, Note::Job(Event::Attach(1, keeper)))?;
+    to_subscriptions.send(rt, Note::Item(Event::Attach(1, keeper)))?;
     let everything = Octets::new(Vec::new(alloc));
-    to_door.send(rt, Note::Job(Event::Subscribe(1, everything)))?;
+    to_subscriptions.send(rt, Note::Item(Event::Subscribe(1, everything)))?;
     Ok(())
 }
 
-/// A kernel of these interpreters of shell and control, with a queue of so many places, at whose door subscriber 1 asks
+/// A kernel of these interpreters of shell and control, with a queue of so many places, at which subscriber 1 asks
 /// for everything, and its client.
 fn kernel_of<I: Drop, R: Wait>(
     rt: &R,
@@ -101,14 +101,14 @@ fn kernel_of<I: Drop, R: Wait>(
     let has_output = Arc::new(alloc, AtomicBool::new(false))?;
     let (shell_in, to_shell) = inbox_of(alloc)?;
     let (control_in, to_control) = inbox_of(alloc)?;
-    let (door_in, to_door) = inbox_of(alloc)?;
+    let (subscriptions_in, to_subscriptions) = inbox_of(alloc)?;
     let (shell_replies, from_shell) = unbounded(alloc)?;
     let (control_replies, from_control) = unbounded(alloc)?;
     let keeper = Keeper {
         octets: Vec::new(alloc),
         has_output: Arc::try_clone(&has_output)?,
     };
-    subscribe(rt, alloc, &to_door, keeper)?;
+    subscribe(rt, alloc, &to_subscriptions, keeper)?;
     let parts = Parts {
         shell: (shell, OneDate),
         control: (control, OneDate),
@@ -116,7 +116,8 @@ fn kernel_of<I: Drop, R: Wait>(
         capacity,
         shell_in,
         control_in,
-        door_in,
+        flags: Flags::new(alloc)?,
+        subscriptions_in,
     };
     let client = Client {
         to_shell,
@@ -167,28 +168,28 @@ fn expect_numbered<R: Wait + Abort>(
     Ok(())
 }
 
-/// How many messages these octets are, where they are whole ones (ZMTP 3.1, "Framing"): each frame has its flags, of
+/// How many messages these octets are, if they are whole ones (ZMTP 3.1, "Framing"): each frame has its flags, of
 /// which 1 says that another follows and 2 that the length has eight octets and not one, its length, and its body.
 fn count_messages(octets: &[u8]) -> Option<usize> {
     let mut rest = octets;
     let mut count = 0_usize;
     let mut is_open = false;
     for _ in 0..octets.len() {
-        let Some((flags, behind)) = rest.split_first() else {
+        let Some((flags, after)) = rest.split_first() else {
             break;
         };
         let width = if *flags < 2 { 1 } else { 8 };
-        let (length, behind) = behind.split_at_checked(width)?;
+        let (length, after) = after.split_at_checked(width)?;
         let mut size = 0_usize;
         for octet in length {
             size = size.checked_mul(256)?.checked_add(usize::from(*octet))?;
         }
-        let (_, behind) = behind.split_at_checked(size)?;
+        let (_, after) = after.split_at_checked(size)?;
         is_open = flags % 2 == 1;
         if !is_open {
             count = count.saturating_add(1);
         }
-        rest = behind;
+        rest = after;
     }
     if is_open {
         return None;

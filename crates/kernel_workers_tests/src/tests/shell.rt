@@ -1,7 +1,7 @@
 //! Shell in a thread of its own, with nobody else.
 
 use super::*;
-use kernel_workers::{Flags, ShellLines, spawn_shell};
+use kernel_workers::{Cause, Flags, ShellWorker};
 
 /// What the kernel says of itself.
 pub(crate) const INFO: &str = concat!(
@@ -53,35 +53,39 @@ struct Outside {
     to: Sender<Note<Job>>,
     /// The inbox of control.
     control: Receiver<Note<Job>>,
-    /// What tells that shell has ended.
-    has_ended: Receiver<()>,
+    /// On which no message comes, but the drop of its sender once shell has closed.
+    ended: Receiver<()>,
     /// Where replies go.
     replies: Sender<Frames>,
     /// Where they come out.
     from: Receiver<Frames>,
 }
 
-/// The lines of shell, and what is outside of it.
-fn lay_lines(alloc: Global) -> Result<(ShellLines, Outside), Fail> {
+/// Shell's worker with this engine, and what is outside of it.
+fn worker_of<R: Wait + Drop>(
+    alloc: Global,
+    engine: ArithEngine<R>,
+) -> Result<(ShellWorker<ShellArith, OneDate, (), R>, Outside), Fail> {
     let flags = Flags::new(alloc)?;
     let (to, inbox) = unbounded(alloc)?;
     let (control, control_in) = unbounded(alloc)?;
-    let (ended, has_ended) = unbounded(alloc)?;
+    let (dropped, ended) = unbounded(alloc)?;
     let (replies, from) = unbounded(alloc)?;
-    let lines = ShellLines {
+    let worker = ShellWorker {
+        engine,
         inbox,
         flags,
-        ended,
+        ended: dropped,
         control,
     };
     let outside = Outside {
         to,
         control: control_in,
-        has_ended,
+        ended,
         replies,
         from,
     };
-    Ok((lines, outside))
+    Ok((worker, outside))
 }
 
 /// Asks twice what the kernel is, with nothing in between, and then for a shutdown.
@@ -91,21 +95,23 @@ fn ask_all<R: Wait>(rt: &R, alloc: Global, outside: &Outside) -> Result<(), Fail
     let nothing = Job {
         frames: Frames::new(Vec::new(alloc)),
         reply: replies.clone()?,
+        credit: None,
     };
-    to.send(rt, Note::Job(nothing))?;
+    to.send(rt, Note::Item(nothing))?;
     ask(rt, alloc, to, replies, (ASKED, "{}"))?;
     ask(rt, alloc, to, replies, (SHUTDOWN, r#"{"restart":true}"#))
 }
 
-/// Expects the reply to each of these, and that shell tells its end.
+/// Expects the reply to each of these, and that shell tells its end: by the drop of a sender, and one note to control.
 fn expect_replies<R: Wait + Abort>(rt: &R, alloc: Global, outside: &Outside) -> Result<(), Fail> {
     let from = &outside.from;
     expect_reply(rt, alloc, from, ("kernel_info_reply", 4, INFO), ASKED)?;
     expect_reply(rt, alloc, from, ("kernel_info_reply", 7, INFO), ASKED)?;
     let due = r#"{"restart":true,"status":"ok"}"#;
     expect_reply(rt, alloc, from, ("shutdown_reply", 10, due), SHUTDOWN)?;
-    assert_eq!(rt; outside.has_ended.recv(rt), Ok(()));
+    assert!(rt; outside.ended.recv(rt).is_err());
     assert!(rt; matches!(outside.control.recv(rt), Ok(Note::End)));
+    assert!(rt; outside.control.recv(rt).is_err());
     Ok(())
 }
 
@@ -127,19 +133,18 @@ fn converse<R: Wait + Abort>(
 #[test]
 fn shell_replies_until_a_client_ends_it(rt: HostRuntime) -> Result<(), Fail> {
     let alloc = rt.alloc();
-    let (lines, outside) = lay_lines(alloc)?;
     let Queue {
         shell,
         control,
-        door,
+        subscriptions,
         mut taker,
         parker,
     } = Queue::open(&rt, alloc, 3)?;
     let _ = control.close();
-    let _ = door.close();
-    let parts = arith_parts(alloc, shell);
-    let shell = spawn_shell(rt, alloc, parts, lines).expect(&rt, "a thread");
+    let _ = subscriptions.close();
+    let (worker, outside) = worker_of(alloc, arith_engine(alloc, Side::Shell, shell))?;
+    let shell = worker.spawn(rt, alloc).expect(&rt, "a thread");
     converse(&rt, alloc, &outside, &mut taker, &parker)?;
-    assert_eq!(rt; shell.join(&rt).restart, Some(true));
+    assert_eq!(rt; shell.join(&rt).cause, Cause::Shutdown { restart: true });
     Ok(())
 }

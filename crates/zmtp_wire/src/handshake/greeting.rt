@@ -62,6 +62,6 @@ pub fn read_greeting(octets: &[u8; 64]) -> Result<Peer, WireFault>
 }
 
 /// The greeting that the kernel sends is one that it would accept.
-pub fn our_greeting_is_accepted()
+pub fn law_our_greeting_is_accepted()
     ensures { IsGreeting greeting_octets }
 {}

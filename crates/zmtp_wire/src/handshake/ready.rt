@@ -1,10 +1,11 @@
 //! The command READY: writing ours, and judging the peer's.
 
 ghost use Rattle.std.specs.Prelude.{◌≡◌, ◌≢◌, ◌<◌, ◌≤◌, ◌^◌, ◌⊎◌, ◌++◌, ℕ, List, length, codes, IfSome, IfNone, IfOk};
-ghost use Rattle.std.specs.Prelude.{IfErr};
+ghost use Rattle.std.specs.Prelude.{◌↔◌, IfErr, IsTrue};
 ghost use Rattle.zmtp_wire.specs.Ready.{Property, BeginsWithProperty, AnnouncesIn, HasNoProperties, AnnouncesNoneIn};
 ghost use Rattle.zmtp_wire.specs.Ready.{Accepts, AcceptsNone, IsReady, ready_octets, PropertiesHaveOneReading};
-ghost use Rattle.zmtp_wire.specs.Ready.{ReadyHasOneOutcome, OurReadyIsRead};
+ghost use Rattle.zmtp_wire.specs.Ready.{GivesIdentity, GivesNoIdentity, OneIdentity, ReadyHasOneOutcome};
+ghost use Rattle.zmtp_wire.specs.Ready.{OurReadyIsRead};
 ghost use Rattle.zmtp_wire.specs.Lengths.{short_text, long_text};
 
 use crate::fault::WireFault;
@@ -72,13 +73,20 @@ fn read_command(name: &[u8], rest: &[u8], ours: SocketType) -> Result<Ready, Wir
     requires { name.now ≢ codes "ERROR" }
     ensures { IsReady (Traffic.Command name.now rest.now) ours result }
 {
-    if name != b"READY".as_slice() {
+    if !is_ready(name) {
         return Err(WireFault::Command);
     }
-    match announced_in(rest) {
+    match announced_in(rest, b"Socket-Type") {
         Some(value) => accepted(value, ours),
         None => Err(WireFault::Command),
     }
+}
+
+/// Whether a command of this name is READY.
+fn is_ready(name: &[u8]) -> bool
+    ensures { IsTrue result ↔ name.now ≡ codes "READY" }
+{
+    name == b"READY".as_slice()
 }
 
 /// The peer's type by the value of its `Socket-Type`.
@@ -92,16 +100,43 @@ fn accepted(value: &[u8], ours: SocketType) -> Result<Ready, WireFault>
     }
 }
 
-/// The value of the first `Socket-Type` in a list of properties, which is read to its end.
-fn announced_in(rest: &[u8]) -> Option<&[u8]>
-    ensures found { IfSome result (λ value. AnnouncesIn rest.now value.now) }
-    ensures none { IfNone result (HasNoProperties rest.now ⊎ AnnouncesNoneIn rest.now) }
+/// Reads the identity that a peer gives itself in its READY: the value of the first `Identity` in its list of
+/// properties (RFC 23, "The NULL Security Mechanism"). It is none if that is empty or isn't there, if the list is
+/// broken, and for a message or another command. Takes no memory.
+pub fn read_identity(first: &Traffic) -> Option<&[u8]>
+    ensures given { IfSome result (λ identity. GivesIdentity first.now identity.now) }
+    ensures none { IfNone result (GivesNoIdentity first.now) }
+{
+    match first {
+        Traffic::Message(_) => None,
+        Traffic::Command(name, rest) => identity_in(name.as_slice(), rest.as_slice()),
+    }
+}
+
+/// Reads the identity in a command.
+fn identity_in<'a>(name: &[u8], rest: &'a [u8]) -> Option<&'a [u8]>
+    ensures given { IfSome result (λ identity. GivesIdentity (Traffic.Command name.now rest.now) identity.now) }
+    ensures none { IfNone result (GivesNoIdentity (Traffic.Command name.now rest.now)) }
+{
+    if !is_ready(name) {
+        return None;
+    }
+    match announced_in(rest, b"Identity") {
+        Some(identity) if !identity.is_empty() => Some(identity),
+        _ => None,
+    }
+}
+
+/// The value of the first property of a name in a list of properties, which is read to its end.
+fn announced_in<'a>(rest: &'a [u8], sought: &[u8]) -> Option<&'a [u8]>
+    ensures found { IfSome result (λ value. AnnouncesIn sought.now rest.now value.now) }
+    ensures none { IfNone result (HasNoProperties rest.now ⊎ AnnouncesNoneIn sought.now rest.now) }
 {
     let mut found = None;
     let mut left = rest;
     'list: while !left.is_empty() {
         let (name, value, behind) = property_at(left)?;
-        if name.eq_ignore_ascii_case(b"Socket-Type") {
+        if name.eq_ignore_ascii_case(sought) {
             found = found.or(Some(value));
         }
         left = behind;
@@ -148,16 +183,21 @@ fn long_text_at(octets: &[u8]) -> Option<(&[u8], &[u8])>
 }
 
 /// Octets are those of one list of properties at most (RFC 23, "The NULL Security Mechanism").
-pub fn properties_have_one_reading()
+pub fn law_properties_have_one_reading()
     ensures { PropertiesHaveOneReading }
 {}
 
+/// A peer has one identity at most.
+pub fn law_one_identity()
+    ensures { OneIdentity }
+{}
+
 /// What comes behind a greeting has one outcome at most.
-pub fn ready_has_one_outcome()
+pub fn law_ready_has_one_outcome()
     ensures { ReadyHasOneOutcome }
 {}
 
 /// A peer that accepts our type is told it by our READY.
-pub fn our_ready_is_read()
+pub fn law_our_ready_is_read()
     ensures { OurReadyIsRead }
 {}

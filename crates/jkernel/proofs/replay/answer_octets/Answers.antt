@@ -4,5 +4,5 @@ use Rattle.jkernel.proofs.replay.answer_octets.Goals as goal
 
 pub returns : goal.returns
 returns c =
-    prints_all_ok {T = Unstopped} (record {}) c.one_session.ensures.stays c.args.key.items c.args.octets.now _
+    prints_all_ok {T = Unstopped} (record {}) c.law_one_session.ensures.stays c.args.key.items c.args.octets.now _
     c.answer_peer.result (rw c.new.ensures at c.answer_peer.ensures)

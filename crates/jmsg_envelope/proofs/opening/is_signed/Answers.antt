@@ -3,28 +3,25 @@ use Rattle.std.proofs.lemmas.Bool.{false≢true}
 use Rattle.hex.specs.Hex.{encode_lower}
 use Rattle.jmsg_envelope.specs.Envelope.{signed_octets}
 use Rattle.jmsg_envelope.specs.Hmac.{hmac}
-use Rattle.jmsg_envelope.specs.Split.{parts_of}
+use Rattle.jmsg_envelope.specs.Split.{signed_parts_of}
 use Rattle.jmsg_envelope.proofs.HexCase.{lower-encode_lower}
 use Rattle.jmsg_envelope.proofs.opening.is_signed.Goals as goal
 
 pub returns-clause-right : goal.returns-clause-right
 returns-clause-right c right =
-    let octets = signed_octets (parts_of c.args.split.now) in
+    let octets = signed_octets (signed_parts_of c.args.signed) in
     let digits : c.digits_of-digits.result ≡ encode_lower (hmac c.args.signer.now octets) =
-    rw (c.deref.ensures.value, c.deref-2.ensures.value, c.deref-3.ensures.value, c.deref-4.ensures.value) at
     c.digits_of-digits.ensures in
-    let same = rw (c.deref-5.ensures.value, digits) at (c.are_same_digits.ensures.0 right) in
+    let same = rw digits at (c.are_same_digits.ensures.0 right) in
     inr (same ∙ lower-encode_lower (hmac c.args.signer.now octets))
 
 pub returns-clause-wrong : goal.returns-clause-wrong
 returns-clause-wrong c wrong =
-    let octets = signed_octets (parts_of c.args.split.now) in
+    let octets = signed_octets (signed_parts_of c.args.signed) in
     let digits : c.digits_of-digits.result ≡ encode_lower (hmac c.args.signer.now octets) =
-    rw (c.deref.ensures.value, c.deref-2.ensures.value, c.deref-3.ensures.value, c.deref-4.ensures.value) at
     c.digits_of-digits.ensures in
     let lower = lower-encode_lower (hmac c.args.signer.now octets) in
     record {
       keyed = λ none. false≢true (c.if-is_keyless.ensures.1 none);
-      differs = λ same. false≢true (sym wrong ∙ c.are_same_digits.ensures.1
-          (rw (c.deref-5.ensures.value, digits) (same ∙ sym lower)));
+      differs = λ same. false≢true (sym wrong ∙ c.are_same_digits.ensures.1 (rw digits (same ∙ sym lower)));
     }

@@ -1,5 +1,6 @@
 use Rattle.std.proofs.Common.{inl, inr}
 use Rattle.std.proofs.lemmas.Result.{err_from_is_err_and}
+use Rattle.jmsg_envelope.proofs.Cuts.{uncut_is_none}
 use Rattle.jmsg_envelope.proofs.opening.open_envelope.Goals as goal
 
 pub returns-in_err-split-clause-refused : goal.returns-in_err-split-clause-refused
@@ -8,5 +9,5 @@ returns-in_err-split-clause-refused c =
     rw (p.1, p.2) (elim c.in_err-split.ensures.err [
       | inl memory ↦ inl memory
       | inr refused ↦
-          inr (refused c.args.signer.now)
+          inr (uncut_is_none c.args.signer.now _ _ refused)
     ])

@@ -1,29 +1,13 @@
-use Rattle.std.proofs.Common.{◌≡◌, Some, None, inr, sym, ◌∙◌, arith, refl, position}
-use Rattle.listed.specs.Bodies.{bodies}
+use Rattle.std.proofs.Common.{◌≡◌, Some, sym, ◌∙◌, arith, refl, position}
 use Rattle.jmsg_envelope.specs.Split.{is_delimiter}
-use Rattle.jmsg_envelope.proofs.Delimiters.{none_found, too_short}
-use Rattle.jmsg_envelope.proofs.Cuts.{IsSplit-from_taken, bodies_found, length_of_bodies}
+use Rattle.jmsg_envelope.proofs.Cuts.{IsSplit-from_taken}
 use Rattle.jmsg_envelope.specs.declared.split.Split.{Split}
 use Rattle.jmsg_envelope.proofs.split.cut_frames.Goals as goal
 
-pub returns-in_default-clause-err : goal.returns-in_default-clause-err
-returns-in_default-clause-err c =
-    let found : position (λ f. is_delimiter f.items) c.args.frames.items ≡ None =
-    rw c.deref.ensures.value at (sym c.in_default.ensures) in
-    inr (λ key. none_found (bodies c.args.frames.items) (bodies_found c.args.frames.items _ found))
-
-pub returns-then-len-at-lt-FIXED_FRAMES-clause-err :
-    goal.returns-then-len-at-lt-FIXED_FRAMES-clause-err
-returns-then-len-at-lt-FIXED_FRAMES-clause-err c =
-    let found : position (λ f. is_delimiter f.items) c.args.frames.items ≡ Some c.in-Some.at =
-    rw c.deref.ensures.value at (sym c.in-Some.ensures) in
-    inr (λ key. too_short (bodies c.args.frames.items) c.in-Some.at (bodies_found c.args.frames.items _ found)
-    (rw length_of_bodies (omega (arith, c.args.frames.ok.0))))
-
 pub returns-clause-ok : goal.returns-clause-ok
 returns-clause-ok c =
-    let found : position (λ f. is_delimiter f.items) c.args.frames.items ≡ Some c.in-Some.at =
-    rw c.deref.ensures.value at (sym c.in-Some.ensures) in
+    let found : position (λ f. is_delimiter f.items) c.args.frames.items ≡ Some c.in_ok-at.at =
+    rw c.deref.ensures.value at c.in_ok-at.ensures.found in
     let split : Split = record {
       identities = c.take_last-delimiter.new.self;
       signature = c.take_last-signature.result;
@@ -34,7 +18,7 @@ returns-clause-ok c =
       buffers = c.in_ok-buffers.buffers;
     } in
     let cut = c.in_ok-buffers.ensures.len in
-    IsSplit-from_taken c.args.frames.items c.in-Some.at c.take_last-delimiter.result split record {
+    IsSplit-from_taken c.args.frames.items c.in_ok-at.at c.take_last-delimiter.result split record {
       front = sym c.in_ok-buffers.ensures.items
           ∙ rw (
             c.take_last-content.ensures.items,

@@ -1,7 +1,7 @@
 use Rattle.std.proofs.Common.{false, refl}
 use Rattle.zmtp_connection.specs.Exchange.{devices_at}
 use Rattle.zmtp_connection.specs.declared.end.Ending.TheVariants.{Connection}
-use Rattle.zmtp_connection.proofs.ServeLemmas.{serve_met, serve_away}
+use Rattle.zmtp_connection.proofs.ServeLemmas.{serve_open, serve_away}
 use Rattle.zmtp_connection.proofs.serving.serve.Goals as goal
 
 pub returns-in-Err-clause-serves : goal.returns-in-Err-clause-serves
@@ -18,12 +18,12 @@ returns-in-Err-clause-serves g c = (
 
 pub returns-clause-serves : goal.returns-clause-serves
 returns-clause-serves g c =
-    let meets = c.in-Ok.ensures.met in
+    let meets = c.in-Ok.ensures.is_open in
     let (left, said) = c.respond-ending.ensures.responds meets.behind meets.holds in (
       left,
       c.respond-ending.result.1,
       c.respond-ending.result.0,
-      serve_met c.respond-ending.result.1 g.S.Server.answers c.args.ours c.args.server.now
+      serve_open c.respond-ending.result.1 g.S.Server.answers c.args.ours c.args.server.now
           c.respond-ending.new.server c.in-Ok.peer
           (devices_at (g.R.Inlet.inflow c.args.reader.now) c.args.turns (g.W.Outlet.outflow c.args.writer.now))
           (devices_at (g.R.Inlet.inflow c.shake_within.new.reader) c.shake_within.new.turns

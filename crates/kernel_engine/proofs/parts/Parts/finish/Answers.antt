@@ -9,16 +9,16 @@ returns-clause-handled g c =
     let few : c.args.self.now.publishing.next ≤ 2 ^ 62 =
     let test = c.if-self-gt-LAST_BEGIN.false in omega (arith, test) in
     let pays = rw (c.if-not-pay.false) at (c.pay.ensures) in
-    let (identities, header, msg_type) = c.needed-identities.ensures in
+    let (header, pending) = c.into_pending-header.ensures in
     let begins = rw header at c.in-Ok.ensures.0 in
-    let answers = rw (identities, msg_type) at c.answer-handled.ensures in
+    let answers = rw pending at c.answer-handled.ensures in
     handled_told world g.met.P.Publish.laws.same_on (g.T.Stop.may_ask c.args.stop.now)
-    c.args.request c.args.self.now c.close_block.new.self c.answer-handled.result
-    (handled_by world g.met.P.Publish.laws.same_on c.args.request c.in-Ok.block.heading c.in-Ok.block.idle
+    c.args.asked.request c.args.self.now c.close_block.new.self c.answer-handled.result
+    (handled_by world g.met.P.Publish.laws.same_on c.args.asked.request c.in-Ok.block.heading c.in-Ok.block.idle
     c.args.self.now
     c.pay.new.self c.open.new.self c.answer-handled.new.self c.close_block.new.self
     (λ a b same. (g.met.P.Publish.laws.same_may_refuse a b same).1)
-    few pays begins c.close_block.ensures (g.T.Stop.may_ask c.args.stop.now) c.args.does c.answer-handled.result
+    few pays begins c.close_block.ensures (g.T.Stop.may_ask c.args.stop.now) c.args.asked.does c.answer-handled.result
     c.requires.read answers)
 
 pub returns-clause-counted : goal.returns-clause-counted
@@ -27,19 +27,21 @@ returns-clause-counted g c =
     let few : c.args.self.now.publishing.next ≤ 2 ^ 62 =
     let test = c.if-self-gt-LAST_BEGIN.false in omega (arith, test) in
     let pays = rw (c.if-not-pay.false) at (c.pay.ensures) in
-    let (identities, header, msg_type) = c.needed-identities.ensures in
+    let (header, pending) = c.into_pending-header.ensures in
     let begins = rw header at c.in-Ok.ensures.0 in
-    let answers = rw (identities, msg_type) at c.answer-handled.ensures in
+    let answers = rw pending at c.answer-handled.ensures in
     counted_by world g.met.P.Publish.laws.same_on (g.T.Stop.may_ask c.args.stop.now)
-    c.args.request c.args.self.now c.close_block.new.self c.answer-handled.result c.requires.few
-    (handled_by world g.met.P.Publish.laws.same_on c.args.request c.in-Ok.block.heading c.in-Ok.block.idle
+    c.args.asked.request c.args.self.now c.close_block.new.self c.answer-handled.result c.requires.few
+    (handled_by world g.met.P.Publish.laws.same_on c.args.asked.request c.in-Ok.block.heading c.in-Ok.block.idle
     c.args.self.now
     c.pay.new.self c.open.new.self c.answer-handled.new.self c.close_block.new.self
     (λ a b same. (g.met.P.Publish.laws.same_may_refuse a b same).1)
-    few pays begins c.close_block.ensures (g.T.Stop.may_ask c.args.stop.now) c.args.does c.answer-handled.result
+    few pays begins c.close_block.ensures (g.T.Stop.may_ask c.args.stop.now) c.args.asked.does c.answer-handled.result
     c.requires.read answers)
 
 pub returns-clause-read : goal.returns-clause-read
 returns-clause-read g c =
+    let (header, pending) = c.into_pending-header.ensures in
     was_read (world_of g.I.Interpreter.meaning g.P.Publish.sink g.S.Stamp.stamp) g.met.P.Publish.laws.same_on
-    (g.T.Stop.may_ask c.args.stop.now) _ _ _ _ _ _ _ c.answer-handled.result c.requires.read c.answer-handled.ensures
+    (g.T.Stop.may_ask c.args.stop.now) _ _ _ _ _ _ _ c.answer-handled.result c.requires.read
+    (rw pending at c.answer-handled.ensures)

@@ -1,4 +1,4 @@
-use Rattle.std.proofs.Common.{[], refl, ◌∙◌, ap, sym}
+use Rattle.std.proofs.Common.{[], refl, ◌∙◌, ap}
 use Rattle.kernel_engine.specs.declared.does.Does.TheVariants.{Refuses}
 use Rattle.kernel_engine.specs.declared.respond.Answered.{Answered}
 use Rattle.kernel_engine.specs.Answer.{plain}

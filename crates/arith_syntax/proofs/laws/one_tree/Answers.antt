@@ -1,5 +1,0 @@
-use Rattle.arith_syntax.proofs.Theorems.{one_tree}
-use Rattle.arith_syntax.proofs.laws.one_tree.Goals as goal
-
-pub returns : goal.returns
-returns c = one_tree

@@ -1,5 +1,0 @@
-use Rattle.arith_syntax.proofs.Theorems.{one_lexing}
-use Rattle.arith_syntax.proofs.token_laws.one_lexing.Goals as goal
-
-pub returns : goal.returns
-returns c = one_lexing

@@ -1,5 +1,0 @@
-use Rattle.arith_syntax.proofs.Theorems.{one_wrong_place}
-use Rattle.arith_syntax.proofs.token_laws.one_wrong_place.Goals as goal
-
-pub returns : goal.returns
-returns c = one_wrong_place

@@ -1,5 +1,0 @@
-use Rattle.arith_syntax.proofs.Theorems.{tokens_are_nowhere_wrong}
-use Rattle.arith_syntax.proofs.token_laws.tokens_are_nowhere_wrong.Goals as goal
-
-pub returns : goal.returns
-returns c = tokens_are_nowhere_wrong

@@ -1,0 +1,9 @@
+use Rattle.std.proofs.Common.{rules, ◌≡◌, length}
+use Rattle.kernel_limits.proofs.KeptLemmas.{kept_without_first}
+use Rattle.kernel_limits.proofs.kept.Kept.take.Goals as goal
+
+pub invariant_of-self : goal.invariant_of-self
+invariant_of-self c =
+    let taken : c.len.result ≡ length c.in-Some.chunk.items = search rules in
+    kept_without_first c.self.inside.len c.len.result c.in-Some.chunk c.self.inside.full.items
+    c.pop_front.new.self.items c.self.inside.last.items c.in-Some.ensures.items taken c.self.invariant

@@ -1,0 +1,115 @@
+-- What is decided by the limits of a server. Time is in milliseconds.
+use Rattle.std.specs.Prelude.{ℕ, ◌+◌, ◌-◌, ◌/◌, ◌<◌, ◌≤◌, min, List, Bool, true, ◌&&◌, nat_lt, nat_le}
+use Rattle.std.specs.Prelude.{Option, Some, None, if◌then◌else◌, zero, suc}
+use Rattle.std.specs.List.{sum_by}
+use Rattle.kernel_limits.specs.declared.meter.Meter.{Meter}
+use Rattle.kernel_limits.specs.declared.pace.Pace.{Pace}
+use Rattle.kernel_limits.specs.declared.place.Place.{Place}
+use Rattle.kernel_limits.specs.declared.place.Place.TheVariants.{Free, Of, Taken}
+use Rattle.kernel_limits.specs.declared.topic_count.TopicCount.{TopicCount}
+use Rattle.kernel_limits.specs.declared.unfinished.Part.{Part}
+
+-- a connection may be read on while fewer than 64 of its jobs wait or have unwritten replies, and fewer than 64 MiB
+abbrev pub may_read : ℕ → ℕ → ℕ → Bool
+may_read jobs octets replies = nat_lt (jobs + replies) 64 && nat_lt octets 67108864
+
+-- a number as it is counted: at the greatest number it stays
+abbrev pub capped : ℕ → ℕ
+capped n = min n 18446744073709551615
+
+-- what is left of so much time that began then
+abbrev pub left_of : ℕ → ℕ → ℕ → ℕ
+left_of began millis now = capped (began + millis) - now
+
+-- the relay waits for a slow subscriber unless the kernel has been to end for 300 ms
+abbrev pub waits_on : Option ℕ → ℕ → Bool
+waits_on None now = true
+waits_on (Some since) now = nat_lt (now - since) 300
+
+-- the place of the first of these that is there, or none
+abbrev pub place_of_either : Option ℕ → Option ℕ → Place
+place_of_either (Some shaking) left = Of shaking
+place_of_either None (Some left) = Of left
+place_of_either None None = Taken
+
+-- what becomes of a newcomer: it has a place among 240, or that of the oldest that hasn't finished its handshake, else
+-- that of the oldest whose peer has closed its side
+abbrev pub place_of : ℕ → Option ℕ → Option ℕ → Place
+place_of many shaking left = if nat_lt many 240 then Free else place_of_either shaking left
+
+-- what is kept for one of so many subscribers: 16 MiB, or its part of 64 MiB
+abbrev pub share_of : ℕ → ℕ
+share_of zero = 16777216
+share_of (suc others) = min 16777216 (67108864 / suc others)
+
+-- the pace of a subscriber that took so many octets more: 64 KiB begin it anew
+abbrev pub taking : Pace → ℕ → ℕ → Pace
+taking pace count now =
+    if nat_lt (pace.taken + count) 65536 then record { since = pace.since; taken = pace.taken + count }
+    else record { since = now; taken = 0 }
+
+-- a subscriber took less than 64 KiB in ten seconds
+abbrev pub is_slow : Pace → ℕ → Bool
+is_slow pace now = nat_le 10000 (now - pace.since)
+
+-- there is room for a topic of so many octets: 10,000 topics, and 1 MiB of them
+abbrev pub IsRoomFor : ℕ → TopicCount → Type 0
+IsRoomFor octets count = (count.topics < 10000) × (count.octets + octets ≤ 1048576)
+
+-- one topic of so many octets more
+abbrev pub with_topic : ℕ → TopicCount → TopicCount
+with_topic octets count = record { topics = count.topics + 1; octets = count.octets + octets }
+
+-- one topic of so many octets less
+abbrev pub without_topic : ℕ → TopicCount → TopicCount
+without_topic octets count = record { topics = count.topics - 1; octets = count.octets - octets }
+
+-- a handshake that begins now: it may have 64 KiB
+abbrev pub shaking : ℕ → Meter
+shaking now = record { most = 65536; held = 0; since = Some now }
+
+-- a connection whose messages may have so many octets, with nothing unfinished
+abbrev pub opened : ℕ → Meter
+opened most = record { most = most; held = 0; since = None }
+
+-- when something began: then, or now if nothing had begun
+abbrev pub since_or : Option ℕ → ℕ → ℕ
+since_or (Some since) now = since
+since_or None now = now
+
+-- how much time is left of 30 s, if something is unfinished
+abbrev pub left_by : Option ℕ → ℕ → Option ℕ
+left_by (Some since) now = Some (left_of since 30000 now)
+left_by None now = None
+
+-- so many octets more were read
+abbrev pub reading : Meter → ℕ → ℕ → Meter
+reading meter count now = record {
+  most = meter.most;
+  held = capped (meter.held + count);
+  since = Some (since_or meter.since now);
+}
+
+-- the time of what is unfinished, begun anew
+abbrev pub since_now : Option ℕ → ℕ → Option ℕ
+since_now (Some since) now = Some now
+since_now None now = None
+
+-- what is unfinished begins anew: nothing was read for a while, and not for want of octets
+abbrev pub resumed : Meter → ℕ → Meter
+resumed meter now = record meter { since = since_now meter.since now }
+
+-- a message became whole whose shortest text has so many octets: what was read beyond it began now, unless it is no
+-- more than another spelling of the message's sizes explains, seven octets in each of 64 frames
+abbrev pub finished : Meter → ℕ → ℕ → Meter
+finished meter octets now =
+    if nat_le (meter.held - octets) 448 then opened meter.most
+    else record { most = meter.most; held = meter.held - octets; since = Some now }
+
+-- what is unfinished beyond 64 KiB
+abbrev pub excess_of : Meter → ℕ
+excess_of meter = meter.held - 65536
+
+-- parts of unfinished messages are more together than 64 MiB
+abbrev pub is_overfull : List Part → Bool
+is_overfull parts = nat_lt 67108864 (sum_by (λ (part : Part). part.octets) parts)

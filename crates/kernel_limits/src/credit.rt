@@ -1,0 +1,14 @@
+//! Whether a connection's reader may read on.
+
+ghost use Rattle.std.specs.Prelude.{◌≡◌};
+ghost use Rattle.kernel_limits.specs.Limits.{may_read};
+
+use crate::limits::{JOB_OCTETS, JOBS};
+
+/// Whether the reader of a connection may read on, while so many of its jobs, with so many octets, are in work, and so
+/// many of its replies aren't written.
+pub fn may_read(jobs: usize, octets: usize, replies: usize) -> bool
+    ensures { result ≡ may_read jobs octets replies }
+{
+    octets < JOB_OCTETS && jobs < JOBS && replies < JOBS - jobs
+}

@@ -1,0 +1,125 @@
+//! What is kept for a subscriber: octets that come in pieces and are taken in chunks.
+
+ghost use Rattle.std.specs.Prelude.{◌≡◌, ◌++◌, ◌-◌, ◌<◌, ◌≤◌, ◌↔◌, [], length, take, IfNone, IfOk, IfErr, IfSome};
+ghost use Rattle.std.specs.Prelude.{IsTrue, OnOk};
+ghost use Rattle.kernel_limits.specs.Kept.{joined, AreSome};
+
+use std::alloc::{AllocError, Global};
+use std::collections::VecDeque;
+use std::marker::Model;
+use std::mem;
+
+/// How many octets a chunk has, at most: so many are written at once.
+const CHUNK: usize = 1 << 16;
+
+/// What is kept for a subscriber. A contract sees the octets.
+#[derive(Drop)]
+pub struct Kept {
+    /// Where they take their memory.
+    alloc: Global,
+    /// Chunks that are full.
+    full: VecDeque<Vec<u8>>,
+    /// The chunk that is being filled, after these.
+    last: Vec<u8>,
+    /// How many octets are kept.
+    len: usize,
+}
+
+impl Model for Kept {
+    ghost use Rattle.std.specs.Prelude.{ℕ, List};
+    ghost use Rattle.kernel_limits.specs.Kept.{joined, IsKept};
+
+    ghost Value = { List ℕ };
+
+    ghost view = { λ kept. joined kept.full.items kept.last.items };
+
+    ghost invariant = { λ kept. IsKept kept.len kept.full.items kept.last.items };
+}
+
+impl Kept {
+    /// Nothing.
+    pub fn new(alloc: Global) -> Kept
+        ensures { result ≡ [] }
+    {
+        Kept {
+            alloc,
+            full: VecDeque::new(alloc),
+            last: Vec::new(alloc),
+            len: 0,
+        }
+    }
+
+    /// How many octets are kept.
+    pub fn len(&self) -> usize
+        ensures { result ≡ length self.now }
+    {
+        self.len
+    }
+
+    /// Whether none is.
+    pub fn is_empty(&self) -> bool
+        ensures { IsTrue result ↔ (length self.now ≡ 0) }
+    {
+        self.len == 0
+    }
+
+    /// Keeps the first octets of a piece, as long as fewer than its share are kept, and answers how many: some of them,
+    /// if they are some and there is room.
+    ///
+    /// # Errors
+    ///
+    /// Where memory is refused. What is kept stays.
+    pub fn put(&mut self, piece: &[u8], share: usize) -> Result<usize, AllocError>
+        ensures appends { IfOk result (λ count. self.new ≡ self.old ++ take count piece.now) }
+        ensures bound { IfOk result (λ count. (count ≤ length piece.now) × (count ≤ share - length self.old)) }
+        ensures some { IfOk result (λ count. length self.old < share → 0 < length piece.now → 0 < count) }
+        ensures stays { IfErr result (λ _. self.new ≡ self.old) }
+    {
+        turn_over(self.alloc, &mut self.full, &mut self.last)?;
+        let room = (CHUNK - self.last.len()).min(share.saturating_sub(self.len));
+        let (front, _) = piece.split_at(room.min(piece.len()));
+        self.last.extend_from_slice(front)?;
+        self.len += front.len();
+        Ok(front.len())
+    }
+
+    /// Takes a chunk of the first octets. None if nothing is kept.
+    pub fn take(&mut self) -> Option<Vec<u8>>
+        ensures front { IfSome result (λ chunk. self.old ≡ chunk.items ++ self.new) }
+        ensures some { IfSome result (λ chunk. 0 < length chunk.items) }
+        ensures none { IfNone result ((self.old ≡ []) × (self.new ≡ [])) }
+    {
+        if let Some(chunk) = self.full.pop_front() {
+            self.len -= chunk.len();
+            return Some(chunk);
+        }
+        if self.last.is_empty() {
+            return None;
+        }
+        self.len = 0;
+        Some(mem::replace(&mut self.last, Vec::new(self.alloc)))
+    }
+}
+
+/// Puts the chunk that is being filled among the full ones if it is full, and begins another: there is room then.
+///
+/// # Errors
+///
+/// Where memory is refused. The chunks stay as they are.
+fn turn_over(
+    alloc: Global,
+    full: &mut VecDeque<Vec<u8>>,
+    last: &mut Vec<u8>,
+) -> Result<(), AllocError>
+    ensures same { joined full.new.items last.new.items ≡ joined full.old.items last.old.items }
+    ensures room { OnOk result (length last.new.items < CHUNK) }
+    ensures some { AreSome full.old.items → AreSome full.new.items }
+{
+    if last.len() < CHUNK {
+        return Ok(());
+    }
+    full.reserve(1)?;
+    let filled = mem::replace(last, Vec::new(alloc));
+    full.push_back_reserved(filled);
+    Ok(())
+}

@@ -1,0 +1,24 @@
+//! What a server lets its peers have, hold and take: limits, and the values that decide by them. Nothing here knows a
+//! socket, a thread or a lock; time is handed in, in milliseconds since some beginning.
+#![tactic(auto)]
+
+mod credit;
+mod grace;
+mod kept;
+pub mod limits;
+mod meter;
+mod pace;
+mod place;
+mod share;
+mod topic_count;
+mod unfinished;
+
+pub use credit::may_read;
+pub use grace::{grace_left, waits_on};
+pub use kept::Kept;
+pub use meter::Meter;
+pub use pace::Pace;
+pub use place::{Place, place_of};
+pub use share::share_of;
+pub use topic_count::TopicCount;
+pub use unfinished::{Part, is_overfull};

@@ -1,5 +1,0 @@
-use Rattle.kernel_workers.specs.Staying.{IsSameEngine}
-use Rattle.kernel_workers.proofs.shell.serve.Given as goal
-
-abbrev pub invariant-loop : goal.invariant-loop
-invariant-loop g l = IsSameEngine g.S.Stamp.stamp l.fn.engine l.engine

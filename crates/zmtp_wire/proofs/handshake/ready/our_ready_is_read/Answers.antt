@@ -1,5 +1,0 @@
-use Rattle.zmtp_wire.proofs.ReadyLemmas.{our_ready}
-use Rattle.zmtp_wire.proofs.handshake.ready.our_ready_is_read.Goals as goal
-
-pub returns : goal.returns
-returns c = our_ready

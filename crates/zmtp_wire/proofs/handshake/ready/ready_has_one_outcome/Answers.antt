@@ -1,5 +1,0 @@
-use Rattle.zmtp_wire.proofs.ReadyLemmas.{same_outcome}
-use Rattle.zmtp_wire.proofs.handshake.ready.ready_has_one_outcome.Goals as goal
-
-pub returns : goal.returns
-returns c = same_outcome
