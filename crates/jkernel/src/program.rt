@@ -13,7 +13,7 @@ use crate::replay::run_replay;
 use crate::status::Status;
 use crate::words::{Order, WordsFault, read_words};
 use conn_file::{ConnFault, Connection, kernelspec_text, read_connection};
-use kernel_serve::{ServeFault, Until};
+use kernel_serve::{ServeFault, Until, can_be_read};
 use std::alloc::Global;
 use std::fs::{self, Files};
 use std::io::{self, ErrorKind, Read, Write};
@@ -188,7 +188,10 @@ where
 {
     let status = match read_file(rt, file) {
         Ok(octets) => match judge(alloc, &octets) {
-            Ok(connection) => serve_on(*rt, alloc, connection, until),
+            Ok(connection) => {
+                tell_of_clock(rt, faults);
+                serve_on(*rt, alloc, connection, until)
+            }
             Err(status) => status,
         },
         Err(status) => status,
@@ -264,6 +267,16 @@ where
         Err(ServeFault::NoThread | ServeFault::NoRandomness | ServeFault::OutOfMemory) => {
             Status::Failed
         }
+    }
+}
+
+/// Tells a person if the clock can't be read.
+pub(crate) fn tell_of_clock<C: Clock, F: Write>(clock: &C, faults: &mut F) {
+    if !can_be_read(clock) {
+        tell(
+            faults,
+            "jkernel: the clock can't be read: dates of messages are wrong, and no limit of time holds\n",
+        );
     }
 }
 

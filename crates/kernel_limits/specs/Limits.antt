@@ -1,7 +1,12 @@
 -- What is decided by the limits of a server. Time is in milliseconds.
 use Rattle.std.specs.Prelude.{ℕ, ◌+◌, ◌-◌, ◌/◌, ◌<◌, ◌≤◌, min, List, Bool, true, ◌&&◌, nat_lt, nat_le}
-use Rattle.std.specs.Prelude.{Option, Some, None, if◌then◌else◌, zero, suc}
+use Rattle.std.specs.Prelude.{Option, Some, None, false, codes, not, ◌||◌, drop, length, if◌then◌else◌, zero, suc}
 use Rattle.std.specs.List.{sum_by}
+use Rattle.std.specs.Str.{bytes_eq}
+use Rattle.kernel_limits.specs.declared.handover.Claim.{Claim}
+use Rattle.kernel_limits.specs.declared.handover.Claim.TheVariants.{Opens, Waits, Signs}
+use Rattle.kernel_limits.specs.declared.handover.Holder.{Holder}
+use Rattle.kernel_limits.specs.declared.handover.Holder.TheVariants.{Gone, Unsigned, Signed}
 use Rattle.kernel_limits.specs.declared.meter.Meter.{Meter}
 use Rattle.kernel_limits.specs.declared.pace.Pace.{Pace}
 use Rattle.kernel_limits.specs.declared.place.Place.{Place}
@@ -113,3 +118,30 @@ excess_of meter = meter.held - 65536
 -- parts of unfinished messages are more together than 64 MiB
 abbrev pub is_overfull : List Part → Bool
 is_overfull parts = nat_lt 67108864 (sum_by (λ (part : Part). part.octets) parts)
+
+-- a text of octets ends so
+abbrev pub ends_so : List ℕ → List ℕ → Bool
+ends_so end text = bytes_eq (drop (length text - length end) text) end
+
+-- a type of message that clients send and the kernel doesn't: requests, but for the one on stdin, and two of a comm's
+abbrev pub is_asked : List ℕ → Bool
+is_asked kind =
+    (ends_so (codes "_request") kind && not (bytes_eq kind (codes "input_request")))
+    || bytes_eq kind (codes "comm_open") || bytes_eq kind (codes "comm_msg")
+
+-- another connection of an identity gets its replies: always from one whose peer left, and once its peer has signed a
+-- message; when it opens also from one whose peer hasn't
+abbrev pub takes_over : Holder → Claim → Bool
+takes_over Gone Opens = true
+takes_over Gone Waits = true
+takes_over Gone Signs = true
+takes_over Unsigned Opens = true
+takes_over Unsigned Waits = false
+takes_over Unsigned Signs = true
+takes_over Signed Opens = false
+takes_over Signed Waits = false
+takes_over Signed Signs = true
+
+-- replies wait for a peer that left for less than a minute
+abbrev pub is_awaited : ℕ → ℕ → Bool
+is_awaited since now = nat_lt (now - since) 60000

@@ -2,8 +2,10 @@
 //! socket, a thread or a lock; time is handed in, in milliseconds since some beginning.
 #![tactic(auto)]
 
+mod asking;
 mod credit;
 mod grace;
+mod handover;
 mod kept;
 pub mod limits;
 mod meter;
@@ -13,8 +15,10 @@ mod share;
 mod topic_count;
 mod unfinished;
 
+pub use asking::is_asked;
 pub use credit::may_read;
 pub use grace::{grace_left, waits_on};
+pub use handover::{Claim, Holder, is_awaited, takes_over};
 pub use kept::Kept;
 pub use meter::Meter;
 pub use pace::Pace;

@@ -20,6 +20,9 @@ pub const UNFINISHED_MILLIS: u64 = 30_000;
 /// Octets of a peer before its READY was read. A greeting and a READY take a few hundred.
 pub const HANDSHAKE_OCTETS: usize = 64 << 10;
 
+/// Octets of the identity that a peer gives itself. libzmq lets none be longer.
+pub const IDENTITY_OCTETS: usize = 255;
+
 /// Octets of one message on the heartbeat. Jupyter's clients send four.
 pub const HEARTBEAT_OCTETS: usize = 64 << 10;
 
@@ -58,6 +61,10 @@ pub const SEND_BUFFER: i32 = 64 << 10;
 
 /// Milliseconds for which a peer of shell, control or the heartbeat may take nothing of what is written to it.
 pub const REPLY_MILLIS: u64 = 5_000;
+
+/// Milliseconds for which replies wait for a peer that left to connect again. Clients connect again within seconds, and
+/// a person who reloads a page within a minute.
+pub const AWAITED_MILLIS: u64 = 60_000;
 
 /// Milliseconds for which the relay waits for subscribers once the kernel is to end.
 pub const END_WAIT_MILLIS: u64 = 300;

@@ -50,6 +50,7 @@ where
         server,
     } = port;
     gate.close();
+    service.close(&rt);
     // Nobody may hold an inbox while it is waited for those who reply.
     drop(service);
     gate.end_reads(&rt);

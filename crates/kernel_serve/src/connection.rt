@@ -1,13 +1,17 @@
 //! Connections of shell and control: one thread reads a peer's requests, another writes the replies.
 
+use crate::asking::shows_key;
 use crate::guest::Guest;
+use crate::mailbox::{Mailbox, Replies};
+use crate::mailboxes::{Caller, Mailboxes, wake};
 use crate::reader::{Gauge, Reader};
 use crate::socket::Socket;
-use crossbeam_channel::{Receiver, RecvTimeoutError, SendError, Sender, unbounded};
+use crossbeam_channel::{SendError, Sender};
 use crossbeam_utils::sync::{Parker, Unparker};
 use jmsg_envelope::{Signer, check_signature};
-use kernel_limits::may_read;
-use kernel_workers::{Account, Credit, Job, Note};
+use kernel_limits::limits::IDENTITY_OCTETS;
+use kernel_limits::{Claim, may_read};
+use kernel_workers::{Credit, Job, Note};
 use listed::Frames;
 use std::alloc::{AllocError, Global};
 use std::sync::{Arc, Wait};
@@ -23,9 +27,6 @@ pub(crate) const TURNS: u64 = 1_000_000_000;
 /// For how many milliseconds a reader waits for credit, before it looks whether the connection was closed.
 const CREDIT_LOOK: u64 = 100;
 
-/// For how many milliseconds it is waited for a reply, before it is looked whether the connection was closed.
-const REPLY_LOOK: u64 = 1_000;
-
 /// The worker of a channel, as its connections see it.
 #[derive(Drop)]
 pub(crate) struct Channel {
@@ -33,6 +34,8 @@ pub(crate) struct Channel {
     pub(crate) inbox: Sender<Note<Job>>,
     /// What requests are signed with.
     pub(crate) signer: Arc<Signer, Global>,
+    /// Where replies to its peers go.
+    pub(crate) mailboxes: Arc<Mailboxes, Global>,
 }
 
 impl Channel {
@@ -43,13 +46,18 @@ impl Channel {
     /// Where it has too many owners.
     pub(crate) fn try_clone(&self) -> Result<Channel, AllocError> {
         let inbox = self.inbox.clone()?;
-        match Arc::try_clone(&self.signer) {
-            Ok(signer) => Ok(Channel { inbox, signer }),
-            Err(AllocError) => {
-                drop(inbox);
-                Err(AllocError)
-            }
-        }
+        let (Ok(signer), Ok(mailboxes)) = (
+            Arc::try_clone(&self.signer),
+            Arc::try_clone(&self.mailboxes),
+        ) else {
+            drop(inbox);
+            return Err(AllocError);
+        };
+        Ok(Channel {
+            inbox,
+            signer,
+            mailboxes,
+        })
     }
 }
 
@@ -58,18 +66,22 @@ impl Channel {
 struct Requests<R> {
     /// The handle to wait by.
     rt: R,
+    /// Where memory comes from.
+    alloc: Global,
     /// The worker.
     channel: Channel,
     /// Where replies to this peer go.
     replies: Sender<Frames>,
-    /// What of the connection is in work.
-    account: Arc<Account, Global>,
-    /// What the reader waits by while that is too much.
+    /// The part that the connection has in the peer's mailbox.
+    member: Member,
+    /// What the reader waits by while too much is in work.
     parker: Parker,
     /// What the connection has unfinished.
     gauge: Arc<Gauge, Global>,
     /// The connection's socket.
     socket: Socket,
+    /// Whether the worker is gone.
+    is_over: bool,
 }
 
 impl<R: Wait + Clock> Intake for Requests<R> {
@@ -82,9 +94,10 @@ impl<R: Wait + Clock> Intake for Requests<R> {
     ghost names = { λ _. [] };
 
     fn put(&mut self, traffic: Traffic) -> Result<bool, AllocError> {
-        self.gauge.finish(&self.rt, octets_of(&traffic));
+        let octets = octets_of(&traffic);
+        self.gauge.finish(&self.rt, octets);
         match traffic {
-            Traffic::Message(message) => self.receive(Frames::new(message.into_vec())),
+            Traffic::Message(message) => self.receive(Frames::new(message.into_vec()), octets),
             Traffic::Command(name, rest) => {
                 drop(name);
                 drop(rest);
@@ -92,6 +105,21 @@ impl<R: Wait + Clock> Intake for Requests<R> {
             }
         }
     }
+}
+
+/// The part that a connection has in the mailbox of its peer.
+#[derive(Drop)]
+struct Member {
+    /// The connection's number on its port.
+    number: u64,
+    /// The identity that the peer gave itself.
+    identity: Vec<u8>,
+    /// The mailbox.
+    mailbox: Arc<Mailbox, Global>,
+    /// Wakes the thread that writes.
+    writer: Unparker,
+    /// Whether the peer has shown that it holds the key.
+    is_signed: bool,
 }
 
 /// How many octets the shortest text of some traffic has, as far as that can be counted.
@@ -103,22 +131,73 @@ pub(crate) fn octets_of(traffic: &Traffic) -> usize {
 }
 
 impl<R: Wait + Clock> Requests<R> {
-    /// Looks whether a message is signed, puts it into the worker's inbox, and waits while too much of the connection
-    /// is in work. Answers whether the worker is still there.
+    /// Looks whether a message is signed, by a peer that has shown that it holds the key; puts it into the worker's
+    /// inbox, and waits while too much is in work. Answers whether the worker is still there.
     ///
     /// # Errors
     ///
     /// Where memory is refused.
-    fn receive(&self, frames: Frames) -> Result<bool, AllocError> {
-        if check_signature(&self.channel.signer, frames.as_slice()).is_err() {
-            drop(frames);
-            return Ok(true);
+    fn receive(&mut self, frames: Frames, octets: usize) -> Result<bool, AllocError> {
+        match self.is_of_client(frames.as_slice()) {
+            Ok(true) => {}
+            Ok(false) => {
+                drop(frames);
+                return Ok(true);
+            }
+            Err(AllocError) => {
+                drop(frames);
+                return Err(AllocError);
+            }
         }
-        let is_there = self.tell(frames)?;
-        if is_there {
+        if self.tell(frames, octets)? {
             self.wait_for_credit();
+        } else {
+            self.is_over = true;
         }
-        Ok(is_there)
+        Ok(!self.is_over)
+    }
+
+    /// Whether a message is signed, by a peer that has shown that it holds the key, if only by this one.
+    ///
+    /// # Errors
+    ///
+    /// Where memory is refused.
+    fn is_of_client(&mut self, frames: &[Vec<u8>]) -> Result<bool, AllocError> {
+        if check_signature(&self.channel.signer, frames).is_err() {
+            return Ok(false);
+        }
+        if !self.member.is_signed && shows_key(self.alloc, frames)? {
+            self.claim();
+        }
+        Ok(self.member.is_signed)
+    }
+
+    /// The peer has shown that it holds the key: it gets the mailbox of its identity.
+    fn claim(&mut self) {
+        let member = &mut self.member;
+        member.is_signed = member
+            .mailbox
+            .claim(&self.rt, member.number, &self.socket, Claim::Signs);
+        if !member.identity.is_empty() {
+            wake(&self.rt, self.alloc, &self.replies);
+            member.writer.unpark();
+        }
+    }
+
+    /// The peer has left, unless the kernel ends. If it gave itself an identity nothing more is written on this
+    /// connection: what is due to it waits for another one.
+    fn leave(&self) {
+        let is_end = self.is_over || (self.socket.is_ended() && !self.socket.is_shut());
+        if is_end || self.member.identity.is_empty() {
+            return;
+        }
+        self.socket.shut();
+        let now = self.gauge.now(&self.rt);
+        self.channel
+            .mailboxes
+            .leave(&self.rt, &self.member.mailbox, self.member.number, now);
+        wake(&self.rt, self.alloc, &self.replies);
+        self.member.writer.unpark();
     }
 
     /// Puts a message into the worker's inbox, and answers whether the worker is still there.
@@ -126,13 +205,12 @@ impl<R: Wait + Clock> Requests<R> {
     /// # Errors
     ///
     /// Where memory is refused.
-    fn tell(&self, frames: Frames) -> Result<bool, AllocError> {
-        let octets = text_len(frames.as_slice()).unwrap_or(usize::MAX);
+    fn tell(&self, frames: Frames, octets: usize) -> Result<bool, AllocError> {
         let Ok(reply) = self.replies.clone() else {
             drop(frames);
             return Err(AllocError);
         };
-        let Ok(credit) = Credit::take(&self.account, octets) else {
+        let Ok(credit) = Credit::take(self.member.mailbox.account(), octets) else {
             drop(frames);
             drop(reply);
             return Err(AllocError);
@@ -170,17 +248,18 @@ impl<R: Wait + Clock> Requests<R> {
         self.gauge.resume(&self.rt);
     }
 
-    /// Whether the reader may read on, or the connection was closed.
+    /// Whether the reader may read on, or the connection was closed, or its peer has left that may connect again: then
+    /// no more comes than the system has read already.
     fn is_free(&self) -> bool {
-        may_read(
-            self.account.jobs(),
-            self.account.octets(),
-            self.replies.len(),
-        ) || self.socket.is_ended()
+        let account = self.member.mailbox.account();
+        may_read(account.jobs(), account.octets(), self.replies.len())
+            || self.socket.is_ended()
+            || (!self.member.identity.is_empty() && self.socket.has_hung_up())
     }
 }
 
-/// Hears a peer with whom hands were shaken, until its octets end or are refused, or the intake gives it up.
+/// Hears a peer with whom hands were shaken, until its octets end or are refused, or the intake gives it up. A peer whose
+/// identity is too long isn't heard.
 pub(crate) fn hear_out<R, T>(
     alloc: Global,
     reader: &mut Counted<Reader<R>>,
@@ -191,8 +270,15 @@ where
     R: Wait + Clock + Drop,
     T: Intake,
 {
-    drop(hear(alloc, reader, &mut peer, intake, TURNS));
+    if is_named_well(&peer) {
+        drop(hear(alloc, reader, &mut peer, intake, TURNS));
+    }
     drop(peer);
+}
+
+/// Whether a peer's identity isn't too long.
+fn is_named_well(peer: &OpenPeer) -> bool {
+    peer.identity().len() <= IDENTITY_OCTETS
 }
 
 /// Serves a peer of shell or control as a ROUTER: shakes hands with it, and puts each message that it sends into the
@@ -209,17 +295,17 @@ where
     match shake(alloc, &mut reader, &mut writer, SocketType::Router, TURNS) {
         Ok(peer) => {
             guest.open(&rt, usize::MAX);
-            serve_open(
-                rt,
-                alloc,
-                guest,
-                channel,
-                Shaken {
-                    reader,
-                    writer,
-                    peer,
-                },
-            );
+            let shaken = Shaken {
+                reader,
+                writer,
+                peer,
+            };
+            if is_named_well(&shaken.peer) {
+                serve_open(rt, alloc, guest, channel, shaken);
+            } else {
+                drop(shaken);
+                drop(channel);
+            }
         }
         Err(end) => {
             drop(end);
@@ -246,7 +332,13 @@ fn serve_open<R>(rt: R, alloc: Global, guest: &Guest, channel: Channel, shaken: 
 where
     R: Threads + Wait + Clock + Copy + Send + Sync + Drop + 'static,
 {
-    let Some((mut requests, replies)) = requests_of(rt, alloc, guest, channel) else {
+    let Some((mut requests, replies)) = requests_of(
+        rt,
+        alloc,
+        guest,
+        channel,
+        shaken.peer.identity(),
+    ) else {
         drop(shaken);
         return;
     };
@@ -260,6 +352,7 @@ where
             hear_out(alloc, &mut reader, peer, &mut requests);
             drop(reader);
             guest.peer_left(&rt);
+            requests.leave();
             // The writing thread ends once nobody is left who could reply.
             drop(requests);
             writing.join(&rt);
@@ -268,6 +361,7 @@ where
             drop(error);
             drop(reader);
             drop(peer);
+            requests.leave();
             drop(requests);
         }
     }
@@ -279,46 +373,100 @@ fn requests_of<R: Wait + Clock + Drop>(
     alloc: Global,
     guest: &Guest,
     channel: Channel,
+    identity: &[u8],
 ) -> Option<(Requests<R>, Replies)> {
-    let Some(shares) = shares_of(alloc, guest) else {
+    let Some(shares) = shares_of(alloc, guest, identity) else {
         drop(channel);
         return None;
     };
-    match unbounded(alloc) {
-        Ok((replies, due)) => {
-            let requests = Requests {
-                rt,
-                channel,
-                replies,
-                account: shares.account,
-                parker: shares.parker,
-                gauge: shares.gauge,
-                socket: shares.socket,
-            };
-            let replies = Replies {
-                due,
-                reader: shares.reader,
-                socket: shares.closed,
-            };
-            Some((requests, replies))
-        }
+    let caller = Caller {
+        identity,
+        number: guest.id,
+        socket: &shares.socket,
+        reader: &shares.wakes_reader,
+        now: guest.gauge.now(&rt),
+    };
+    let Some((replies, mailbox, shared)) = ends_of(&rt, &channel, caller) else {
+        drop(channel);
+        drop(shares);
+        return None;
+    };
+    Some(joined(rt, alloc, channel, shares, (replies, mailbox, shared)))
+}
+
+/// Where replies to a peer are put, and its mailbox twice.
+type Ends = (Sender<Frames>, Arc<Mailbox, Global>, Arc<Mailbox, Global>);
+
+/// The mailbox of a peer, for both threads of its connection. None where no memory is left.
+fn ends_of<R: Wait>(rt: &R, channel: &Channel, caller: Caller<'_>) -> Option<Ends> {
+    let (replies, mailbox) = channel.mailboxes.open(rt, caller).ok()?;
+    match Arc::try_clone(&mailbox) {
+        Ok(shared) => Some((replies, mailbox, shared)),
         Err(AllocError) => {
-            drop(channel);
-            drop(shares);
+            channel
+                .mailboxes
+                .leave(rt, &mailbox, caller.number, caller.now);
+            drop(replies);
+            drop(mailbox);
             None
         }
     }
 }
 
+/// What the two threads of a connection work with.
+fn joined<R: Wait + Clock + Drop>(
+    rt: R,
+    alloc: Global,
+    channel: Channel,
+    shares: Shares,
+    ends: Ends,
+) -> (Requests<R>, Replies) {
+    let (replies, mailbox, shared) = ends;
+    let is_named = !shares.identity.is_empty();
+    let member = Member {
+        number: shares.number,
+        identity: shares.identity,
+        mailbox,
+        writer: shares.wakes_writer,
+        is_signed: false,
+    };
+    let requests = Requests {
+        rt,
+        alloc,
+        channel,
+        replies,
+        member,
+        parker: shares.reader,
+        gauge: shares.gauge,
+        socket: shares.socket,
+        is_over: false,
+    };
+    let replies = Replies {
+        number: shares.number,
+        is_named,
+        mailbox: shared,
+        parker: shares.writer,
+        reader: shares.wakes_reader,
+        socket: shares.closed,
+    };
+    (requests, replies)
+}
+
 /// What the two threads of a connection share.
 #[derive(Drop)]
 struct Shares {
-    /// What of the connection is in work.
-    account: Arc<Account, Global>,
-    /// What its reader waits by while that is too much.
-    parker: Parker,
+    /// The connection's number on its port.
+    number: u64,
+    /// The identity that the peer gave itself.
+    identity: Vec<u8>,
+    /// What the reader waits by while too much is in work.
+    reader: Parker,
     /// Wakes the reader.
-    reader: Unparker,
+    wakes_reader: Unparker,
+    /// What the thread waits by that writes.
+    writer: Parker,
+    /// Wakes that.
+    wakes_writer: Unparker,
     /// What the connection has unfinished.
     gauge: Arc<Gauge, Global>,
     /// The connection's socket, for the reader.
@@ -328,104 +476,59 @@ struct Shares {
 }
 
 /// What the two threads of a connection share. None where no memory is left, or something has too many owners.
-fn shares_of(alloc: Global, guest: &Guest) -> Option<Shares> {
-    let (account, parker, reader) = account_of(alloc)?;
+fn shares_of(alloc: Global, guest: &Guest, identity: &[u8]) -> Option<Shares> {
+    let (reader, wakes_reader) = parker_of(alloc)?;
+    let Some((writer, wakes_writer, identity)) = writing_of(alloc, identity) else {
+        drop(reader);
+        drop(wakes_reader);
+        return None;
+    };
     let (Ok(gauge), Ok(socket), Ok(closed)) = (
         Arc::try_clone(&guest.gauge),
         guest.socket.try_clone(),
         guest.socket.try_clone(),
     ) else {
-        drop(account);
-        drop(parker);
         drop(reader);
+        drop(wakes_reader);
+        drop(writer);
+        drop(wakes_writer);
+        drop(identity);
         return None;
     };
     Some(Shares {
-        account,
-        parker,
+        number: guest.id,
+        identity,
         reader,
+        wakes_reader,
+        writer,
+        wakes_writer,
         gauge,
         socket,
         closed,
     })
 }
 
-/// The account of a connection, what its reader waits by, and what wakes it. None where no memory is left.
-fn account_of(alloc: Global) -> Option<(Arc<Account, Global>, Parker, Unparker)> {
-    let parker = Parker::new(alloc).ok()?;
-    let Some((wakes, woken)) = unparkers_of(&parker) else {
-        drop(parker);
-        return None;
-    };
-    match Arc::new(alloc, Account::new(woken)) {
-        Ok(account) => Some((account, parker, wakes)),
-        Err(refused) => {
-            drop(refused);
-            drop(parker);
-            drop(wakes);
+/// What the thread waits by that writes, what wakes it, and the identity once more. None where no memory is left.
+fn writing_of(alloc: Global, identity: &[u8]) -> Option<(Parker, Unparker, Vec<u8>)> {
+    let identity = identity.to_vec(alloc).ok()?;
+    match parker_of(alloc) {
+        Some((parker, wakes)) => Some((parker, wakes, identity)),
+        None => {
+            drop(identity);
             None
         }
     }
 }
 
-/// What wakes who waits by a parker, twice. None where it has too many owners.
-fn unparkers_of(parker: &Parker) -> Option<(Unparker, Unparker)> {
-    let one = parker.unparker().clone().ok()?;
-    let other = parker.unparker().clone().ok()?;
-    Some((one, other))
-}
-
-/// The replies to a peer, as the thread sees them that writes them.
-#[derive(Drop)]
-struct Replies {
-    /// Where they come from.
-    due: Receiver<Frames>,
-    /// Wakes the connection's reader.
-    reader: Unparker,
-    /// The connection's socket.
-    socket: Socket,
-}
-
-impl Replies {
-    /// Writes replies to the peer, until nobody is left who could send one, the connection is closed, a write fails or
-    /// there is no memory for a text.
-    fn write_all<R: Wait + Clock + Drop>(self, rt: R, alloc: Global, writer: Counted<Socket>) {
-        let mut writer = writer;
-        if self.loses_one(&rt, alloc, &mut writer) {
-            // The peer is to know that, and isn't heard any more.
-            self.socket.shut();
+/// What a thread waits by, and what wakes it. None where no memory is left.
+fn parker_of(alloc: Global) -> Option<(Parker, Unparker)> {
+    let parker = Parker::new(alloc).ok()?;
+    match parker.unparker().clone() {
+        Ok(wakes) => Some((parker, wakes)),
+        Err(AllocError) => {
+            drop(parker);
+            None
         }
-        self.reader.unpark();
-        drop(writer);
-        drop(self);
-    }
-
-    /// Writes replies to the peer, until nobody is left who could send one, or a reply is lost: whether that is so.
-    fn loses_one<R: Wait + Clock>(
-        &self,
-        rt: &R,
-        alloc: Global,
-        writer: &mut Counted<Socket>,
-    ) -> bool {
-        for _ in rt.forever() {
-            match self.due.recv_timeout(rt, Duration::from_millis(REPLY_LOOK)) {
-                Ok(frames) => {
-                    let is_written = write_whole(alloc, writer, frames.as_slice());
-                    drop(frames);
-                    self.reader.unpark();
-                    if !is_written {
-                        return true;
-                    }
-                }
-                Err(RecvTimeoutError::Timeout) => {
-                    if self.socket.is_shut() {
-                        return true;
-                    }
-                }
-                Err(RecvTimeoutError::Disconnected) => return false,
-            }
-        }
-        unreachable!()
     }
 }
 

@@ -2,6 +2,7 @@
 #![tactic(auto)]
 
 mod accepting;
+mod asking;
 mod backlog;
 mod connection;
 mod ending;
@@ -10,6 +11,8 @@ mod feed;
 mod gate;
 mod guest;
 mod heartbeat;
+mod mailbox;
+mod mailboxes;
 mod parent;
 mod ports;
 mod reader;
@@ -23,4 +26,4 @@ mod subscriber;
 pub use fault::{Port, ServeFault};
 pub use parent::Until;
 pub use serving::{Served, serve};
-pub use stamp::{KernelStamp, is_utc_date};
+pub use stamp::{KernelStamp, can_be_read, is_utc_date};

@@ -32,6 +32,11 @@ impl Gauge {
         }
     }
 
+    /// The time, in milliseconds since the server began.
+    pub(crate) fn now<R: Clock>(&self, rt: &R) -> u64 {
+        self.server.millis(rt)
+    }
+
     /// Hands were shaken: from now on each message may have so many octets.
     pub(crate) fn open<R: Wait>(&self, rt: &R, most: usize) {
         self.meter.lock(rt).open(most);

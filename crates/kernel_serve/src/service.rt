@@ -35,6 +35,16 @@ impl<R: Wait + Clock + Drop> Service<R> {
     }
 }
 
+impl<R: Wait + Clock + Drop> Service<R> {
+    /// The port ends: nobody's replies wait any more.
+    pub(crate) fn close(&self, rt: &R) {
+        match self {
+            Service::Requests(channel) => channel.mailboxes.close(rt),
+            Service::Subscriptions(_) | Service::Heartbeat => {}
+        }
+    }
+}
+
 impl<R: Threads + Wait + Clock + Copy + Send + Sync + Drop + 'static> Service<R> {
     /// Serves the peer of a connection until that ends.
     pub(crate) fn serve(self, rt: R, alloc: Global, guest: &Guest) {

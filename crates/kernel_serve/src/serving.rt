@@ -5,6 +5,7 @@ ghost use Rattle.std.specs.Prelude.{◌≡◌, IfOk, true};
 use crate::connection::Channel;
 use crate::ending::{Acceptor, end_all, start};
 use crate::fault::{Port, ServeFault};
+use crate::mailboxes::Mailboxes;
 use crate::parent::{Until, start_watch};
 use crate::ports::{Ports, bind_ports};
 use crate::server::Server;
@@ -481,7 +482,7 @@ where
         listener: TcpListener,
         acceptors: &mut Vec<Acceptor>,
     ) -> Result<(), ServeFault> {
-        let Some((service, server)) = self.shares(port) else {
+        let Some((service, server)) = self.shares(alloc, port) else {
             drop(listener);
             return Err(ServeFault::OutOfMemory);
         };
@@ -491,8 +492,8 @@ where
     }
 
     /// What the peers of a port are served with, and what all share. None where something has too many owners.
-    fn shares(&self, port: Port) -> Option<(Service<R>, Arc<Server, Global>)> {
-        let service = self.service_of(port).ok()?;
+    fn shares(&self, alloc: Global, port: Port) -> Option<(Service<R>, Arc<Server, Global>)> {
+        let service = self.service_of(alloc, port).ok()?;
         match Arc::try_clone(self.server) {
             Ok(server) => Some((service, server)),
             Err(AllocError) => {
@@ -506,13 +507,21 @@ where
     ///
     /// # Errors
     ///
-    /// Where an inbox or the signer has too many owners.
-    fn service_of(&self, port: Port) -> Result<Service<R>, AllocError> {
+    /// Where memory is refused, or something has too many owners.
+    fn service_of(&self, alloc: Global, port: Port) -> Result<Service<R>, AllocError> {
         let parts = self.parts;
         match port {
-            Port::Shell => Ok(Service::Requests(channel_of(&parts.shell_in.to, self.signer)?)),
+            Port::Shell => Ok(Service::Requests(channel_of(
+                alloc,
+                &parts.shell_in.to,
+                self.signer,
+            )?)),
             Port::Iopub => Ok(Service::Subscriptions(parts.subscriptions_in.to.clone()?)),
-            Port::Control => Ok(Service::Requests(channel_of(&parts.control_in.to, self.signer)?)),
+            Port::Control => Ok(Service::Requests(channel_of(
+                alloc,
+                &parts.control_in.to,
+                self.signer,
+            )?)),
             Port::Heartbeat => Ok(Service::Heartbeat),
         }
     }
@@ -522,15 +531,23 @@ where
 ///
 /// # Errors
 ///
-/// Where something has too many owners.
+/// Where memory is refused, or something has too many owners.
 fn channel_of(
+    alloc: Global,
     inbox: &Sender<Note<Job>>,
     signer: &Arc<Signer, Global>,
 ) -> Result<Channel, AllocError> {
     let inbox = inbox.clone()?;
-    match Arc::try_clone(signer) {
-        Ok(signer) => Ok(Channel { inbox, signer }),
-        Err(AllocError) => {
+    match (
+        Arc::try_clone(signer),
+        Arc::new(alloc, Mailboxes::new(alloc)),
+    ) {
+        (Ok(signer), Ok(mailboxes)) => Ok(Channel {
+            inbox,
+            signer,
+            mailboxes,
+        }),
+        _ => {
             drop(inbox);
             Err(AllocError)
         }

@@ -4,6 +4,7 @@ ghost use Rattle.std.specs.Io.{WritesAtMost};
 
 use kernel_limits::limits::{REPLY_MILLIS, SEND_BUFFER};
 use libc::net;
+use libc::types::pollfd;
 use std::alloc::{AllocError, Global};
 use std::io::{self, ErrorKind, Read, Write};
 use std::net::{Shutdown, TcpStream};
@@ -120,6 +121,16 @@ impl Socket {
     /// Whether the socket was shut down.
     pub(crate) fn is_shut(&self) -> bool {
         self.shared.is_shut.load(Ordering::SeqCst)
+    }
+
+    /// Whether the peer has closed its side, or the connection broke, though something may still be to be read.
+    pub(crate) fn has_hung_up(&self) -> bool {
+        let mut looked = [pollfd {
+            fd: self.shared.stream.as_raw_fd(),
+            events: net::POLLRDHUP,
+            revents: 0,
+        }];
+        net::poll(&mut looked, 0) > 0
     }
 
     /// Ends what is read: a read that waits, and each one after it, finds no octet any more.

@@ -8,7 +8,7 @@ ghost use Rattle.kernel_serve.specs.Dates.{is_utc_date, two_digits, zeroed};
 use jiff::{Error, Timestamp};
 use jmsg_envelope::Stamp;
 use std::alloc::{AllocError, Global};
-use std::time::Clock;
+use std::time::{Clock, Instant};
 
 /// A session of a kernel: ids are a label and a number behind it, and dates those of a clock (RFC 3339, in UTC, with
 /// microseconds).
@@ -78,6 +78,12 @@ impl<C: Clock> Stamp for KernelStamp<C> {
 /// `OutOfMemory` where there is no memory for the text, and another where the clock can't be read.
 fn date_now<C: Clock>(clock: &C, alloc: Global) -> Result<String, Error> {
     Timestamp::now(clock)?.strftime(alloc, b"%Y-%m-%dT%H:%M:%S%.6fZ".as_slice())
+}
+
+/// Whether a clock can be read. Messages have their dates from it, and what may last for some time is measured by it:
+/// without it they have the first date of 1970, and no time passes.
+pub fn can_be_read<C: Clock>(clock: &C) -> bool {
+    Timestamp::now(clock).is_ok() && Instant::now(clock).is_ok()
 }
 
 /// Whether a text is a date in UTC with microseconds (RFC 3339, "Internet Date/Time Format"): in its form, and in its
