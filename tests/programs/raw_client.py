@@ -370,6 +370,10 @@ class Kernel:
         """How many file descriptors and threads it has."""
         return self.listed("fd"), self.listed("task")
 
+    def rests(self, before):
+        """Whether it has no more file descriptors, and no more threads, than before."""
+        return all(now <= then for now, then in zip(self.counts(), before))
+
     def memory(self):
         """Its resident memory in KiB."""
         with open(f"/proc/{self.process.pid}/status", encoding="ascii") as file:
