@@ -451,7 +451,9 @@ class Client:
             header = self.ask("kernel_info_request", {})
             self.reply(header)
             found = not self.iopub.is_silent(0.05)
-        # all blocks but the last may have begun before the subscription came into effect
+        # Each block until now may have begun before the subscription came into effect, if others ask, too.
+        header = self.ask("kernel_info_request", {})
+        self.reply(header)
         while True:
             message = opened(self.key, self.iopub.receive())
             if message.parent == header and message.content == {"execution_state": "idle"}:

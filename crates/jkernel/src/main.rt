@@ -12,6 +12,7 @@ mod stamp;
 mod status;
 mod words;
 
+use kernel_limits::looked_after;
 use kernel_serve::Until;
 use program::run;
 use std::env::{Env, VarError};
@@ -55,21 +56,31 @@ fn runs_until<R: Env + Files + AllocGlobal>(rt: &R, process: Process) -> Until {
     }
 }
 
-/// The parent after which a kernel is to look: the one that it has, which may be a shell that the named process began;
-/// but the named process itself where that is gone already, and with it the parent that it was.
+/// The number of the process with which a kernel ends that is named.
 fn parent_named<R: Files + AllocGlobal>(rt: &R, process: Process, named: &str) -> u32 {
     // Before it is looked whether the named one is gone: what is the parent here isn't there in place of that.
     let parent = parent_id(process);
     match named.parse::<u32>() {
-        Ok(number) if is_gone(rt, number) => number,
-        Ok(_) | Err(_) => parent,
+        Ok(number) => looked_after(parent, Some(number), is_gone(rt, number)),
+        Err(_) => parent,
     }
 }
 
-/// Whether no process has this number.
+/// Whether no process has this number, or it ended and nobody has asked how (proc(5), "/proc/pid/status").
 fn is_gone<R: Files + AllocGlobal>(rt: &R, number: u32) -> bool {
-    match format!(in rt.alloc(); "/proc/{number}") {
-        Ok(path) => matches!(fs::exists(rt, path.as_str()), Ok(false)),
+    match format!(in rt.alloc(); "/proc/{number}/status") {
+        Ok(path) => has_ended(rt, path.as_str()),
         Err(_) => false,
+    }
+}
+
+/// Whether the process has ended whose status this file tells.
+fn has_ended<R: Files + AllocGlobal>(rt: &R, path: &str) -> bool {
+    match fs::read_to_string(rt, path) {
+        Ok(status) => status.as_str().contains("\nState:\tZ"),
+        Err(error) => {
+            drop(error);
+            matches!(fs::exists(rt, path), Ok(false))
+        }
     }
 }

@@ -187,16 +187,40 @@ where
     ensures { (result ≡ 0) ⊎ ((result ≡ 1) ⊎ ((result ≡ 3) ⊎ (result ≡ 4))) }
 {
     let status = match read_file(rt, file) {
-        Ok(octets) => match judge(alloc, &octets) {
-            Ok(connection) => {
-                tell_of_clock(rt, faults);
-                serve_on(*rt, alloc, connection, until)
-            }
-            Err(status) => status,
-        },
+        Ok(octets) => serve_octets(rt, alloc, &octets, until, faults),
         Err(status) => status,
     };
     tell_status(alloc, faults, status).code()
+}
+
+/// Judges the octets of a connection file, and serves it until the kernel's end: how the program ends.
+fn serve_octets<E, F: Write>(
+    rt: &E,
+    alloc: Global,
+    octets: &[u8],
+    until: Until,
+    faults: &mut F,
+) -> Status
+where
+    E: Net<Listener = TcpListener, Stream = TcpStream>
+        + Threads
+        + Wait
+        + Clock
+        + RandomSource
+        + Copy
+        + Send
+        + Sync
+        + Drop
+        + 'static,
+    ensures { EndsServing result ⊎ JudgesFile octets.now result }
+{
+    match judge(alloc, octets) {
+        Ok(connection) => {
+            tell_of_clock(rt, faults);
+            serve_on(*rt, alloc, connection, until)
+        }
+        Err(status) => status,
+    }
 }
 
 /// The octets of a connection file, or how the program ends.

@@ -1,6 +1,6 @@
 -- What is decided by the limits of a server. Time is in milliseconds.
-use Rattle.std.specs.Prelude.{ℕ, ◌+◌, ◌-◌, ◌/◌, ◌<◌, ◌≤◌, min, List, Bool, true, ◌&&◌, nat_lt, nat_le}
-use Rattle.std.specs.Prelude.{Option, Some, None, false, codes, not, ◌||◌, drop, length, if◌then◌else◌, zero, suc}
+use Rattle.std.specs.Prelude.{ℕ, ◌+◌, ◌-◌, ◌*◌, ◌<◌, ◌≤◌, min, max, List, Bool, true, ◌&&◌, nat_lt, nat_le}
+use Rattle.std.specs.Prelude.{Option, Some, None, false, codes, not, ◌||◌, drop, length, if◌then◌else◌}
 use Rattle.std.specs.List.{sum_by}
 use Rattle.std.specs.Str.{bytes_eq}
 use Rattle.kernel_limits.specs.declared.handover.Claim.{Claim}
@@ -9,6 +9,7 @@ use Rattle.kernel_limits.specs.declared.handover.Holder.{Holder}
 use Rattle.kernel_limits.specs.declared.handover.Holder.TheVariants.{Gone, Unsigned, Signed}
 use Rattle.kernel_limits.specs.declared.meter.Meter.{Meter}
 use Rattle.kernel_limits.specs.declared.pace.Pace.{Pace}
+use Rattle.kernel_limits.specs.declared.pace.Waste.{Waste}
 use Rattle.kernel_limits.specs.declared.place.Place.{Place}
 use Rattle.kernel_limits.specs.declared.place.Place.TheVariants.{Free, Of, Taken}
 use Rattle.kernel_limits.specs.declared.topic_count.TopicCount.{TopicCount}
@@ -42,20 +43,38 @@ place_of_either None None = Taken
 abbrev pub place_of : ℕ → Option ℕ → Option ℕ → Place
 place_of many shaking left = if nat_lt many 240 then Free else place_of_either shaking left
 
--- what is kept for one of so many subscribers: 16 MiB, or its part of 64 MiB
-abbrev pub share_of : ℕ → ℕ
-share_of zero = 16777216
-share_of (suc others) = min 16777216 (67108864 / suc others)
+-- what is kept for a subscriber for which so much is kept, while so much is kept for all beyond 64 KiB each: 64 KiB and
+-- what is left of 48 MiB, up to 16 MiB
+abbrev pub share_of : ℕ → ℕ → ℕ
+share_of kept beyond = min 16777216 (max kept 65536 + (50331648 - beyond))
+
+-- what is kept beyond 64 KiB
+abbrev pub share_excess : ℕ → ℕ
+share_excess kept = kept - 65536
 
 -- the pace of a subscriber that took so many octets more: 64 KiB begin it anew
 abbrev pub taking : Pace → ℕ → ℕ → Pace
 taking pace count now =
-    if nat_lt (pace.taken + count) 65536 then record { since = pace.since; taken = pace.taken + count }
-    else record { since = now; taken = 0 }
+    if nat_lt (pace.taken + count) 65536 then record pace { taken = pace.taken + count }
+    else record pace { since = now; taken = 0 }
 
--- a subscriber took less than 64 KiB in ten seconds
-abbrev pub is_slow : Pace → ℕ → Bool
-is_slow pace now = nat_le 10000 (now - pace.since)
+-- a subscriber took less than 64 KiB: in ten seconds, if it took so many a second after it began or later, and else in so
+-- much time
+abbrev pub is_slow : Pace → ℕ → ℕ → Bool
+is_slow pace grace now = nat_le (if nat_le 1000 (pace.since - pace.begun) then 10000 else grace) (now - pace.since)
+
+-- how long it was waited in vain: nothing counts a minute after the last of it
+abbrev pub wasted_by : Waste → ℕ → ℕ
+wasted_by waste now = if nat_lt (now - waste.last) 60000 then waste.millis else 0
+
+-- it was waited in vain for so much more, until now
+abbrev pub wasting : Waste → ℕ → ℕ → Waste
+wasting waste millis now = record { millis = capped (wasted_by waste now + millis); last = now }
+
+-- the time in which a subscriber has to take 64 KiB that hasn't kept the pace yet: ten seconds, less what it was waited in vain, and a quarter of one
+-- at least
+abbrev pub grace_of : Waste → ℕ → ℕ
+grace_of waste now = max (10000 - wasted_by waste now) 250
 
 -- there is room for a topic of so many octets: 10,000 topics, and 1 MiB of them
 abbrev pub IsRoomFor : ℕ → TopicCount → Type 0
@@ -68,6 +87,22 @@ with_topic octets count = record { topics = count.topics + 1; octets = count.oct
 -- one topic of so many octets less
 abbrev pub without_topic : ℕ → TopicCount → TopicCount
 without_topic octets count = record { topics = count.topics - 1; octets = count.octets - octets }
+
+-- what topics take beyond 16 KiB: each 128 octets beside its own
+abbrev pub topics_excess : TopicCount → ℕ
+topics_excess count = capped (capped (count.topics * 128) + count.octets) - 16384
+
+-- topics may take so much more, while all take so much: 16 MiB in all
+abbrev pub may_hold : ℕ → ℕ → Bool
+may_hold all more = nat_le (all + more) 16777216
+
+-- the relay is told of topics of up to 4 KiB
+abbrev pub is_told : ℕ → Bool
+is_told octets = nat_le octets 4096
+
+-- a subscriber may come or ask for something while fewer than 64 of such wait
+abbrev pub may_ask : ℕ → Bool
+may_ask waiting = nat_lt waiting 64
 
 -- a handshake that begins now: it may have 64 KiB
 abbrev pub shaking : ℕ → Meter
@@ -145,3 +180,9 @@ takes_over Signed Signs = true
 -- replies wait for a peer that left for less than a minute
 abbrev pub is_awaited : ℕ → ℕ → Bool
 is_awaited since now = nat_lt (now - since) 60000
+
+-- the process with which a kernel ends: its parent, or the one that is named if that is gone
+abbrev pub looked_after : ℕ → Option ℕ → Bool → ℕ
+looked_after parent (Some named) true = named
+looked_after parent (Some named) false = parent
+looked_after parent None is_gone = parent

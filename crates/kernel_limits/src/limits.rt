@@ -42,19 +42,49 @@ pub const TOPICS: usize = 10_000;
 /// Octets of these topics.
 pub const TOPIC_OCTETS: usize = 1 << 20;
 
+/// Octets of a topic of which the relay is told. What is published goes out under names of some tens, so a longer topic
+/// matches nothing.
+pub const TOLD_OCTETS: usize = 4 << 10;
+
+/// Octets that a topic takes beside its own.
+pub const TOPIC_COST: usize = 128;
+
+/// Octets that the topics of one subscriber may take and that are counted nowhere: Jupyter's clients take fewer.
+pub const SMALL_TOPIC_OCTETS: usize = 16 << 10;
+
+/// Octets that the topics of all subscribers together may take, beyond these: a dozen subscribers with many topics.
+pub const TOPICS_OCTETS: usize = 16 << 20;
+
+/// What subscribers ask for that may wait for the relay: so few that none waits behind many of a stranger's.
+pub const EVENTS: usize = 64;
+
 /// Octets that are kept for one subscriber before anybody waits for it: a console that is suspended for a while gets
 /// all that a common cell prints.
 pub const SHARE_OCTETS: usize = 16 << 20;
 
-/// Octets that are kept for all subscribers together: they share it where they are many, so that strangers who read
-/// nothing don't fill the memory.
-pub const SHARES_OCTETS: usize = 64 << 20;
+/// Octets that are kept for each subscriber in any case.
+pub const SMALL_SHARE_OCTETS: usize = 64 << 10;
+
+/// Octets that are kept for all subscribers together, beyond these: with them 63 MiB, so that strangers who read nothing
+/// don't fill the memory.
+pub const SHARES_OCTETS: usize = 48 << 20;
 
 /// Octets that a subscriber takes in `PACE_MILLIS`, at least, while somebody waits for it.
 pub const PACE_OCTETS: u64 = 64 << 10;
 
 /// Milliseconds in which a subscriber takes `PACE_OCTETS`, at least: 6.5 KB a second, which a slow modem keeps.
 pub const PACE_MILLIS: u64 = 10_000;
+
+/// Milliseconds for which it counts that the relay waited for a subscriber in vain. By so much less it waits for others
+/// that haven't kept the least pace before, so that many who read nothing stop output little longer than one of them.
+pub const WASTE_MILLIS: u64 = 60_000;
+
+/// Milliseconds after which a subscriber takes `PACE_OCTETS` that has kept the least pace. What it took before may lie in
+/// the buffers of sockets.
+pub const STEADY_MILLIS: u64 = 1_000;
+
+/// Milliseconds that a subscriber has for `PACE_OCTETS` in any case: who reads at once takes them in these.
+pub const LEAST_PACE_MILLIS: u64 = 250;
 
 /// Octets of a socket's send buffer, so that what was written to it was taken by its peer but for these.
 pub const SEND_BUFFER: i32 = 64 << 10;
@@ -72,3 +102,23 @@ pub const END_WAIT_MILLIS: u64 = 300;
 /// Milliseconds for which what is left is written once the kernel ended, as ipykernel lingers: with the above less than
 /// a second.
 pub const END_WRITE_MILLIS: u64 = 500;
+
+/// Milliseconds for which a connection waits, at most, until those that were closed let go of what they held: as long as
+/// the signature of a large message is looked at on a busy machine.
+pub const FREED_MILLIS: u64 = 10_000;
+
+/// Milliseconds for a connection of the program to a port of its own, by which it wakes who accepts there.
+pub const WAKE_MILLIS: u64 = 500;
+
+/// Reads of one connection, and of its handshake: more than it comes to.
+pub const READS: u64 = 1_000_000_000;
+
+/// Seconds of silence after which the system asks whether a peer's machine is still there.
+pub const ALIVE_SECONDS: i32 = 60;
+
+/// Seconds between two such questions.
+pub const ALIVE_AGAIN_SECONDS: i32 = 10;
+
+/// Such questions that stay without an answer. With the above a peer that vanished without a word, with its machine or
+/// its network, holds a place for two minutes.
+pub const ALIVE_TIMES: i32 = 6;

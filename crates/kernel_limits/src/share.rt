@@ -1,17 +1,22 @@
 //! How much is kept for a subscriber.
 
-ghost use Rattle.std.specs.Prelude.{◌≡◌};
-ghost use Rattle.kernel_limits.specs.Limits.{share_of};
+ghost use Rattle.std.specs.Prelude.{◌≡◌, ◌-◌};
+ghost use Rattle.kernel_limits.specs.Limits.{share_of, share_excess};
 
-use crate::limits::{SHARE_OCTETS, SHARES_OCTETS};
+use crate::limits::{SHARE_OCTETS, SHARES_OCTETS, SMALL_SHARE_OCTETS};
 
-/// How many octets are kept for one subscriber before anybody waits for it, while so many are there.
-pub fn share_of(subscribers: usize) -> usize
-    ensures { result ≡ share_of subscribers }
+/// How many octets are kept for one subscriber before anybody waits for it, while so many are kept for it, and so many
+/// for all subscribers together beyond what is kept for each in any case.
+pub fn share_of(kept: usize, beyond: usize) -> usize
+    ensures { result ≡ share_of kept beyond }
 {
-    if subscribers == 0 {
-        SHARE_OCTETS
-    } else {
-        SHARE_OCTETS.min(SHARES_OCTETS / subscribers)
-    }
+    let free = SHARES_OCTETS.saturating_sub(beyond);
+    SHARE_OCTETS.min(kept.max(SMALL_SHARE_OCTETS).saturating_add(free))
+}
+
+/// How much of what is kept for a subscriber is beyond what is kept for each in any case.
+pub fn share_excess(kept: usize) -> usize
+    ensures { result ≡ share_excess kept }
+{
+    kept.saturating_sub(SMALL_SHARE_OCTETS)
 }

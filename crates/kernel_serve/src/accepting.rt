@@ -222,16 +222,28 @@ type Shares<R> = (
 
 /// What is shared with the threads of a port, once more, and a gauge. None where no memory is left.
 fn shares<R: Wait + Clock + Drop>(rt: &R, alloc: Global, port: &Served<R>) -> Option<Shares<R>> {
+    let service = port.service.try_clone().ok()?;
+    match held(rt, alloc, port) {
+        Some((gate, server, gauge)) => Some((service, gate, server, gauge)),
+        None => {
+            drop(service);
+            None
+        }
+    }
+}
+
+/// The gate and the server once more, and a gauge. None where no memory is left.
+fn held<R: Wait + Clock + Drop>(
+    rt: &R,
+    alloc: Global,
+    port: &Served<R>,
+) -> Option<(Arc<Gate, Global>, Arc<Server, Global>, Arc<Gauge, Global>)> {
     let gauge = gauge_of(rt, alloc, &port.server)?;
-    let (Ok(service), Ok(gate), Ok(server)) = (
-        port.service.try_clone(),
-        Arc::try_clone(&port.gate),
-        Arc::try_clone(&port.server),
-    ) else {
+    let (Ok(gate), Ok(server)) = (Arc::try_clone(&port.gate), Arc::try_clone(&port.server)) else {
         drop(gauge);
         return None;
     };
-    Some((service, gate, server, gauge))
+    Some((gate, server, gauge))
 }
 
 /// A gauge of a new connection. None where no memory is left.

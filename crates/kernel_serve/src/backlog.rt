@@ -14,7 +14,8 @@ use std::io::{self, ErrorKind};
 use std::sync::{Arc, Condvar, Mutex, Wait};
 use std::time::{Clock, Duration};
 
-/// For how many milliseconds the relay waits for a subscriber before it looks at its pace again.
+/// For how many milliseconds the relay waits for a subscriber before it looks at its pace again, and who waits for the
+/// end of its writing before it looks whether that was given up.
 const LOOK: u64 = 50;
 
 /// What is kept for a subscriber, and how it stands.
@@ -39,10 +40,11 @@ impl State {
         if self.has_failed {
             return Tried::Failed;
         }
-        if self.kept.len() < terms.share {
-            return self.keep(alloc, piece, terms);
+        let share = share_of(self.kept.len(), terms.beyond);
+        if self.kept.len() < share {
+            return self.keep(alloc, piece, share, terms.now);
         }
-        if terms.waits && !self.pace.is_slow(terms.now) {
+        if terms.waits && !self.pace.is_slow(terms.grace, terms.now) {
             return Tried::Waits;
         }
         self.fail(alloc);
@@ -50,13 +52,13 @@ impl State {
     }
 
     /// Keeps the first octets of a piece, for which there is room.
-    fn keep(&mut self, alloc: Global, piece: &[u8], terms: Terms) -> Tried
+    fn keep(&mut self, alloc: Global, piece: &[u8], share: usize, now: u64) -> Tried
         ensures { IsTried (length piece.now) result }
     {
         if self.kept.is_empty() {
-            self.pace = Pace::begin(terms.now);
+            self.pace = Pace::begin(now);
         }
-        match self.kept.put(piece, terms.share) {
+        match self.kept.put(piece, share) {
             Ok(count) => Tried::Kept(count),
             Err(AllocError) => {
                 self.fail(alloc);
@@ -75,10 +77,12 @@ impl State {
 /// On what terms a piece is kept.
 #[derive(Clone, Copy)]
 struct Terms {
-    /// How many octets may be kept.
-    share: usize,
+    /// How many octets are kept for all subscribers, beyond a small part of each.
+    beyond: usize,
     /// Whether the relay waits for slow subscribers.
     waits: bool,
+    /// In how many milliseconds a subscriber has to take the octets of the least pace that didn't keep it before.
+    grace: u64,
     /// The time, in milliseconds.
     now: u64,
 }
@@ -132,11 +136,18 @@ impl Backlog {
     pub(crate) fn put<R: Wait + Clock>(&self, rt: &R, piece: &[u8]) -> io::Result<usize>
         ensures { WritesAtMost result piece.now }
     {
+        let began = self.server.millis(rt);
+        let mut has_waited = false;
         for _ in rt.forever() {
             match self.try_to_put(rt, piece) {
                 Tried::Kept(count) => return Ok(count),
-                Tried::Failed => return Err(ErrorKind::BrokenPipe.into()),
-                Tried::Waits => {}
+                Tried::Failed => {
+                    if has_waited {
+                        self.server.wastes(rt, began);
+                    }
+                    return Err(ErrorKind::BrokenPipe.into());
+                }
+                Tried::Waits => has_waited = true,
             }
         }
         unreachable!()
@@ -148,12 +159,15 @@ impl Backlog {
     {
         let now = self.server.millis(rt);
         let terms = Terms {
-            share: share_of(self.server.subscribers()),
+            beyond: self.server.beyond(),
             waits: waits_on(self.server.ending_since(rt), now),
+            grace: self.server.grace(rt, now),
             now,
         };
         let mut state = self.state.lock(rt);
+        let before = state.kept.len();
         let tried = state.try_to_put(self.alloc, piece, terms);
+        self.server.keeps(before, state.kept.len());
         if let Tried::Waits = tried {
             drop(
                 self.changed
@@ -185,6 +199,7 @@ impl Backlog {
             }
         }
         socket.shut();
+        self.changed.notify_all();
     }
 
     /// Takes the first chunk of what is kept, once there is one. None where nothing comes any more or something failed.
@@ -195,7 +210,9 @@ impl Backlog {
         if state.has_failed {
             return None;
         }
+        let before = state.kept.len();
         let octets = state.kept.take()?;
+        self.server.keeps(before, state.kept.len());
         self.changed.notify_all();
         Some(octets)
     }
@@ -252,7 +269,26 @@ impl Backlog {
 
     /// Gives the subscriber up. What is kept is dropped.
     fn fail<R: Wait>(&self, rt: &R) {
-        self.state.lock(rt).fail(self.alloc);
+        let mut state = self.state.lock(rt);
+        let before = state.kept.len();
+        state.fail(self.alloc);
+        self.server.keeps(before, 0);
+        drop(state);
         self.changed.notify_all();
+    }
+
+    /// Waits until the socket is shut down: all was written, or the subscriber was given up, be it because a newcomer
+    /// has its place. What is kept still is dropped.
+    pub(crate) fn wait_until_shut<R: Wait + Clock>(&self, rt: &R, socket: &Socket) {
+        for _ in rt.forever() {
+            if socket.is_shut() {
+                break;
+            }
+            drop(
+                self.changed
+                    .wait_timeout(rt, self.state.lock(rt), Duration::from_millis(LOOK)),
+            );
+        }
+        self.fail(rt);
     }
 }

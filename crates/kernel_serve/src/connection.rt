@@ -9,7 +9,7 @@ use crate::socket::Socket;
 use crossbeam_channel::{SendError, Sender};
 use crossbeam_utils::sync::{Parker, Unparker};
 use jmsg_envelope::{Signer, check_signature};
-use kernel_limits::limits::IDENTITY_OCTETS;
+use kernel_limits::limits::{IDENTITY_OCTETS, READS};
 use kernel_limits::{Claim, may_read};
 use kernel_workers::{Credit, Job, Note};
 use listed::Frames;
@@ -20,9 +20,6 @@ use std::thread::Threads;
 use std::time::{Clock, Duration};
 use zmtp_connection::{Intake, OpenPeer, hear, shake};
 use zmtp_wire::{Counted, SocketType, Traffic, text_len, write_all, write_message};
-
-/// The most reads of one handshake, and of hearing after it.
-pub(crate) const TURNS: u64 = 1_000_000_000;
 
 /// For how many milliseconds a reader waits for credit, before it looks whether the connection was closed.
 const CREDIT_LOOK: u64 = 100;
@@ -95,10 +92,10 @@ impl<R: Wait + Clock> Intake for Requests<R> {
 
     fn put(&mut self, traffic: Traffic) -> Result<bool, AllocError> {
         let octets = octets_of(&traffic);
-        self.gauge.finish(&self.rt, octets);
         match traffic {
             Traffic::Message(message) => self.receive(Frames::new(message.into_vec()), octets),
             Traffic::Command(name, rest) => {
+                self.gauge.finish(&self.rt, octets);
                 drop(name);
                 drop(rest);
                 Ok(true)
@@ -132,16 +129,18 @@ pub(crate) fn octets_of(traffic: &Traffic) -> usize {
 
 impl<R: Wait + Clock> Requests<R> {
     /// Looks whether a message is signed, by a peer that has shown that it holds the key; puts it into the worker's
-    /// inbox, and waits while too much is in work. Answers whether the worker is still there.
+    /// inbox, and waits while too much is in work. Until that was looked at, the message counts as unfinished. Answers
+    /// whether the worker is still there.
     ///
     /// # Errors
     ///
     /// Where memory is refused.
     fn receive(&mut self, frames: Frames, octets: usize) -> Result<bool, AllocError> {
         match self.is_of_client(frames.as_slice()) {
-            Ok(true) => {}
+            Ok(true) => self.gauge.finish(&self.rt, octets),
             Ok(false) => {
                 drop(frames);
+                self.gauge.finish(&self.rt, octets);
                 return Ok(true);
             }
             Err(AllocError) => {
@@ -271,7 +270,7 @@ where
     T: Intake,
 {
     if is_named_well(&peer) {
-        drop(hear(alloc, reader, &mut peer, intake, TURNS));
+        drop(hear(alloc, reader, &mut peer, intake, READS));
     }
     drop(peer);
 }
@@ -292,7 +291,7 @@ where
         drop(channel);
         return;
     };
-    match shake(alloc, &mut reader, &mut writer, SocketType::Router, TURNS) {
+    match shake(alloc, &mut reader, &mut writer, SocketType::Router, READS) {
         Ok(peer) => {
             guest.open(&rt, usize::MAX);
             let shaken = Shaken {
@@ -332,16 +331,24 @@ fn serve_open<R>(rt: R, alloc: Global, guest: &Guest, channel: Channel, shaken: 
 where
     R: Threads + Wait + Clock + Copy + Send + Sync + Drop + 'static,
 {
-    let Some((mut requests, replies)) = requests_of(
-        rt,
-        alloc,
-        guest,
-        channel,
-        shaken.peer.identity(),
-    ) else {
-        drop(shaken);
-        return;
-    };
+    match requests_of(rt, alloc, guest, channel, shaken.peer.identity()) {
+        Some(ends) => serve_both(rt, alloc, guest, ends, shaken),
+        None => drop(shaken),
+    }
+}
+
+/// Hears a peer with whom hands were shaken, while a second thread writes the replies.
+fn serve_both<R>(
+    rt: R,
+    alloc: Global,
+    guest: &Guest,
+    ends: (Requests<R>, Replies),
+    shaken: Shaken<R>,
+)
+where
+    R: Threads + Wait + Clock + Copy + Send + Sync + Drop + 'static,
+{
+    let (mut requests, replies) = ends;
     let Shaken {
         mut reader,
         writer,

@@ -6,16 +6,13 @@ use crate::gate::Gate;
 use crate::server::Server;
 use crate::service::Service;
 use kernel_limits::grace_left;
-use kernel_limits::limits::END_WRITE_MILLIS;
+use kernel_limits::limits::{END_WRITE_MILLIS, WAKE_MILLIS};
 use std::alloc::{AllocError, Global};
 use std::net::{Net, SocketAddr, TcpListener, TcpStream};
 use std::sync::{Arc, Wait};
 use std::thread;
 use std::thread::{JoinHandle, Threads};
 use std::time::{Clock, Duration};
-
-/// How many milliseconds a connection of the program to its own port may take.
-const PATIENCE: u64 = 500;
 
 /// For how many milliseconds it is waited for a thread that was woken.
 const PAUSE: u64 = 1;
@@ -152,7 +149,7 @@ where
         if acceptor.gate.is_closed() {
             return;
         }
-        drop(TcpStream::connect_timeout(rt, &acceptor.address, Duration::from_millis(PATIENCE)));
+        drop(TcpStream::connect_timeout(rt, &acceptor.address, Duration::from_millis(WAKE_MILLIS)));
         thread::sleep(rt, Duration::from_millis(PAUSE));
     }
     unreachable!()

@@ -1,10 +1,10 @@
 //! Connections of the heartbeat.
 
-use crate::connection::{TURNS, hear_out, octets_of, write_whole};
+use crate::connection::{hear_out, octets_of, write_whole};
 use crate::guest::Guest;
 use crate::reader::{Gauge, Reader};
 use crate::socket::Socket;
-use kernel_limits::limits::HEARTBEAT_OCTETS;
+use kernel_limits::limits::{HEARTBEAT_OCTETS, READS};
 use std::alloc::{AllocError, Global};
 use std::sync::{Arc, Wait};
 use std::time::Clock;
@@ -62,7 +62,7 @@ where
     let Ok((mut reader, mut writer)) = guest.halves(rt) else {
         return;
     };
-    match shake(alloc, &mut reader, &mut writer, SocketType::Rep, TURNS) {
+    match shake(alloc, &mut reader, &mut writer, SocketType::Rep, READS) {
         Ok(peer) => {
             guest.open(&rt, HEARTBEAT_OCTETS);
             serve_open(rt, alloc, guest, reader, writer, peer);

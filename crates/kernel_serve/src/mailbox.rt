@@ -178,11 +178,24 @@ impl Mailbox {
         if !self.is_of(rt, peer.number) {
             return Look::Nothing;
         }
-        let frames = match due.next(rt) {
-            Ok(frames) => frames,
-            Err(RecvTimeoutError::Timeout) => return Look::Nothing,
-            Err(RecvTimeoutError::Disconnected) => return Look::Last,
-        };
+        match due.next(rt) {
+            Ok(frames) => self.write_out(rt, alloc, peer, writer, (&mut due, frames)),
+            Err(RecvTimeoutError::Timeout) => Look::Nothing,
+            Err(RecvTimeoutError::Disconnected) => Look::Last,
+        }
+    }
+
+    /// Writes a reply that was taken out to the peer of a connection, if that still has the mailbox. If it can't be
+    /// written it is put back.
+    fn write_out<R: Wait>(
+        &self,
+        rt: &R,
+        alloc: Global,
+        peer: &Replies,
+        writer: &mut Counted<Socket>,
+        reply: (&mut Due, Frames),
+    ) -> Look {
+        let (due, frames) = reply;
         if !self.is_of(rt, peer.number) || peer.has_left() {
             due.put_back(frames);
             return Look::Nothing;

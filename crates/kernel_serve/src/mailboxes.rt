@@ -82,17 +82,20 @@ impl Mailboxes {
     /// Where memory is refused.
     pub(crate) fn open<R: Wait>(&self, rt: &R, caller: Caller<'_>) -> Result<Ends, AllocError> {
         let mut named = self.named.lock(rt);
-        let (replies, mailbox) = match &mut *named {
+        let ends = match &mut *named {
             Some(named) if !caller.identity.is_empty() => {
                 forget(rt, named, caller.now);
-                ends_among(self.alloc, named, caller)?
+                ends_among(self.alloc, named, caller)
             }
-            Some(_) | None => new_mailbox(self.alloc, caller.reader)?,
+            Some(_) | None => new_mailbox(self.alloc, caller.reader),
         };
-        if mailbox.claim(rt, caller.number, caller.socket, Claim::Opens) {
-            wake(rt, self.alloc, &replies);
+        match ends {
+            Ok(ends) => {
+                claim_for(rt, self.alloc, &ends, caller);
+                Ok(ends)
+            }
+            Err(AllocError) => Err(AllocError),
         }
-        Ok((replies, mailbox))
     }
 
     /// The peer of a connection has left. What is due to it waits, if it has an identity and has shown that it holds
@@ -117,6 +120,14 @@ impl Mailboxes {
 pub(crate) fn wake<R: Wait>(rt: &R, alloc: Global, replies: &Sender<Frames>) {
     if replies.is_empty() {
         drop(replies.send(rt, Frames::new(Vec::new(alloc))));
+    }
+}
+
+/// Gives a caller its mailbox, if it may have it; then what waits there is written.
+fn claim_for<R: Wait>(rt: &R, alloc: Global, ends: &Ends, caller: Caller<'_>) {
+    let (replies, mailbox) = ends;
+    if mailbox.claim(rt, caller.number, caller.socket, Claim::Opens) {
+        wake(rt, alloc, replies);
     }
 }
 

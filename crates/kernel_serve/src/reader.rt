@@ -78,7 +78,9 @@ impl Gauge {
                 number: self.number,
                 octets: excess,
             };
-            self.server.hold(rt, part, socket);
+            if self.server.hold(rt, part, socket) {
+                self.resume(rt);
+            }
         }
     }
 
@@ -153,9 +155,23 @@ impl<R: Wait + Clock + Drop> Reader<R> {
             return Err(error);
         }
         let (front, _) = buf.split_at_mut(room);
-        let result = self.socket.read(front);
+        self.read_counted(front)
+    }
+
+    /// Reads, and counts what was read.
+    ///
+    /// # Errors
+    ///
+    /// Where the read fails.
+    fn read_counted(&mut self, buf: &mut [u8]) -> io::Result<usize>
+        ensures { ReadsAtMost result buf.new }
+    {
+        let result = self.socket.read(buf);
         if let Ok(count) = &result {
-            self.gauge.count(&self.rt, *count, &self.socket);
+            // At the end, or once the socket was shut down, nothing is read that counts.
+            if *count > 0 {
+                self.gauge.count(&self.rt, *count, &self.socket);
+            }
         }
         result
     }

@@ -1,8 +1,9 @@
-//! What all threads of a server share: its time, whether the kernel is to end, what its peers have unfinished, and how
-//! many subscribers are there.
+//! What all threads of a server share: its time, whether the kernel is to end, what its peers have unfinished, and what
+//! subscribers have beyond what each may have.
 
 use crate::socket::Socket;
-use kernel_limits::{Part, is_overfull};
+use kernel_limits::limits::FREED_MILLIS;
+use kernel_limits::{Part, Waste, is_overfull, may_hold, share_excess};
 use kernel_workers::Flags;
 use std::alloc::Global;
 use std::sync::atomic::{AtomicU64, AtomicUsize, Ordering};
@@ -13,7 +14,7 @@ use std::time::{Clock, Duration, Instant};
 const LOOK: u64 = 10;
 
 /// How often it is waited so.
-const LOOKS: u32 = 100;
+const LOOKS: u64 = FREED_MILLIS / LOOK;
 
 /// A connection that holds much of an unfinished message.
 #[derive(Drop)]
@@ -27,58 +28,69 @@ struct Holder {
 /// The unfinished messages that are more than small.
 #[derive(Drop)]
 struct Unfinished {
-    /// What each connection holds, the one that has held its part longest first.
+    /// What each connection holds: first those that were closed, until their threads let go of it, and then the others,
+    /// the one that has held its part longest first.
     parts: Vec<Part>,
-    /// What those hold that were closed, until their threads let go of it.
-    closing: Vec<Part>,
+    /// How many were closed.
+    closed: usize,
     /// The connections.
     holders: Vec<Holder>,
 }
 
 impl Unfinished {
-    /// Whether a connection has a part, which is of so many octets then.
+    /// The parts of connections that were closed, and of those that weren't.
+    fn split(&self) -> (&[Part], &[Part]) {
+        self.parts
+            .as_slice()
+            .split_at(self.closed.min(self.parts.len()))
+    }
+
+    /// Whether a connection has a part, which is of so many octets then, unless it was closed.
     fn has_set(&mut self, part: Part) -> bool {
         let Some(counted) = self.parts.iter_mut().find(|it| it.number == part.number) else {
             return false;
         };
-        counted.octets = part.octets;
+        counted.octets = part.octets.max(counted.octets);
         true
     }
 
     /// Takes a connection's part out.
     fn free(&mut self, number: u64) {
+        let (closed, _) = self.split();
+        if closed.iter().any(|part| part.number == number) {
+            self.closed = self.closed.saturating_sub(1);
+        }
         self.parts.retain(|part| part.number != number);
-        self.closing.retain(|part| part.number != number);
         self.holders.retain(|holder| holder.number != number);
     }
 
     /// Closes the connection that has held its part longest. Its part counts until its thread lets go of it.
     fn close_oldest(&mut self) {
-        let Some(oldest) = self.parts.first() else {
+        let (_, open) = self.split();
+        let Some(oldest) = open.first() else {
             return;
         };
-        let oldest = *oldest;
-        if let Some(holder) = self.holders.iter().find(|it| it.number == oldest.number) {
+        let number = oldest.number;
+        if let Some(holder) = self.holders.iter().find(|it| it.number == number) {
             holder.socket.shut();
         }
-        self.parts.retain(|part| part.number != oldest.number);
-        // Without memory for that it counts no longer, and nobody waits for it.
-        let _ = self.closing.push(oldest);
+        self.closed = self.closed.saturating_add(1);
     }
 
     /// Closes connections until the parts of the others aren't too much.
     fn close_some(&mut self) {
         for _ in 0..self.parts.len() {
-            if !is_overfull(self.parts.as_slice()) {
+            let (_, open) = self.split();
+            if !is_overfull(open) {
                 return;
             }
             self.close_oldest();
         }
     }
 
-    /// Whether closed connections still hold something.
+    /// Whether all parts are too much, since closed connections still hold theirs.
     fn is_waiting(&self) -> bool {
-        !self.closing.is_empty()
+        is_overfull(self.parts.as_slice())
     }
 }
 
@@ -93,8 +105,12 @@ pub(crate) struct Server {
     ending: AtomicU64,
     /// How many numbers were given to connections.
     numbers: AtomicU64,
-    /// How many subscribers are there.
-    subscribers: AtomicUsize,
+    /// Octets that are kept for subscribers, beyond a small part of each.
+    beyond: AtomicUsize,
+    /// Octets that the topics of subscribers take, beyond a small part of each.
+    topics: Mutex<usize>,
+    /// How long the relay waited for subscribers in vain.
+    waste: Mutex<Waste>,
     /// What is unfinished.
     unfinished: Mutex<Unfinished>,
     /// Tells that a connection let go of what it held.
@@ -109,10 +125,12 @@ impl Server {
             flags,
             ending: AtomicU64::new(0),
             numbers: AtomicU64::new(0),
-            subscribers: AtomicUsize::new(0),
+            beyond: AtomicUsize::new(0),
+            topics: Mutex::new(0),
+            waste: Mutex::new(Waste::new()),
             unfinished: Mutex::new(Unfinished {
                 parts: Vec::new(alloc),
-                closing: Vec::new(alloc),
+                closed: 0,
                 holders: Vec::new(alloc),
             }),
             freed: Condvar::new(),
@@ -157,39 +175,69 @@ impl Server {
         self.numbers.fetch_add(1, Ordering::SeqCst)
     }
 
-    /// Counts a subscriber that comes.
-    pub(crate) fn subscriber_comes(&self) {
-        self.subscribers.fetch_add(1, Ordering::SeqCst);
+    /// How many octets are kept for subscribers, beyond a small part of each.
+    pub(crate) fn beyond(&self) -> usize {
+        self.beyond.load(Ordering::SeqCst)
     }
 
-    /// Counts a subscriber that left.
-    pub(crate) fn subscriber_leaves(&self) {
-        self.subscribers.fetch_sub(1, Ordering::SeqCst);
+    /// Counts that so much is kept for a subscriber now, which was so much before.
+    pub(crate) fn keeps(&self, before: usize, now: usize) {
+        let (was, is) = (share_excess(before), share_excess(now));
+        if is >= was {
+            self.beyond.fetch_add(is - was, Ordering::SeqCst);
+        } else {
+            self.beyond.fetch_sub(was - is, Ordering::SeqCst);
+        }
     }
 
-    /// How many subscribers are there.
-    pub(crate) fn subscribers(&self) -> usize {
-        self.subscribers.load(Ordering::SeqCst)
+    /// Counts topics that take so many octets more, and answers whether there is room for them. They aren't counted
+    /// otherwise.
+    pub(crate) fn hold_topics<R: Wait>(&self, rt: &R, more: usize) -> bool {
+        let mut all = self.topics.lock(rt);
+        let is_room = may_hold(*all, more);
+        if is_room {
+            *all = all.saturating_add(more);
+        }
+        is_room
+    }
+
+    /// Counts topics that take so many octets less.
+    pub(crate) fn free_topics<R: Wait>(&self, rt: &R, less: usize) {
+        let mut all = self.topics.lock(rt);
+        *all = all.saturating_sub(less);
+    }
+
+    /// In how many milliseconds a subscriber has to take the octets of the least pace that didn't keep it before.
+    pub(crate) fn grace<R: Wait>(&self, rt: &R, now: u64) -> u64 {
+        self.waste.lock(rt).grace(now)
+    }
+
+    /// Counts that the relay waited from then on for a subscriber that is given up now.
+    pub(crate) fn wastes<R: Wait + Clock>(&self, rt: &R, since: u64) {
+        let now = self.millis(rt);
+        self.waste.lock(rt).add(now.saturating_sub(since), now);
     }
 
     /// Counts what a connection holds of an unfinished message, beyond what every connection may hold. If all are too
     /// much then, the connection that has held its part longest is closed, and so on; who holds more waits until those
-    /// have let go of it. If there is no memory to count it, this connection is closed.
-    pub(crate) fn hold<R: Wait + Clock>(&self, rt: &R, part: Part, socket: &Socket) {
+    /// have let go of so much that there is room. If there is no memory to count it, this connection is closed. Answers
+    /// whether it was waited.
+    pub(crate) fn hold<R: Wait + Clock>(&self, rt: &R, part: Part, socket: &Socket) -> bool {
         let mut unfinished = self.unfinished.lock(rt);
         if !is_counted(&mut unfinished, part, socket) {
             socket.shut();
         }
         unfinished.close_some();
         drop(unfinished);
-        for _ in 0..LOOKS {
-            if !self.waits(rt) || socket.is_shut() {
-                return;
+        for look in 0..LOOKS {
+            if socket.is_shut() || !self.waits(rt) {
+                return look > 0;
             }
         }
+        true
     }
 
-    /// Whether closed connections still held something, a moment ago.
+    /// Whether closed connections still held too much, a moment ago.
     fn waits<R: Wait + Clock>(&self, rt: &R) -> bool {
         let unfinished = self.unfinished.lock(rt);
         let is_waiting = unfinished.is_waiting();

@@ -1,6 +1,6 @@
 //! Serving a connection file: the ports, the kernel behind them, and their end.
 
-ghost use Rattle.std.specs.Prelude.{◌≡◌, IfOk, true};
+ghost use Rattle.std.specs.Prelude.{◌≡◌, IfOk, IfSome, true};
 
 use crate::connection::Channel;
 use crate::ending::{Acceptor, end_all, start};
@@ -22,6 +22,7 @@ use kernel_workers::{Flags, Inbox, Job, KernelEnd, KernelFault, Note, Parts, run
 use std::alloc::{AllocError, Global};
 use std::net::{Net, TcpListener, TcpStream};
 use std::random::RandomSource;
+use std::snapshot::Snapshot;
 use std::sync::{Arc, Wait};
 use std::thread::Threads;
 use std::time::Clock;
@@ -32,10 +33,12 @@ use zmtp_wire::Outlet;
 const ID_LENGTH: usize = 36;
 
 /// How a kernel that served ended.
-#[derive(Clone, Copy, Debug, PartialEq, Eq)]
+#[derive(Drop)]
 pub struct Served {
     /// Whether all that was published was taken.
     pub complete: bool,
+    /// The key that it ran with, which contracts alone see.
+    pub key: Snapshot<Vec<u8>>,
 }
 
 /// What a kernel of shell arithmetic runs on.
@@ -68,6 +71,9 @@ where
         + 'static,
     // A kernel that ended has taken all that was published.
     ensures complete { IfOk result (λ served. served.complete ≡ true) }
+
+    // It ran with the file's key.
+    ensures key { IfOk result (λ served. served.key.value.items ≡ connection.key) }
 {
     let bound = bind_ports(&rt, &connection);
     let key = key_of(connection);
@@ -120,14 +126,42 @@ where
         + Drop
         + 'static,
     ensures complete { IfOk result (λ served. served.complete ≡ true) }
+    ensures key { IfOk result (λ served. served.key.value.items ≡ key.items) }
 {
-    let stage = match stage_of(rt, alloc, key) {
-        Ok(stage) => stage,
+    match stage_of(rt, alloc, key) {
+        Ok(stage) => serve_stage(rt, alloc, ports, stage, until),
         Err(fault) => {
             drop(ports);
-            return Err(fault);
+            Err(fault)
         }
-    };
+    }
+}
+
+/// Runs a kernel on ports that are bound, until its end.
+///
+/// # Errors
+///
+/// As `serve_on`, but for `NoRandomness`.
+fn serve_stage<R>(
+    rt: R,
+    alloc: Global,
+    ports: Ports,
+    stage: Stage<R>,
+    until: Until,
+) -> Result<Served, ServeFault>
+where
+    R: Net<Listener = TcpListener, Stream = TcpStream>
+        + Threads
+        + Wait
+        + Clock
+        + Copy
+        + Send
+        + Sync
+        + Drop
+        + 'static,
+    ensures complete { IfOk result (λ served. served.complete ≡ true) }
+    ensures key { IfOk result (λ served. served.key.value.items ≡ stage.parts.key.items) }
+{
     let mut acceptors = Vec::new(alloc);
     let accepts = stage.round().accept_on(rt, alloc, ports, &mut acceptors);
     let Stage {
@@ -162,6 +196,7 @@ fn run_until<R>(
 where
     R: Threads + Wait + Clock + Copy + Send + Sync + Drop + 'static,
     ensures complete { IfOk result (λ served. served.complete ≡ true) }
+    ensures key { IfOk result (λ served. served.key.value.items ≡ parts.key.items) }
 {
     let watch = match start_watch(rt, alloc, until, &parts.control_in.to) {
         Ok(watch) => watch,
@@ -186,7 +221,9 @@ fn run<R>(rt: R, alloc: Global, parts: KernelParts<R>) -> Result<Served, ServeFa
 where
     R: Threads + Wait + Clock + Copy + Send + Sync + Drop + 'static,
     ensures complete { IfOk result (λ served. served.complete ≡ true) }
+    ensures key { IfOk result (λ served. served.key.value.items ≡ parts.key.items) }
 {
+    let key = Snapshot::of(&parts.key);
     let KernelEnd {
         complete,
         restart: _,
@@ -194,7 +231,7 @@ where
         no_room: _,
     } = run_arith(rt, alloc, parts)?;
     drop(subscribers);
-    Ok(Served { complete })
+    Ok(Served { complete, key })
 }
 
 /// Runs a kernel of shell arithmetic, with whatever stamps and writers.
@@ -246,6 +283,8 @@ impl<R: Wait + Clock + Drop> Stage<R> {
 fn stage_of<R>(rt: R, alloc: Global, key: Vec<u8>) -> Result<Stage<R>, ServeFault>
 where
     R: RandomSource + Wait + Clock + Copy + Drop,
+    ensures key { IfOk result (λ stage. stage.parts.key.items ≡ key.items) }
+    ensures signer { IfOk result (λ stage. stage.signer.value ≡ key.items) }
 {
     let Some((flags, signer, server)) = shares_of(&rt, alloc, &key) else {
         drop(key);
@@ -270,7 +309,9 @@ fn shares_of<R: Clock>(
     rt: &R,
     alloc: Global,
     key: &[u8],
-) -> Option<(Flags, Arc<Signer, Global>, Arc<Server, Global>)> {
+) -> Option<(Flags, Arc<Signer, Global>, Arc<Server, Global>)>
+    ensures signer { IfSome result (λ shares. shares.1.value ≡ key.now) }
+{
     let copy = key.to_vec(alloc).ok()?;
     let signer = Arc::new(alloc, Signer::new(copy)).ok()?;
     let Some((flags, server)) = server_of(rt, alloc) else {

@@ -1,8 +1,11 @@
 //! The socket of a connection, which the threads that serve it share.
 
+ghost use Rattle.libc.specs.Net.{SockOption};
 ghost use Rattle.std.specs.Io.{WritesAtMost};
 
-use kernel_limits::limits::{REPLY_MILLIS, SEND_BUFFER};
+use kernel_limits::limits::{
+    ALIVE_AGAIN_SECONDS, ALIVE_SECONDS, ALIVE_TIMES, REPLY_MILLIS, SEND_BUFFER,
+};
 use libc::net;
 use libc::types::pollfd;
 use std::alloc::{AllocError, Global};
@@ -46,7 +49,7 @@ impl Socket {
     pub(crate) fn new(alloc: Global, stream: TcpStream) -> io::Result<Socket> {
         stream.set_nodelay(true)?;
         stream.set_write_timeout(Some(Duration::from_millis(PAUSE)))?;
-        set_send_buffer(&stream);
+        set_options(&stream);
         let shared = Shared {
             stream,
             is_ended: AtomicBool::new(false),
@@ -130,7 +133,9 @@ impl Socket {
             events: net::POLLRDHUP,
             revents: 0,
         }];
-        net::poll(&mut looked, 0) > 0
+        let has_hung_up = net::poll(&mut looked, 0) > 0;
+        // The system tells the same once reads were ended here, which is noted before.
+        has_hung_up && !self.is_ended()
     }
 
     /// Ends what is read: a read that waits, and each one after it, finds no octet any more.
@@ -174,21 +179,29 @@ impl Write for Socket {
     }
 }
 
-/// Gives a socket a small send buffer, so that what was written to it was taken by its peer but for little. If the
-/// system refuses, it keeps the one that it has.
-fn set_send_buffer(stream: &TcpStream) {
+/// Gives a socket a small send buffer, so that what was written to it was taken by its peer but for little; and has the
+/// system ask whether a silent peer's machine is still there, so that one that vanished without a word holds no place.
+fn set_options(stream: &TcpStream) {
+    set_option(stream, net::SOL_SOCKET, net::SO_SNDBUF, SEND_BUFFER);
+    set_option(stream, net::SOL_SOCKET, net::SO_KEEPALIVE, 1);
+    set_option(stream, net::IPPROTO_TCP, net::TCP_KEEPIDLE, ALIVE_SECONDS);
+    set_option(
+        stream,
+        net::IPPROTO_TCP,
+        net::TCP_KEEPINTVL,
+        ALIVE_AGAIN_SECONDS,
+    );
+    set_option(stream, net::IPPROTO_TCP, net::TCP_KEEPCNT, ALIVE_TIMES);
+}
+
+/// Sets an option of a socket. If the system refuses, it stays as it was.
+fn set_option(stream: &TcpStream, level: i32, name: i32, set: i32)
+    requires { SockOption level name }
+{
     let mut value = [0u8; 16];
     let (front, _) = value.split_at_mut(4);
-    front.copy_from_slice(&SEND_BUFFER.to_ne_bytes());
-    let _ = unsafe {
-        net::setsockopt(
-            stream.as_raw_fd(),
-            net::SOL_SOCKET,
-            net::SO_SNDBUF,
-            &value,
-            4,
-        )
-    };
+    front.copy_from_slice(&set.to_ne_bytes());
+    let _ = unsafe { net::setsockopt(stream.as_raw_fd(), level, name, &value, 4) };
 }
 
 /// Whether a try to write found no room, or the system interrupted it.

@@ -1,30 +1,45 @@
 //! Connections of IOPub: subscribers, who are written to by the relay alone.
 
 use crate::backlog::Backlog;
-use crate::connection::{TURNS, hear_out, octets_of};
+use crate::connection::{hear_out, octets_of};
 use crate::feed::Feed;
 use crate::guest::Guest;
 use crate::reader::{Gauge, Reader};
 use crate::server::Server;
+use crate::socket::Socket;
 use crossbeam_channel::{SendError, Sender};
 use iopub_event::Event;
 use iopub_relay::{Topics, door_event};
-use kernel_limits::TopicCount;
+use kernel_limits::limits::READS;
+use kernel_limits::{TopicCount, is_told, may_ask};
 use kernel_workers::Note;
 use listed::Octets;
 use std::alloc::{AllocError, Global};
 use std::sync::{Arc, Wait};
 use std::thread;
 use std::thread::{JoinHandle, Threads};
-use std::time::Clock;
+use std::time::{Clock, Duration};
 use zmtp_connection::{Intake, OpenPeer, shake};
 use zmtp_wire::{Counted, SocketType, Traffic};
+
+/// For how many milliseconds a reader waits, before it looks again whether few events wait for the relay.
+const TURN_LOOK: u64 = 20;
 
 /// What a subscriber's messages are written to.
 pub(crate) type Writer<R> = Counted<Feed<R>>;
 
 /// The inbox of subscriptions.
 pub(crate) type SubscriptionsInbox<R> = Sender<Note<Event<Writer<R>>>>;
+
+/// What becomes of an event of a subscriber.
+enum Asks {
+    /// The relay is told of it.
+    Something,
+    /// The relay needn't know of it.
+    Nothing,
+    /// The subscriber asks for more than it may have.
+    TooMuch,
+}
 
 /// The topics that a subscriber asked for, and how many they are.
 #[derive(Drop)]
@@ -35,45 +50,77 @@ struct Asked {
     topics: Topics,
     /// How many they are.
     count: TopicCount,
+    /// What all share.
+    server: Arc<Server, Global>,
 }
 
 impl Asked {
-    /// Keeps what an event asks for, or gives it up, and answers whether the subscriber may ask for that.
+    /// Keeps what an event asks for, or gives it up, and answers what becomes of it.
     ///
     /// # Errors
     ///
     /// Where memory is refused.
-    fn note<W>(&mut self, event: &Event<W>) -> Result<bool, AllocError> {
+    fn note<W, R: Wait>(&mut self, rt: &R, event: &Event<W>) -> Result<Asks, AllocError> {
         match event {
-            Event::Subscribe(_, topic) => self.add(topic.as_slice()),
-            Event::Cancel(_, topic) => {
-                self.take_out(topic.as_slice());
-                Ok(true)
-            }
-            Event::Message(_) | Event::Attach(..) | Event::Detach(_) => Ok(true),
+            Event::Subscribe(_, topic) => self.add(rt, topic.as_slice()),
+            Event::Cancel(_, topic) => Ok(self.take_out(rt, topic.as_slice())),
+            Event::Message(_) | Event::Attach(..) | Event::Detach(_) => Ok(Asks::Something),
         }
     }
 
-    /// Keeps a topic, and answers whether there is room for it.
+    /// Keeps a topic, if there is room for it.
     ///
     /// # Errors
     ///
     /// Where memory is refused.
-    fn add(&mut self, topic: &[u8]) -> Result<bool, AllocError> {
-        if !self.count.add(topic.len()) {
-            return Ok(false);
+    fn add<R: Wait>(&mut self, rt: &R, topic: &[u8]) -> Result<Asks, AllocError> {
+        if !self.is_counted(rt, topic.len()) {
+            return Ok(Asks::TooMuch);
         }
-        let topic = topic.to_vec(self.alloc)?;
-        self.topics.add(Octets::new(topic))?;
-        Ok(true)
+        let kept = topic.to_vec(self.alloc)?;
+        self.topics.add(Octets::new(kept))?;
+        Ok(asks_for(topic))
+    }
+
+    /// Counts a topic of so many octets, and answers whether there is room for it.
+    fn is_counted<R: Wait>(&mut self, rt: &R, octets: usize) -> bool {
+        let before = self.count.excess();
+        if !self.count.add(octets) {
+            return false;
+        }
+        let more = self.count.excess().saturating_sub(before);
+        let is_room = self.server.hold_topics(rt, more);
+        if !is_room {
+            self.count.remove(octets);
+        }
+        is_room
     }
 
     /// Gives a topic up, if it is held.
-    fn take_out(&mut self, topic: &[u8]) {
-        if self.topics.has(topic) {
-            self.topics.take_out(topic);
-            self.count.remove(topic.len());
+    fn take_out<R: Wait>(&mut self, rt: &R, topic: &[u8]) -> Asks {
+        if !self.topics.has(topic) {
+            return Asks::Nothing;
         }
+        self.topics.take_out(topic);
+        let before = self.count.excess();
+        self.count.remove(topic.len());
+        self.server
+            .free_topics(rt, before.saturating_sub(self.count.excess()));
+        asks_for(topic)
+    }
+
+    /// Nothing is held any more.
+    fn give_back<R: Wait>(&self, rt: &R) {
+        self.server.free_topics(rt, self.count.excess());
+    }
+}
+
+/// Whether the relay is told of a topic.
+fn asks_for(topic: &[u8]) -> Asks {
+    if is_told(topic.len()) {
+        Asks::Something
+    } else {
+        Asks::Nothing
     }
 }
 
@@ -92,6 +139,8 @@ struct Subscriptions<R: Wait + Clock + Drop> {
     asked: Asked,
     /// What the connection has unfinished.
     gauge: Arc<Gauge, Global>,
+    /// The connection's socket.
+    socket: Socket,
 }
 
 impl<R: Wait + Clock + Drop> Intake for Subscriptions<R> {
@@ -104,27 +153,40 @@ impl<R: Wait + Clock + Drop> Intake for Subscriptions<R> {
     ghost names = { λ _. [] };
 
     fn put(&mut self, traffic: Traffic) -> Result<bool, AllocError> {
-        self.gauge.finish(&self.rt, octets_of(&traffic));
+        let octets = octets_of(&traffic);
         let event = door_event(self.alloc, self.id, &traffic);
         drop(traffic);
         match event {
-            Ok(Some(event)) => self.ask(event),
-            Ok(None) => Ok(true),
+            Ok(Some(event)) => self.ask(event, octets),
+            Ok(None) => {
+                self.gauge.finish(&self.rt, octets);
+                Ok(true)
+            }
             Err(AllocError) => Err(AllocError),
         }
     }
 }
 
 impl<R: Wait + Clock + Drop> Subscriptions<R> {
-    /// Tells the worker of subscriptions what the subscriber asks for, if it may, and answers whether that went well.
+    /// Tells the worker of subscriptions what the subscriber asks for by a message of so many octets, if it may, and
+    /// answers whether that went well.
     ///
     /// # Errors
     ///
     /// Where memory is refused.
-    fn ask(&mut self, event: Event<Writer<R>>) -> Result<bool, AllocError> {
-        match self.asked.note(&event) {
-            Ok(true) => self.tell(event),
-            Ok(false) => {
+    fn ask(&mut self, event: Event<Writer<R>>, octets: usize) -> Result<bool, AllocError> {
+        let noted = self.asked.note(&self.rt, &event);
+        match noted {
+            Ok(Asks::Something) => {
+                self.gauge.finish(&self.rt, octets);
+                self.tell_in_turn(event)
+            }
+            Ok(Asks::Nothing) => {
+                drop(event);
+                self.gauge.finish(&self.rt, octets);
+                Ok(true)
+            }
+            Ok(Asks::TooMuch) => {
                 drop(event);
                 Ok(false)
             }
@@ -133,6 +195,39 @@ impl<R: Wait + Clock + Drop> Subscriptions<R> {
                 Err(AllocError)
             }
         }
+    }
+
+    /// Tells the worker of subscriptions an event once few others wait for it, and answers whether it is still there,
+    /// and the peer, too.
+    ///
+    /// # Errors
+    ///
+    /// Where memory is refused.
+    fn tell_in_turn(&self, event: Event<Writer<R>>) -> Result<bool, AllocError> {
+        if self.waits_its_turn() {
+            self.tell(event)
+        } else {
+            drop(event);
+            Ok(false)
+        }
+    }
+
+    /// Waits until few events wait for the worker of subscriptions, and answers whether the peer is still there.
+    fn waits_its_turn(&self) -> bool {
+        if may_ask(self.inbox.len()) {
+            return true;
+        }
+        for _ in self.rt.forever() {
+            thread::sleep(&self.rt, Duration::from_millis(TURN_LOOK));
+            if self.socket.is_ended() || self.socket.has_hung_up() {
+                return false;
+            }
+            if may_ask(self.inbox.len()) {
+                break;
+            }
+        }
+        self.gauge.resume(&self.rt);
+        true
     }
 
     /// Tells the worker of subscriptions an event, and answers whether it is still there.
@@ -184,9 +279,8 @@ where
         drop(inbox);
         return;
     };
-    match shake(alloc, &mut reader, &mut writer, SocketType::Pub, TURNS) {
+    match shake(alloc, &mut reader, &mut writer, SocketType::Pub, READS) {
         Ok(peer) => {
-            guest.open(&rt, usize::MAX);
             drop(writer);
             serve_open(rt, alloc, guest, inbox, reader, peer);
         }
@@ -216,21 +310,67 @@ where
         drop(peer);
         return;
     };
+    // Until it has its turn a newcomer may have its place: who comes again and again fills nothing.
+    if !subscriptions.waits_its_turn() {
+        drop(reader);
+        drop(peer);
+        drop(subscriptions);
+        return;
+    }
+    guest.open(&rt, usize::MAX);
     match start_feed(rt, alloc, guest) {
-        Some((feed, writing)) => {
-            guest.server.subscriber_comes();
-            hear_subscriber(subscriptions, feed, reader, peer);
-            guest.server.subscriber_leaves();
-            guest.peer_left(&rt);
-            // The writing thread ends once the feed is dropped, which may be only with the last owner of the inbox.
-            writing.join(&rt);
-        }
+        Some(feeding) => serve_fed(&rt, guest, feeding, subscriptions, Shaken { reader, peer }),
         None => {
             drop(reader);
             drop(peer);
             drop(subscriptions);
         }
     }
+}
+
+/// A subscriber with whom hands were shaken.
+#[derive(Drop)]
+struct Shaken<R: Wait + Clock + Drop> {
+    /// What is read of it.
+    reader: Counted<Reader<R>>,
+    /// What is left to hear of it.
+    peer: OpenPeer,
+}
+
+/// What is written to a subscriber.
+#[derive(Drop)]
+struct Feeding<R: Wait + Clock + Drop> {
+    /// What the relay writes to.
+    feed: Feed<R>,
+    /// What is kept there.
+    backlog: Arc<Backlog, Global>,
+    /// The thread that writes it.
+    writing: JoinHandle<()>,
+}
+
+/// Serves a subscriber that is written to.
+fn serve_fed<R>(
+    rt: &R,
+    guest: &Guest,
+    feeding: Feeding<R>,
+    subscriptions: Subscriptions<R>,
+    shaken: Shaken<R>,
+)
+where
+    R: Threads + Wait + Clock + Drop,
+{
+    let Feeding {
+        feed,
+        backlog,
+        writing,
+    } = feeding;
+    let Shaken { reader, peer } = shaken;
+    hear_subscriber(subscriptions, feed, reader, peer);
+    guest.peer_left(rt);
+    // The feed is dropped once the relay has taken that the subscriber left, or with the last owner of the inbox.
+    backlog.wait_until_shut(rt, &guest.socket);
+    writing.join(rt);
+    drop(backlog);
 }
 
 /// Where the subscriptions of a subscriber go. None where something has too many owners.
@@ -240,7 +380,11 @@ fn subscriptions_of<R: Wait + Clock + Drop>(
     guest: &Guest,
     inbox: SubscriptionsInbox<R>,
 ) -> Option<Subscriptions<R>> {
-    let Ok(gauge) = Arc::try_clone(&guest.gauge) else {
+    let (Ok(gauge), Ok(server), Ok(socket)) = (
+        Arc::try_clone(&guest.gauge),
+        Arc::try_clone(&guest.server),
+        guest.socket.try_clone(),
+    ) else {
         drop(inbox);
         return None;
     };
@@ -253,8 +397,10 @@ fn subscriptions_of<R: Wait + Clock + Drop>(
             alloc,
             topics: Topics::new(alloc),
             count: TopicCount::new(),
+            server,
         },
         gauge,
+        socket,
     })
 }
 
@@ -271,44 +417,48 @@ fn hear_subscriber<R: Wait + Clock + Drop>(
     } else {
         drop(peer);
     }
+    subscriptions.asked.give_back(&subscriptions.rt);
     drop(reader);
     drop(subscriptions);
 }
 
 /// The feed of a subscriber, and the thread that writes it. None where no memory or no thread is left.
-fn start_feed<R>(rt: R, alloc: Global, guest: &Guest) -> Option<(Feed<R>, JoinHandle<()>)>
+fn start_feed<R>(rt: R, alloc: Global, guest: &Guest) -> Option<Feeding<R>>
 where
     R: Threads + Wait + Clock + Copy + Send + Sync + Drop + 'static,
 {
     let Ok(socket) = guest.socket.try_clone() else {
         return None;
     };
-    let Some((backlog, shared)) = backlog_of_both(alloc, &guest.server) else {
+    let Some([fed, backlog, written]) = backlog_thrice(alloc, &guest.server) else {
         drop(socket);
         return None;
     };
-    match thread::spawn(&rt, move || shared.write_all(&rt, &socket)) {
-        Ok(writing) => Some((Feed::new(rt, backlog), writing)),
+    match thread::spawn(&rt, move || written.write_all(&rt, &socket)) {
+        Ok(writing) => Some(Feeding {
+            feed: Feed::new(rt, fed),
+            backlog,
+            writing,
+        }),
         Err(error) => {
             drop(error);
+            drop(fed);
             drop(backlog);
             None
         }
     }
 }
 
-/// A backlog, and the same for the thread that writes it. None where no memory is left.
-fn backlog_of_both(
+/// A backlog, for the relay, the thread that reads, and the thread that writes it. None where no memory is left.
+fn backlog_thrice(
     alloc: Global,
     server: &Arc<Server, Global>,
-) -> Option<(Arc<Backlog, Global>, Arc<Backlog, Global>)> {
+) -> Option<[Arc<Backlog, Global>; 3]> {
     let server = Arc::try_clone(server).ok()?;
     let backlog = Arc::new(alloc, Backlog::new(alloc, server)).ok()?;
-    match Arc::try_clone(&backlog) {
-        Ok(shared) => Some((backlog, shared)),
-        Err(AllocError) => {
-            drop(backlog);
-            None
-        }
-    }
+    let (Ok(fed), Ok(written)) = (Arc::try_clone(&backlog), Arc::try_clone(&backlog)) else {
+        drop(backlog);
+        return None;
+    };
+    Some([fed, backlog, written])
 }

@@ -1,0 +1,15 @@
+//! After which process a kernel looks.
+
+ghost use Rattle.std.specs.Prelude.{◌≡◌};
+ghost use Rattle.kernel_limits.specs.Limits.{looked_after};
+
+/// The number of the process with which a kernel ends: its parent, which may be a shell that the named process began;
+/// but the named process itself if that is gone, and with it the parent that it was.
+pub fn looked_after(parent: u32, named: Option<u32>, is_gone: bool) -> u32
+    ensures { result ≡ looked_after parent named is_gone }
+{
+    match named {
+        Some(number) if is_gone => number,
+        Some(_) | None => parent,
+    }
+}
