@@ -16,7 +16,7 @@ mod request;
 
 pub use fault::{ContentFault, content_words};
 pub use laws::{law_each_type_is_found, law_replies_are_named_for_requests};
-pub use message_type::{ErrorForm, Heard, MessageType, reply_type};
+pub use message_type::{Columns, ErrorForm, Heard, MessageType, reply_type};
 pub use publication::{
     Publication, State, content_of_publication, content_text_of_publication, topic_of, type_of,
 };

@@ -77,7 +77,7 @@ impl MessageType {
     }
 
     /// The columns of its row in the table of requests.
-    fn columns(self) -> Columns
+    pub fn columns(self) -> Columns
         ensures reply { option_map (λ name. name.now) result.reply ≡ (row_of self).reply }
         ensures heard { result.heard ≡ (row_of self).heard }
         ensures error { result.error ≡ (row_of self).error }
@@ -135,38 +135,17 @@ impl MessageType {
             ),
         }
     }
-
-    /// On which channels it has a meaning.
-    pub fn heard(self) -> Heard
-        ensures { result ≡ (row_of self).heard }
-    {
-        self.columns().heard
-    }
-
-    /// Which error replies to it.
-    pub fn error(self) -> ErrorForm
-        ensures { result ≡ (row_of self).error }
-    {
-        self.columns().error
-    }
-
-    /// The type of the message that replies to it.
-    fn reply(self) -> Option<&'static str>
-        ensures { option_map (λ name. name.now) result ≡ (row_of self).reply }
-    {
-        self.columns().reply
-    }
 }
 
 /// What the table of requests says of a type, beside its name and its fields.
 #[derive(Clone, Copy)]
-struct Columns {
+pub struct Columns {
     /// The type of the message that replies to it, where any does.
-    reply: Option<&'static str>,
+    pub reply: Option<&'static str>,
     /// On which channels it has a meaning.
-    heard: Heard,
+    pub heard: Heard,
     /// Which error replies to it.
-    error: ErrorForm,
+    pub error: ErrorForm,
 }
 
 impl Columns {
@@ -187,7 +166,7 @@ pub fn reply_type(msg_type: &str) -> Option<&'static str>
     ensures { option_map (λ name. name.now) result ≡ reply_type_of msg_type.now }
 {
     match MessageType::from_name(msg_type) {
-        Some(kind) => kind.reply(),
+        Some(kind) => kind.columns().reply,
         None => None,
     }
 }

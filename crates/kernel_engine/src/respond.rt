@@ -100,7 +100,7 @@ fn asked_of(
 fn has_meaning(side: Side, kind: MessageType) -> bool
     ensures { result ≡ has_meaning side kind }
 {
-    match kind.heard() {
+    match kind.columns().heard {
         Heard::Everywhere => true,
         Heard::OnShell => side == Side::Shell,
         Heard::Nowhere => false,
@@ -134,7 +134,7 @@ fn refuse(
 fn error_reply(kind: MessageType, count: u64, ename: Text, evalue: Text) -> Option<Reply>
     ensures { result ≡ error_reply_to kind count ename evalue }
 {
-    match kind.error() {
+    match kind.columns().error {
         ErrorForm::NoError => None,
         ErrorForm::Plain => Some(Reply::Error { ename, evalue }),
         ErrorForm::Counted => Some(Reply::ExecuteError {

@@ -10,7 +10,6 @@ ghost use Rattle.zmtp_wire.specs.declared.fault.WireFault.TheVariants.{OutOfMemo
 use crate::device::{Outlet, WriteFailed, write_all};
 use crate::fault::WireFault;
 use crate::traffic::head::frame_head;
-use listed::Frames;
 use std::alloc::Global;
 use std::marker::Model;
 
@@ -18,17 +17,18 @@ use std::marker::Model;
 #[derive(Debug, Drop)]
 pub struct Message {
     /// The frames, each with its body.
-    frames: Frames,
+    frames: Vec<Vec<u8>>,
 }
 
 impl Model for Message {
     ghost use Rattle.std.specs.Prelude.{ℕ, ◌<◌, List, length};
+    ghost use Rattle.listed.specs.Bodies.{bodies};
 
     ghost Value = { List (List ℕ) };
 
-    ghost view = { λ message. message.frames };
+    ghost view = { λ message. bodies message.frames.items };
 
-    ghost invariant = { λ message. 0 < length message.frames };
+    ghost invariant = { λ message. 0 < length message.frames.items };
 }
 
 impl Message {
@@ -37,9 +37,7 @@ impl Message {
         requires { 0 < length frames.items }
         ensures { result ≡ bodies frames.items }
     {
-        Message {
-            frames: Frames::new(frames),
-        }
+        Message { frames }
     }
 
     /// The frames as a slice, each with its body.
@@ -54,7 +52,8 @@ impl Message {
     pub fn into_vec(self) -> Vec<Vec<u8>>
         ensures { bodies result.items ≡ self }
     {
-        self.frames.into_vec()
+        let Message { frames } = self;
+        frames
     }
 }
 
