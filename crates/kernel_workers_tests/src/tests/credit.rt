@@ -6,6 +6,7 @@ use crate::tests::control::{Lines, trio_of};
 use crate::tests::shell::{ASKED, SHUTDOWN};
 use kernel_workers::{Account, Credit};
 use std::sync::Arc;
+use std::thread;
 
 /// The octets that each job is said to have.
 const OCTETS: usize = 7;
@@ -36,6 +37,17 @@ fn ask_counted<R: Wait>(
 fn expect_in_work(rt: &impl Abort, account: &Account, (jobs, octets): (usize, usize)) {
     assert_eq!(rt; account.jobs(), jobs);
     assert_eq!(rt; account.octets(), octets);
+}
+
+/// Waits until so many jobs of an account are left.
+fn await_jobs<R: Wait>(rt: &R, account: &Account, jobs: usize) {
+    for _ in rt.forever() {
+        if account.jobs() == jobs {
+            return;
+        }
+        thread::yield_now();
+    }
+    unreachable!()
 }
 
 /// An account that has nothing in work, and what its reader sleeps on.
@@ -79,8 +91,10 @@ fn what_a_job_has_of_an_account_is_given_back(rt: HostRuntime) -> Result<(), Fai
     let shell = arith_engine(alloc, Side::Shell, shell);
     let control = arith_engine(alloc, Side::Control, control);
     let trio = trio_of(lines, shell, control, subscriptions);
-    let shell = trio.shell.spawn(rt, alloc).expect(&rt, "a thread");
     let control = trio.control.spawn(rt, alloc).expect(&rt, "a thread");
+    // Once shell has ended, control begins nothing any more.
+    await_jobs(&rt, &account, 3);
+    let shell = trio.shell.spawn(rt, alloc).expect(&rt, "a thread");
     let subscriptions = trio.subscriptions.spawn(rt).expect(&rt, "a thread");
     let mut seen = Vec::new(alloc);
     take_all(&rt, alloc, &mut taker, &parker, &mut seen)?;
