@@ -91,11 +91,14 @@ module _ {Writer : Type 0} (outflow : Writer → Outflow) where
       → Pumps outflow middle result new → (result ≡ pumped.Complete → ⊥) → (result ≡ pumped.Empty → ⊥)
       → Took old count middle → Took old (suc count) new
   pumped_one old middle new count pumped.Did pumps some more took =
-      took_more old middle new count pumps.number (Some pumps.event) pumped.Did took tt pumps pumps.takes
+      took_more old middle new count pumps.0.number (Some pumps.0.event) pumped.Did took tt pumps pumps.0.takes
   pumped_one old middle new count (pumped.Closed number) pumps some more took =
       took_more old middle new count number None (pumped.Closed number) took tt pumps pumps.0
   pumped_one old middle new count pumped.Empty pumps some more took = absurd (more refl)
   pumped_one old middle new count pumped.Complete pumps some more took = absurd (some refl)
+  pumped_one old middle new count (pumped.NoTopic id) pumps some more took =
+      took_more old middle new count pumps.0.number (Some pumps.0.event) (pumped.NoTopic id) took tt pumps
+      pumps.0.takes
   pumped_one old middle new count (pumped.NoRoom id) pumps some more took =
       took_more old middle new count pumps.number (Some (Attach id pumps.writer)) (pumped.NoRoom id) took tt pumps
       pumps.takes

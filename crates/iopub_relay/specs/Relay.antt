@@ -19,7 +19,7 @@ use Rattle.iopub_relay.specs.declared.subscriber.Subscriber.{Subscriber}
 use Rattle.iopub_relay.specs.Life.{Life, life}
 use Rattle.iopub_relay.specs.Feed.{feed, AreRisingIds}
 use Rattle.iopub_relay.specs.Rows.{row_of, AreRising}
-use Rattle.iopub_relay.specs.Table.{Fits, FitsMore}
+use Rattle.iopub_relay.specs.Table.{Fits, FitsMore, IsStarved, StarvesOnly}
 
 -- What contracts see of a relay: its taker, its subscribers by rising ids, and how often there was no room for one.
 pub record Relaying (Writer : Type 0) : Type 0 where
@@ -124,11 +124,13 @@ pub record LacksRoom {Writer : Type 0} (id : ℕ) (old new : Relaying Writer) : 
 
 -- what a pump answers, and what it leaves: it is one take and what the taken event asks for
 abbrev pub Pumps : {Writer : Type 0} → (Writer → Outflow) → Relaying Writer → Pumped → Relaying Writer → Type 0
-Pumps outflow old pumped.Did new = ServesOne outflow old new
+Pumps outflow old pumped.Did new = ServesOne outflow old new × StarvesOnly (λ id. ⊥) old.rows new.rows
 Pumps outflow old (pumped.Closed number) new =
     TakesOne old.taker number None new.taker × (new ≡ record old { taker = new.taker })
 Pumps outflow old pumped.Empty new = FindsNothing old.taker new.taker × (new ≡ old)
 Pumps outflow old pumped.Complete new = (new ≡ old) × IsComplete old.taker.count old.taker.taken
+Pumps outflow old (pumped.NoTopic id) new =
+    ServesOne outflow old new × StarvesOnly (λ other. other ≡ id) old.rows new.rows × IsStarved (row_of id new.rows)
 Pumps outflow old (pumped.NoRoom id) new = LacksRoom id old new
 
 -- a pump took an entry
@@ -137,6 +139,7 @@ TookEntry pumped.Did = ⊤
 TookEntry (pumped.Closed number) = ⊤
 TookEntry pumped.Empty = ⊥
 TookEntry pumped.Complete = ⊥
+TookEntry (pumped.NoTopic id) = ⊤
 TookEntry (pumped.NoRoom id) = ⊤
 
 -- what so many pumps leave, one after the other, that each took an entry

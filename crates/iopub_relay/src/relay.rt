@@ -28,6 +28,8 @@ pub enum Pumped {
     Empty,
     /// It took nothing: the closes of all publishers were taken.
     Complete,
+    /// It took that this subscriber asks for a topic, and there was no memory for that: nothing more is written to it.
+    NoTopic(u64),
     /// It took that this subscriber comes, and there was no memory for it: its writer was dropped.
     NoRoom(u64),
 }
@@ -129,7 +131,7 @@ impl<W: Outlet + Drop, R: Wait> Relay<W, R> {
                 self.table.is_rising();
                 match outcome {
                     EventOutcome::Done => Pumped::Did,
-                    EventOutcome::NoTopic(_) => Pumped::Did,
+                    EventOutcome::NoTopic(id) => Pumped::NoTopic(id),
                     EventOutcome::NoRoom(id) => {
                         self.no_room = self.no_room.saturating_add(1);
                         Pumped::NoRoom(id)
@@ -147,7 +149,7 @@ impl<W: Outlet + Drop, R: Wait> Relay<W, R> {
             match self.pump() {
                 Pumped::Complete => return Drain::Complete,
                 Pumped::Empty => return Drain::Empty,
-                Pumped::Did | Pumped::Closed(_) | Pumped::NoRoom(_) => (),
+                Pumped::Did | Pumped::Closed(_) | Pumped::NoTopic(_) | Pumped::NoRoom(_) => (),
             }
         }
         Drain::More

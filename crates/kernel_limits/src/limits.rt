@@ -10,7 +10,7 @@ pub const QUEUE: usize = 1_024;
 /// Jobs of one connection that wait, or whose replies do. No client sends so many ahead, and few fill no memory.
 pub const JOBS: usize = 64;
 
-/// Octets of these jobs: two messages of the greatest size.
+/// Octets of these jobs and replies: two messages of the greatest size.
 pub const JOB_OCTETS: usize = 64 << 20;
 
 /// Milliseconds for a handshake in all, and for a message from its first octet to its last. A slow network needs a few

@@ -11,7 +11,7 @@ use crossbeam_utils::sync::{Parker, Unparker};
 use jmsg_envelope::{Signer, check_signature};
 use kernel_limits::limits::{IDENTITY_OCTETS, READS};
 use kernel_limits::{Claim, may_read};
-use kernel_workers::{Credit, Job, Note};
+use kernel_workers::{Credit, Job, Note, ReplyMessage, ReplyTo};
 use listed::Frames;
 use std::alloc::{AllocError, Global};
 use std::sync::{Arc, Wait};
@@ -68,7 +68,7 @@ struct Requests<R> {
     /// The worker.
     channel: Channel,
     /// Where replies to this peer go.
-    replies: Sender<Frames>,
+    replies: Sender<ReplyMessage>,
     /// The part that the connection has in the peer's mailbox.
     member: Member,
     /// What the reader waits by while too much is in work.
@@ -171,8 +171,14 @@ impl<R: Wait + Clock> Requests<R> {
         Ok(self.member.is_signed)
     }
 
-    /// The peer has shown that it holds the key: it gets the mailbox of its identity.
+    /// The peer has shown that it holds the key: it gets the mailbox of its identity. If it has left this connection,
+    /// it may have a newer one, which keeps that; what it said here is heard all the same.
     fn claim(&mut self) {
+        if self.has_left() {
+            self.member.mailbox.sign(&self.rt);
+            self.member.is_signed = true;
+            return;
+        }
         let member = &mut self.member;
         member.is_signed = member
             .mailbox
@@ -181,6 +187,11 @@ impl<R: Wait + Clock> Requests<R> {
             wake(&self.rt, self.alloc, &self.replies);
             member.writer.unpark();
         }
+    }
+
+    /// Whether the peer has left that may connect again.
+    fn has_left(&self) -> bool {
+        !self.member.identity.is_empty() && self.socket.has_hung_up()
     }
 
     /// The peer has left, unless the kernel ends. If it gave itself an identity nothing more is written on this
@@ -205,19 +216,21 @@ impl<R: Wait + Clock> Requests<R> {
     ///
     /// Where memory is refused.
     fn tell(&self, frames: Frames, octets: usize) -> Result<bool, AllocError> {
-        let Ok(reply) = self.replies.clone() else {
+        let Ok(replies) = self.replies.clone() else {
             drop(frames);
             return Err(AllocError);
         };
         let Ok(credit) = Credit::take(self.member.mailbox.account(), octets) else {
             drop(frames);
-            drop(reply);
+            drop(replies);
             return Err(AllocError);
         };
         let job = Job {
             frames,
-            reply,
-            credit: Some(credit),
+            to: ReplyTo {
+                replies,
+                credit: Some(credit),
+            },
         };
         match self.channel.inbox.send(&self.rt, Note::Item(job)) {
             Ok(()) => Ok(true),
@@ -251,9 +264,9 @@ impl<R: Wait + Clock> Requests<R> {
     /// no more comes than the system has read already.
     fn is_free(&self) -> bool {
         let account = self.member.mailbox.account();
-        may_read(account.jobs(), account.octets(), self.replies.len())
+        may_read(account.jobs(), account.octets(), account.replies())
             || self.socket.is_ended()
-            || (!self.member.identity.is_empty() && self.socket.has_hung_up())
+            || self.has_left()
     }
 }
 
@@ -402,7 +415,11 @@ fn requests_of<R: Wait + Clock + Drop>(
 }
 
 /// Where replies to a peer are put, and its mailbox twice.
-type Ends = (Sender<Frames>, Arc<Mailbox, Global>, Arc<Mailbox, Global>);
+type Ends = (
+    Sender<ReplyMessage>,
+    Arc<Mailbox, Global>,
+    Arc<Mailbox, Global>,
+);
 
 /// The mailbox of a peer, for both threads of its connection. None where no memory is left.
 fn ends_of<R: Wait>(rt: &R, channel: &Channel, caller: Caller<'_>) -> Option<Ends> {

@@ -6,8 +6,7 @@ use crate::socket::Socket;
 use crossbeam_channel::{Receiver, RecvTimeoutError};
 use crossbeam_utils::sync::{Parker, Unparker};
 use kernel_limits::{Claim, Holder, is_awaited, takes_over};
-use kernel_workers::Account;
-use listed::Frames;
+use kernel_workers::{Account, ReplyMessage};
 use std::alloc::Global;
 use std::sync::{Arc, Mutex, Wait};
 use std::time::{Clock, Duration};
@@ -32,6 +31,8 @@ struct Holding {
     since: Option<u64>,
     /// Whether the peer has ever shown that it holds the key.
     is_signed: bool,
+    /// How many connections of the peer are heard still, be it what they said before they broke.
+    heard: usize,
 }
 
 impl Holding {
@@ -72,9 +73,9 @@ impl Holding {
 #[derive(Drop)]
 struct Due {
     /// A reply that was taken out, and not written.
-    unsent: Option<Frames>,
+    unsent: Option<ReplyMessage>,
     /// Those behind it.
-    replies: Receiver<Frames>,
+    replies: Receiver<ReplyMessage>,
 }
 
 /// A mailbox: the replies to a peer, and the connection that has it.
@@ -103,7 +104,7 @@ pub(crate) enum Look {
 
 impl Mailbox {
     /// A mailbox that no connection has.
-    pub(crate) fn new(replies: Receiver<Frames>, account: Arc<Account, Global>) -> Mailbox {
+    pub(crate) fn new(replies: Receiver<ReplyMessage>, account: Arc<Account, Global>) -> Mailbox {
         Mailbox {
             holding: Mutex::new(Holding {
                 holder: Holder::Gone,
@@ -111,6 +112,7 @@ impl Mailbox {
                 socket: None,
                 since: None,
                 is_signed: false,
+                heard: 0,
             }),
             due: Mutex::new(Due {
                 unsent: None,
@@ -123,6 +125,24 @@ impl Mailbox {
     /// What of the peer is in work.
     pub(crate) fn account(&self) -> &Arc<Account, Global> {
         &self.account
+    }
+
+    /// A connection of the peer is heard from now on.
+    pub(crate) fn enter<R: Wait>(&self, rt: &R) {
+        let mut holding = self.holding.lock(rt);
+        holding.heard = holding.heard.saturating_add(1);
+    }
+
+    /// The connection of this number isn't heard any more, and its peer has left.
+    pub(crate) fn exit<R: Wait>(&self, rt: &R, number: u64) {
+        self.leave(rt, number);
+        let mut holding = self.holding.lock(rt);
+        holding.heard = holding.heard.saturating_sub(1);
+    }
+
+    /// The peer has shown that it holds the key, on a connection that it has left.
+    pub(crate) fn sign<R: Wait>(&self, rt: &R) {
+        self.holding.lock(rt).is_signed = true;
     }
 
     /// Gives the mailbox to the connection of this number, if it may have it, and answers whether it has it now.
@@ -154,11 +174,10 @@ impl Mailbox {
         }
     }
 
-    /// Whether a connection has it, or the peer may still come again, which has shown that it holds the key.
+    /// Whether a connection of the peer is heard, or it may still come again, and has shown that it holds the key.
     pub(crate) fn is_kept<R: Wait>(&self, rt: &R, now: u64) -> bool {
         let mut holding = self.holding.lock(rt);
-        holding.holder != Holder::Gone
-            || (holding.is_signed && holding.is_awaited(self.account.jobs(), now))
+        holding.heard > 0 || (holding.is_signed && holding.is_awaited(self.account.jobs(), now))
     }
 
     /// Whether the connection of this number has it.
@@ -179,7 +198,7 @@ impl Mailbox {
             return Look::Nothing;
         }
         match due.next(rt) {
-            Ok(frames) => self.write_out(rt, alloc, peer, writer, (&mut due, frames)),
+            Ok(reply) => self.write_out(rt, alloc, peer, writer, (&mut due, reply)),
             Err(RecvTimeoutError::Timeout) => Look::Nothing,
             Err(RecvTimeoutError::Disconnected) => Look::Last,
         }
@@ -193,18 +212,18 @@ impl Mailbox {
         alloc: Global,
         peer: &Replies,
         writer: &mut Counted<Socket>,
-        reply: (&mut Due, Frames),
+        next: (&mut Due, ReplyMessage),
     ) -> Look {
-        let (due, frames) = reply;
+        let (due, reply) = next;
         if !self.is_of(rt, peer.number) || peer.has_left() {
-            due.put_back(frames);
+            due.put_back(reply);
             return Look::Nothing;
         }
-        if write_whole(alloc, writer, frames.as_slice()) {
-            drop(frames);
+        if write_whole(alloc, writer, reply.frames.as_slice()) {
+            drop(reply);
             return Look::Written;
         }
-        due.put_back(frames);
+        due.put_back(reply);
         Look::Failed
     }
 }
@@ -215,9 +234,9 @@ impl Due {
     /// # Errors
     ///
     /// `Timeout` if there is none for a while, `Disconnected` if nobody is left who could send one.
-    fn next<R: Wait + Clock>(&mut self, rt: &R) -> Result<Frames, RecvTimeoutError> {
+    fn next<R: Wait + Clock>(&mut self, rt: &R) -> Result<ReplyMessage, RecvTimeoutError> {
         match self.unsent.take() {
-            Some(frames) => Ok(frames),
+            Some(reply) => Ok(reply),
             None => self
                 .replies
                 .recv_timeout(rt, Duration::from_millis(REPLY_LOOK)),
@@ -225,11 +244,11 @@ impl Due {
     }
 
     /// Puts a reply back that wasn't written. One without frames is none.
-    fn put_back(&mut self, frames: Frames) {
-        if frames.as_slice().is_empty() {
-            drop(frames);
+    fn put_back(&mut self, reply: ReplyMessage) {
+        if reply.frames.is_empty() {
+            drop(reply);
         } else {
-            self.unsent = Some(frames);
+            self.unsent = Some(reply);
         }
     }
 }

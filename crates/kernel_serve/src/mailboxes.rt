@@ -5,7 +5,7 @@ use crate::socket::Socket;
 use crossbeam_channel::{Sender, unbounded};
 use crossbeam_utils::sync::Unparker;
 use kernel_limits::Claim;
-use kernel_workers::Account;
+use kernel_workers::{Account, ReplyMessage};
 use listed::Frames;
 use std::alloc::{AllocError, Global};
 use std::sync::{Arc, Mutex, Wait};
@@ -26,7 +26,7 @@ pub(crate) struct Caller<'c> {
 }
 
 /// Where replies are put, and the mailbox that they come from.
-pub(crate) type Ends = (Sender<Frames>, Arc<Mailbox, Global>);
+pub(crate) type Ends = (Sender<ReplyMessage>, Arc<Mailbox, Global>);
 
 /// The mailbox of an identity.
 #[derive(Drop)]
@@ -34,7 +34,7 @@ struct Named {
     /// The identity.
     identity: Vec<u8>,
     /// Where replies are put.
-    replies: Sender<Frames>,
+    replies: Sender<ReplyMessage>,
     /// The mailbox.
     mailbox: Arc<Mailbox, Global>,
 }
@@ -91,18 +91,18 @@ impl Mailboxes {
         };
         match ends {
             Ok(ends) => {
-                claim_for(rt, self.alloc, &ends, caller);
+                open_for(rt, self.alloc, &ends, caller);
                 Ok(ends)
             }
             Err(AllocError) => Err(AllocError),
         }
     }
 
-    /// The peer of a connection has left. What is due to it waits, if it has an identity and has shown that it holds
+    /// The peer of a connection that was opened has left. What is due to it waits, if it has an identity and has shown that it holds
     /// the key.
     pub(crate) fn leave<R: Wait>(&self, rt: &R, mailbox: &Mailbox, number: u64, now: u64) {
         let mut named = self.named.lock(rt);
-        mailbox.leave(rt, number);
+        mailbox.exit(rt, number);
         if let Some(named) = &mut *named {
             forget(rt, named, now);
         }
@@ -117,15 +117,21 @@ impl Mailboxes {
 
 /// Wakes the thread that waits for replies, by one without frames: it looks again whether its connection has the
 /// mailbox. It doesn't wait where there are some. If there is no memory for that it looks within a second.
-pub(crate) fn wake<R: Wait>(rt: &R, alloc: Global, replies: &Sender<Frames>) {
+pub(crate) fn wake<R: Wait>(rt: &R, alloc: Global, replies: &Sender<ReplyMessage>) {
     if replies.is_empty() {
-        drop(replies.send(rt, Frames::new(Vec::new(alloc))));
+        let nothing = ReplyMessage {
+            frames: Frames::new(Vec::new(alloc)),
+            credit: None,
+        };
+        drop(replies.send(rt, nothing));
     }
 }
 
-/// Gives a caller its mailbox, if it may have it; then what waits there is written.
-fn claim_for<R: Wait>(rt: &R, alloc: Global, ends: &Ends, caller: Caller<'_>) {
+/// Counts a caller among those that are heard, and gives it its mailbox, if it may have it; then what waits there is
+/// written.
+fn open_for<R: Wait>(rt: &R, alloc: Global, ends: &Ends, caller: Caller<'_>) {
     let (replies, mailbox) = ends;
+    mailbox.enter(rt);
     if mailbox.claim(rt, caller.number, caller.socket, Claim::Opens) {
         wake(rt, alloc, replies);
     }

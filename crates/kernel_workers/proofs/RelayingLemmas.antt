@@ -29,10 +29,11 @@ module _ {W : Type 0} where
   -- a pump leaves the queue
   pub pumped_same : (outflow : W → Outflow) (old new : Relaying W) (answer : Pumped) → Pumps outflow old answer new
       → IsSameQueue old new
-  pumped_same outflow old new pumped.Did pumps = by_taker old new _ pumps.takes.added refl refl
+  pumped_same outflow old new pumped.Did pumps = by_taker old new _ pumps.0.takes.added refl refl
   pumped_same outflow old new (pumped.Closed number) pumps = by_taker old new _ pumps.0.added refl refl
   pumped_same outflow old new pumped.Empty pumps = by_relay old new pumps.1
   pumped_same outflow old new pumped.Complete pumps = by_relay old new pumps.0
+  pumped_same outflow old new (pumped.NoTopic id) pumps = by_taker old new _ pumps.0.takes.added refl refl
   pumped_same outflow old new (pumped.NoRoom id) pumps = by_taker old new _ pumps.takes.added refl refl
 
   -- and so do two

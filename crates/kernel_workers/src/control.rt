@@ -9,8 +9,8 @@ ghost use Rattle.kernel_workers.specs.Staying.{IsSameEngine};
 
 use crate::ended::{Cause, Ended};
 use crate::flags::{Flags, Never};
-use crate::inbox::{Note, tell_end};
-use crate::job::Job;
+use crate::inbox::{Note, tell};
+use crate::job::{Job, ReplyTo};
 use crate::promises::ClosesBlocked;
 use crate::request::{close, conclude};
 use crate::waking::Waking;
@@ -60,10 +60,10 @@ where
             shell,
             subscriptions,
         } = self;
-        let cause = work(&rt, alloc, &mut engine, &inbox, &shell);
+        let cause = work(&rt, alloc, &mut engine, &inbox, &shell.flags, &shell);
         shell.end(&rt);
         let closed = close(engine);
-        tell_end(&rt, &subscriptions);
+        tell(&rt, &subscriptions, Note::End);
         drop(inbox);
         drop(shell);
         drop(subscriptions);
@@ -156,7 +156,7 @@ impl ShellEnd {
             return;
         }
         self.flags.end();
-        tell_end(rt, &self.inbox);
+        tell(rt, &self.inbox, Note::End);
         let _ = self.ended.recv(rt);
     }
 
@@ -184,7 +184,7 @@ impl ShellEnd {
         alloc: Global,
         engine: &mut Engine<I, Waking<Event<W>, R>, S, W>,
         frames: Frames,
-        to: &Sender<Frames>,
+        to: ReplyTo,
     ) -> Option<Cause>
     where
         I: Interpreter,
@@ -196,7 +196,10 @@ impl ShellEnd {
     {
         let asked = match engine.read(alloc, frames) {
             Ok(asked) => asked,
-            Err(Unread::NoRequest | Unread::NoMemory) => return None,
+            Err(Unread::NoRequest | Unread::NoMemory) => {
+                drop(to);
+                return None;
+            }
         };
         self.heed(rt, &asked);
         let done = engine.finish(alloc, asked, &Never);
@@ -211,17 +214,13 @@ impl Answering for ShellEnd {
 
     ghost may_ask = { ⊥ };
 
-    fn is_over(&self) -> bool {
-        self.flags.is_ending()
-    }
-
     fn answer<I, S, W, R>(
         &self,
         rt: &R,
         alloc: Global,
         engine: &mut Engine<I, Waking<Event<W>, R>, S, W>,
         frames: Frames,
-        to: &Sender<Frames>,
+        to: ReplyTo,
     ) -> Option<Cause>
     where
         I: Interpreter,

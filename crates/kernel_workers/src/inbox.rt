@@ -22,28 +22,27 @@ pub struct Inbox<T> {
     pub from: Receiver<Note<T>>,
 }
 
-/// Tells a worker to end. If memory is refused it is tried again; if the worker is gone nothing is to be done.
-pub(crate) fn tell_end<T: Drop, R: Wait>(rt: &R, to: &Sender<Note<T>>) {
+/// Tells a worker something. If memory is refused it is tried again; if the worker is gone nothing is to be done.
+pub(crate) fn tell<T: Drop, R: Wait>(rt: &R, to: &Sender<Note<T>>, note: Note<T>) {
+    let mut left = note;
     for _ in rt.forever() {
-        if try_to_tell_end(rt, to) {
-            return;
+        match try_to_tell(rt, to, left) {
+            None => return,
+            Some(refused) => left = refused,
         }
         thread::yield_now();
     }
     unreachable!()
 }
 
-/// Tells a worker to end, unless memory is refused; answers whether nothing is left to be done.
-fn try_to_tell_end<T: Drop, R: Wait>(rt: &R, to: &Sender<Note<T>>) -> bool {
-    match to.send(rt, Note::End) {
-        Ok(()) => true,
+/// Tells a worker something, unless memory is refused: then it gives that back.
+fn try_to_tell<T: Drop, R: Wait>(rt: &R, to: &Sender<Note<T>>, note: Note<T>) -> Option<Note<T>> {
+    match to.send(rt, note) {
+        Ok(()) => None,
         Err(SendError::Disconnected(note)) => {
             drop(note);
-            true
+            None
         }
-        Err(SendError::OutOfMemory(note)) => {
-            drop(note);
-            false
-        }
+        Err(SendError::OutOfMemory(note)) => Some(note),
     }
 }

@@ -26,7 +26,7 @@ pub use ended::{Cause, Ended};
 pub use fault::KernelFault;
 pub use flags::Flags;
 pub use inbox::{Inbox, Note};
-pub use job::Job;
+pub use job::{Job, ReplyMessage, ReplyTo};
 pub use parts::Parts;
 pub use promises::{ClosesBlocked, ClosesSilent, ServesOn};
 pub use relaying::{RelayEnd, RelayWorker};

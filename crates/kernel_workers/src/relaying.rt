@@ -2,9 +2,12 @@
 
 ghost use Rattle.std.specs.Prelude.{◌≡◌, IfOk, IfSome};
 
+use crate::inbox::{Note, tell};
 use crate::promises::ServesOn;
+use crossbeam_channel::Sender;
 use crossbeam_utils::Backoff;
 use crossbeam_utils::sync::{Parker, Unparker};
+use iopub_event::Event;
 use iopub_relay::{Pumped, Relay};
 use std::alloc::{AllocError, Global};
 use std::snapshot::Snapshot;
@@ -19,6 +22,8 @@ use zmtp_wire::Outlet;
 pub struct RelayWorker<W: Outlet, R> {
     /// What serves the subscribers.
     relay: Relay<W, R>,
+    /// The inbox of subscriptions, by which a subscriber leaves for whose topic there was no memory.
+    subscriptions: Sender<Note<Event<W>>>,
     /// Whether it is to end once it finds nothing.
     ending: Arc<AtomicBool, Global>,
     /// What it sleeps on.
@@ -56,7 +61,8 @@ fn hearing(alloc: Global) -> Result<(Parker, RelayEnd), AllocError> {
 }
 
 impl<W: Outlet + Drop, R: Drop> RelayWorker<W, R> {
-    /// The worker of a relay, which isn't to end yet, and by which it is told to.
+    /// The worker of a relay, which isn't to end yet, and by which it is told to. If there is no memory for a topic of a
+    /// subscriber, it has that one leave, by this inbox of subscriptions.
     ///
     /// # Errors
     ///
@@ -64,17 +70,20 @@ impl<W: Outlet + Drop, R: Drop> RelayWorker<W, R> {
     pub fn new(
         alloc: Global,
         relay: Relay<W, R>,
+        subscriptions: Sender<Note<Event<W>>>,
     ) -> Result<(RelayWorker<W, R>, RelayEnd), AllocError>
         ensures { IfOk result (λ made. made.0.relay ≡ relay) }
     {
         let Ok((parker, end)) = hearing(alloc) else {
             drop(relay);
+            drop(subscriptions);
             return Err(AllocError);
         };
         match Arc::try_clone(&end.ending) {
             Ok(ending) => Ok((
                 RelayWorker {
                     relay,
+                    subscriptions,
                     ending,
                     parker,
                 },
@@ -82,6 +91,7 @@ impl<W: Outlet + Drop, R: Drop> RelayWorker<W, R> {
             )),
             Err(AllocError) => {
                 drop(relay);
+                drop(subscriptions);
                 drop(parker);
                 drop(end);
                 Err(AllocError)
@@ -117,10 +127,12 @@ impl<W: Outlet + Drop, R: Wait + Drop> RelayWorker<W, R> {
     {
         let RelayWorker {
             mut relay,
+            subscriptions,
             ending,
             parker,
         } = self;
-        pump_all(&rt, &mut relay, &ending, &parker);
+        pump_all(&rt, &mut relay, &subscriptions, &ending, &parker);
+        drop(subscriptions);
         drop(ending);
         drop(parker);
         relay
@@ -153,6 +165,7 @@ where
 fn pump_all<W: Outlet + Drop, R: Wait>(
     rt: &R,
     relay: &mut Relay<W, R>,
+    subscriptions: &Sender<Note<Event<W>>>,
     ending: &AtomicBool,
     parker: &Parker,
 )
@@ -163,6 +176,10 @@ fn pump_all<W: Outlet + Drop, R: Wait>(
     for _ in rt.forever() {
         match relay.pump() {
             Pumped::Did | Pumped::Closed(_) | Pumped::NoRoom(_) => backoff.reset(),
+            Pumped::NoTopic(id) => {
+                tell(rt, subscriptions, Note::Item(Event::Detach(id)));
+                backoff.reset();
+            }
             Pumped::Complete => return,
             Pumped::Empty => {
                 if ending.load(Ordering::SeqCst) {

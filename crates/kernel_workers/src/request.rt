@@ -5,35 +5,32 @@ ghost use Rattle.kernel_workers.specs.Causes.{cause_of, cause_of_fault, cause_of
 ghost use Rattle.kernel_workers.specs.Ending.{EndsBlocked};
 
 use crate::ended::Cause;
+use crate::job::ReplyTo;
 use crate::waking::Waking;
-use crossbeam_channel::Sender;
 use interp_core::Interpreter;
 use iopub_event::Event;
 use iopub_queue::Closed;
 use jmsg_envelope::Stamp;
 use kernel_engine::{Done, Engine, EngineFault, Order, Response};
-use listed::Frames;
 use std::sync::Wait;
 
 /// Sends the reply to a message that was taken, if it has one, and says whether what came of it ends the worker.
-/// If nobody waits for the reply, or memory is refused for it, it is dropped.
-pub(crate) fn conclude<R: Wait>(rt: &R, done: Done, to: &Sender<Frames>) -> Option<Cause>
+pub(crate) fn conclude<R: Wait>(rt: &R, done: Done, to: ReplyTo) -> Option<Cause>
     ensures { result ≡ cause_of done }
 {
     match done {
-        Done::Ignored | Done::Lost => None,
+        Done::Ignored | Done::Lost => {
+            drop(to);
+            None
+        }
         Done::Handled(Response { reply, order }) => {
-            send(rt, reply, to);
+            to.send(rt, reply);
             after_order(order)
         }
-        Done::Refused(fault) => after_fault(fault),
-    }
-}
-
-/// Sends a reply, if there is one.
-fn send<R: Wait>(rt: &R, reply: Option<Frames>, to: &Sender<Frames>) {
-    if let Some(frames) = reply {
-        drop(to.send(rt, frames));
+        Done::Refused(fault) => {
+            drop(to);
+            after_fault(fault)
+        }
     }
 }
 

@@ -12,7 +12,7 @@ use crate::control::{ControlWorker, ShellEnd};
 use crate::ended::Ended;
 use crate::fault::KernelFault;
 use crate::flags::Flags;
-use crate::inbox::{Note, tell_end};
+use crate::inbox::{Note, tell};
 use crate::job::Job;
 use crate::parts::Parts;
 use crate::promises::{ClosesBlocked, ClosesSilent, ServesOn};
@@ -197,7 +197,7 @@ where
     ensures capacity { OnOk result (IsCapacity parts.now.capacity) }
     ensures refused { IfErr result (FailsBy parts.now.capacity) }
 {
-    let queue = match open(rt, alloc, parts.capacity) {
+    let queue = match open(rt, alloc, parts.capacity, &parts.subscriptions_in.to) {
         Ok(queue) => queue,
         Err(fault) => return Err(fault),
     };
@@ -215,7 +215,8 @@ where
     }
 }
 
-/// Opens the queue of a kernel, with so many places.
+/// Opens the queue of a kernel, with so many places. The relay's worker has subscribers leave by this
+/// inbox.
 ///
 /// # Errors
 ///
@@ -225,6 +226,7 @@ fn open<W: Outlet + Drop, R: Copy + Drop>(
     rt: &R,
     alloc: Global,
     capacity: usize,
+    inbox: &Sender<Note<Event<W>>>,
 ) -> Result<Queue<W, R>, KernelFault>
     ensures opened { IfOk result (λ queue. IsOpened queue.shell queue.control queue.subscriptions
         queue.relay.relay.taker) }
@@ -235,7 +237,7 @@ fn open<W: Outlet + Drop, R: Copy + Drop>(
         Ok(opened) => opened,
         Err(fault) => return Err(fault),
     };
-    let Ok((relay, relay_end)) = RelayWorker::new(alloc, Relay::new(alloc, taker)) else {
+    let Some((relay, relay_end)) = relay_of(alloc, taker, inbox) else {
         drop((shell, control, subscriptions));
         return Err(KernelFault::Queue(OpenFault::OutOfMemory));
     };
@@ -283,6 +285,23 @@ fn open_three<T: Drop, R: Copy + Drop>(
     let subscriptions = publishers.next().unwrap();
     drop(publishers);
     Ok((shell, control, subscriptions, taker))
+}
+
+/// The relay's worker over this taker, which has subscribers leave by this inbox, and by which it is told to end. None
+/// if memory is refused.
+fn relay_of<W: Outlet + Drop, R: Drop>(
+    alloc: Global,
+    taker: Taker<Event<W>, R>,
+    subscriptions: &Sender<Note<Event<W>>>,
+) -> Option<(RelayWorker<W, R>, RelayEnd)>
+    requires { taker.taken ≡ [] }
+    ensures { IfSome result (λ made. made.0.relay.taker ≡ taker) }
+{
+    let Ok(subscriptions) = subscriptions.clone() else {
+        drop(taker);
+        return None;
+    };
+    RelayWorker::new(alloc, Relay::new(alloc, taker), subscriptions).ok()
 }
 
 /// What wakes the relay's worker, once for each publisher.
@@ -597,7 +616,7 @@ where
     P: Promise<E>,
     R: Threads + Wait,
 {
-    tell_end(rt, &to);
+    tell(rt, &to, Note::End);
     drop(to);
     drop(worker.join(rt));
 }

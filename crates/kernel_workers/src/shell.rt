@@ -9,8 +9,8 @@ ghost use Rattle.kernel_workers.specs.Staying.{IsSameEngine};
 
 use crate::ended::{Cause, Ended};
 use crate::flags::Flags;
-use crate::inbox::{Note, tell_end};
-use crate::job::Job;
+use crate::inbox::{Note, tell};
+use crate::job::{Job, ReplyTo};
 use crate::promises::ClosesBlocked;
 use crate::request::{close, conclude};
 use crate::waking::Waking;
@@ -64,7 +64,7 @@ where
             control,
         } = self;
         start(alloc, &mut engine);
-        let cause = work(&rt, alloc, &mut engine, &inbox, &flags);
+        let cause = work(&rt, alloc, &mut engine, &inbox, &flags, &flags);
         // Others see that the kernel is to end before the close is published, which may have to wait for the relay.
         let is_told = flags.is_ending();
         flags.end();
@@ -73,7 +73,7 @@ where
         drop(ended);
         drop(flags);
         if !is_told {
-            tell_end(&rt, &control);
+            tell(&rt, &control, Note::End);
         }
         drop(control);
         Ended { closed, cause }
@@ -129,17 +129,13 @@ impl Answering for Flags {
 
     ghost may_ask = { Unit };
 
-    fn is_over(&self) -> bool {
-        self.is_ending()
-    }
-
     fn answer<I, S, W, R>(
         &self,
         rt: &R,
         alloc: Global,
         engine: &mut Engine<I, Waking<Event<W>, R>, S, W>,
         frames: Frames,
-        to: &Sender<Frames>,
+        to: ReplyTo,
     ) -> Option<Cause>
     where
         I: Interpreter,
@@ -151,6 +147,7 @@ impl Answering for Flags {
             return take(rt, alloc, engine, frames, to, self);
         }
         drop(frames);
+        drop(to);
         None
     }
 }
@@ -161,7 +158,7 @@ fn take<I, S, W, R>(
     alloc: Global,
     engine: &mut Engine<I, Waking<Event<W>, R>, S, W>,
     frames: Frames,
-    to: &Sender<Frames>,
+    to: ReplyTo,
     flags: &Flags,
 ) -> Option<Cause>
 where

@@ -6,10 +6,11 @@ ghost use Rattle.kernel_workers.specs.Jobs.{DoesJob};
 ghost use Rattle.kernel_workers.specs.Staying.{IsSameEngine};
 
 use crate::ended::Cause;
+use crate::flags::Flags;
 use crate::inbox::Note;
-use crate::job::Job;
+use crate::job::{Job, ReplyTo};
 use crate::waking::Waking;
-use crossbeam_channel::{Receiver, Sender};
+use crossbeam_channel::Receiver;
 use interp_core::Interpreter;
 use iopub_event::Event;
 use jmsg_envelope::Stamp;
@@ -26,9 +27,6 @@ pub(crate) trait Answering {
     /// Whether a cell may be interrupted.
     ghost may_ask: { Type 0 };
 
-    /// Whether control asked for shell's end. Then neither of them begins anything more.
-    fn is_over(&self) -> bool;
-
     /// Takes the frames of a message, and sends the reply; answers why the worker ends, if it does.
     fn answer<I, S, W, R>(
         &self,
@@ -36,7 +34,7 @@ pub(crate) trait Answering {
         alloc: Global,
         engine: &mut Engine<I, Waking<Event<W>, R>, S, W>,
         frames: Frames,
-        to: &Sender<Frames>,
+        to: ReplyTo,
     ) -> Option<Cause>
     where
         I: Interpreter,
@@ -54,6 +52,7 @@ pub(crate) fn work<I, S, W, R, A>(
     alloc: Global,
     engine: &mut Engine<I, Waking<Event<W>, R>, S, W>,
     inbox: &Receiver<Note<Job>>,
+    flags: &Flags,
     answering: &A,
 ) -> Cause
 where
@@ -65,7 +64,7 @@ where
     ensures { IsSameEngine S.stamp engine.old engine.new }
 {
     for _ in rt.forever() {
-        if let Some(cause) = take_turn(rt, alloc, engine, inbox, answering) {
+        if let Some(cause) = take_turn(rt, alloc, engine, inbox, flags, answering) {
             return cause;
         }
     }
@@ -78,6 +77,7 @@ fn take_turn<I, S, W, R, A>(
     alloc: Global,
     engine: &mut Engine<I, Waking<Event<W>, R>, S, W>,
     inbox: &Receiver<Note<Job>>,
+    flags: &Flags,
     answering: &A,
 ) -> Option<Cause>
 where
@@ -88,19 +88,16 @@ where
     A: Answering,
     ensures { IsSameEngine S.stamp engine.old engine.new }
 {
-    match next_job(rt, inbox, answering) {
+    match next_job(rt, inbox, flags) {
         Some(job) => do_job(rt, alloc, engine, job, answering),
         None => Some(Cause::Told),
     }
 }
 
-/// The next job of an inbox. None once the worker is to end, or nobody is left who could tell it anything.
-fn next_job<R: Wait, A: Answering>(
-    rt: &R,
-    inbox: &Receiver<Note<Job>>,
-    answering: &A,
-) -> Option<Job> {
-    if answering.is_over() {
+/// The next job of an inbox. None once the worker is to end, control asked for shell's end, or nobody is left who could
+/// tell it anything.
+fn next_job<R: Wait>(rt: &R, inbox: &Receiver<Note<Job>>, flags: &Flags) -> Option<Job> {
+    if flags.is_ending() {
         return None;
     }
     match inbox.recv(rt) {
@@ -109,7 +106,7 @@ fn next_job<R: Wait, A: Answering>(
     }
 }
 
-/// Does a job. What it has of its connection's account is given back after its reply was handed on.
+/// Does a job.
 fn do_job<I, S, W, R, A>(
     rt: &R,
     alloc: Global,
@@ -127,13 +124,6 @@ where
         result engine.new }
     ensures same { IsSameEngine S.stamp engine.old engine.new }
 {
-    let Job {
-        frames,
-        reply,
-        credit,
-    } = job;
-    let cause = answering.answer(rt, alloc, engine, frames, &reply);
-    drop(reply);
-    drop(credit);
-    cause
+    let Job { frames, to } = job;
+    answering.answer(rt, alloc, engine, frames, to)
 }

@@ -17,7 +17,7 @@ use iopub_event::Event;
 use iopub_queue::{Taken, Taker, open_queue};
 use jmsg_envelope::{Signer, Stamp};
 use kernel_engine::{Engine, Side};
-use kernel_workers::{Job, Note, Waking};
+use kernel_workers::{Job, Note, ReplyMessage, ReplyTo, Waking};
 use listed::Frames;
 use std::alloc::{AllocError, Global};
 use std::process::Abort;
@@ -203,7 +203,7 @@ fn ask<R: Wait>(
     rt: &R,
     alloc: Global,
     inbox: &Sender<Note<Job>>,
-    replies: &Sender<Frames>,
+    replies: &Sender<ReplyMessage>,
     (msg_type, content): (&str, &str),
 ) -> Result<(), Fail> {
     let text = format!(in alloc;
@@ -212,12 +212,20 @@ fn ask<R: Wait>(
     put(rt, alloc, inbox, replies, text.as_str())
 }
 
+/// Where the reply to a message of no connection goes.
+fn uncounted(replies: &Sender<ReplyMessage>) -> Result<ReplyTo, Fail> {
+    Ok(ReplyTo {
+        replies: replies.clone()?,
+        credit: None,
+    })
+}
+
 /// Puts a message whose frames are the lines of a text into an inbox; its reply goes there.
 fn put<R: Wait>(
     rt: &R,
     alloc: Global,
     inbox: &Sender<Note<Job>>,
-    replies: &Sender<Frames>,
+    replies: &Sender<ReplyMessage>,
     text: &str,
 ) -> Result<(), Fail> {
     let mut frames = Vec::new(alloc);
@@ -226,8 +234,7 @@ fn put<R: Wait>(
     }
     let job = Job {
         frames: Frames::new(frames),
-        reply: replies.clone()?,
-        credit: None,
+        to: uncounted(replies)?,
     };
     inbox.send(rt, Note::Item(job))?;
     Ok(())
@@ -237,12 +244,12 @@ fn put<R: Wait>(
 fn expect_reply<R: Wait + Abort>(
     rt: &R,
     alloc: Global,
-    replies: &Receiver<Frames>,
+    replies: &Receiver<ReplyMessage>,
     due: (&str, u64, &str),
     parent_type: &str,
 ) -> Result<(), Fail> {
-    let frames = replies.recv(rt)?;
-    let text = frames_text(alloc, &frames)?;
+    let reply = replies.recv(rt)?;
+    let text = frames_text(alloc, &reply.frames)?;
     let due = due_text(alloc, "", due, parent_type)?;
     assert_eq!(rt; text.as_str(), due.as_str());
     Ok(())

@@ -111,11 +111,11 @@ fn take_until<R: Wait>(
     alloc: Global,
     taker: &mut Taker<Event<()>, R>,
     seen: &mut Seen,
-    replies: &Receiver<Frames>,
+    replies: &Receiver<ReplyMessage>,
 ) -> Result<String, Fail> {
     for _ in rt.forever() {
-        if let Ok(frames) = replies.try_recv(rt) {
-            return frames_text(alloc, &frames);
+        if let Ok(reply) = replies.try_recv(rt) {
+            return frames_text(alloc, &reply.frames);
         }
         match taker.take() {
             Taken::Empty => thread::yield_now(),

@@ -1,5 +1,5 @@
-//! What a connection has in work: a job's part of it is there while the job waits, and is given back once it was done
-//! or dropped.
+//! What a connection has in work: a job's part of it is there while the job waits, and its reply's part until that is
+//! dropped.
 
 use super::*;
 use crate::tests::control::{Lines, trio_of};
@@ -15,7 +15,7 @@ const OCTETS: usize = 7;
 fn ask_counted<R: Wait>(
     rt: &R,
     alloc: Global,
-    (inbox, replies): (&Sender<Note<Job>>, &Sender<Frames>),
+    (inbox, replies): (&Sender<Note<Job>>, &Sender<ReplyMessage>),
     msg_type: &str,
     account: &Arc<Account, Global>,
 ) -> Result<(), Fail> {
@@ -26,17 +26,47 @@ fn ask_counted<R: Wait>(
     }
     let job = Job {
         frames: Frames::new(frames),
-        reply: replies.clone()?,
-        credit: Some(Credit::take(account, OCTETS)?),
+        to: ReplyTo {
+            replies: replies.clone()?,
+            credit: Some(Credit::take(account, OCTETS)?),
+        },
     };
     inbox.send(rt, Note::Item(job))?;
     Ok(())
 }
 
-/// That so many jobs and octets of an account are in work.
-fn expect_in_work(rt: &impl Abort, account: &Account, (jobs, octets): (usize, usize)) {
+/// That so many jobs, unwritten replies and octets of an account are in work.
+fn expect_in_work(
+    rt: &impl Abort,
+    account: &Account,
+    (jobs, replies, octets): (usize, usize, usize),
+) {
     assert_eq!(rt; account.jobs(), jobs);
+    assert_eq!(rt; account.replies(), replies);
     assert_eq!(rt; account.octets(), octets);
+}
+
+/// How many octets a message has in ZMTP.
+fn octets_of(frames: &[Vec<u8>]) -> usize {
+    let mut octets = 0;
+    for frame in frames {
+        octets += frame.len() + if frame.len() < 256 { 2 } else { 9 };
+    }
+    octets
+}
+
+/// Expects three replies, which have all that is in work of an account, until they are dropped one after the other.
+fn expect_three_replies<R: Wait + Abort>(rt: &R, from: &Receiver<ReplyMessage>, account: &Account) {
+    let mut left = account.octets();
+    for replies in [3, 2, 1] {
+        expect_in_work(rt, account, (0, replies, left));
+        let reply = from.try_recv(rt).ok().expect(rt, "a reply");
+        left -= octets_of(reply.frames.as_slice());
+        drop(reply);
+    }
+    assert_eq!(rt; left, 0);
+    expect_in_work(rt, account, (0, 0, 0));
+    assert!(rt; from.try_recv(rt).is_err());
 }
 
 /// Waits until so many jobs of an account are left.
@@ -63,7 +93,7 @@ fn ask_four<R: Wait>(
     rt: &R,
     alloc: Global,
     lines: &Lines,
-    replies: &Sender<Frames>,
+    replies: &Sender<ReplyMessage>,
     account: &Arc<Account, Global>,
 ) -> Result<(), Fail> {
     for msg_type in [ASKED, SHUTDOWN, ASKED] {
@@ -73,14 +103,14 @@ fn ask_four<R: Wait>(
 }
 
 #[test]
-fn what_a_job_has_of_an_account_is_given_back(rt: HostRuntime) -> Result<(), Fail> {
+fn what_a_job_and_its_reply_have_of_an_account_is_given_back(rt: HostRuntime) -> Result<(), Fail> {
     let alloc = rt.alloc();
     let (reader, account) = open_account(alloc)?;
-    expect_in_work(&rt, &account, (0, 0));
+    expect_in_work(&rt, &account, (0, 0, 0));
     let (replies, from) = unbounded(alloc)?;
     let lines = Lines::lay(alloc)?;
     ask_four(&rt, alloc, &lines, &replies, &account)?;
-    expect_in_work(&rt, &account, (4, 28));
+    expect_in_work(&rt, &account, (4, 0, 28));
     let Queue {
         shell,
         control,
@@ -101,11 +131,7 @@ fn what_a_job_has_of_an_account_is_given_back(rt: HostRuntime) -> Result<(), Fai
     let _ = shell.join(&rt);
     let _ = control.join(&rt);
     let _ = subscriptions.join(&rt);
-    expect_in_work(&rt, &account, (0, 0));
-    for _ in 0..3 {
-        assert!(rt; from.try_recv(&rt).is_ok());
-    }
-    assert!(rt; from.try_recv(&rt).is_err());
+    expect_three_replies(&rt, &from, &account);
     reader.park(&rt);
     Ok(())
 }

@@ -59,13 +59,13 @@ struct Client {
     /// Where requests to control are put.
     to_control: Sender<Note<Job>>,
     /// Where replies to requests on shell go.
-    shell_replies: Sender<Frames>,
+    shell_replies: Sender<ReplyMessage>,
     /// Where they come out.
-    from_shell: Receiver<Frames>,
+    from_shell: Receiver<ReplyMessage>,
     /// Where replies to requests on control go.
-    control_replies: Sender<Frames>,
+    control_replies: Sender<ReplyMessage>,
     /// Where they come out.
-    from_control: Receiver<Frames>,
+    from_control: Receiver<ReplyMessage>,
     /// Whether the subscriber had an output.
     has_output: Arc<AtomicBool, Global>,
 }
@@ -140,7 +140,7 @@ fn two_ariths(alloc: Global) -> (ShellArith, ShellArith) {
 fn ask_numbered<R: Wait>(
     rt: &R,
     alloc: Global,
-    (inbox, replies): (&Sender<Note<Job>>, &Sender<Frames>),
+    (inbox, replies): (&Sender<Note<Job>>, &Sender<ReplyMessage>),
     request: u64,
     (msg_type, content): (&str, &str),
 ) -> Result<(), Fail> {
@@ -155,12 +155,12 @@ fn ask_numbered<R: Wait>(
 fn expect_numbered<R: Wait + Abort>(
     rt: &R,
     alloc: Global,
-    replies: &Receiver<Frames>,
+    replies: &Receiver<ReplyMessage>,
     (request, parent_type): (u64, &str),
     due: (&str, u64, &str),
 ) -> Result<(), Fail> {
-    let frames = replies.try_recv(rt).ok().expect(rt, "a reply");
-    let text = frames_text(alloc, &frames)?;
+    let reply = replies.try_recv(rt).ok().expect(rt, "a reply");
+    let text = frames_text(alloc, &reply.frames)?;
     let front = format!(in alloc; "c{request}\n")?;
     let parent = format!(in alloc; "{{\"msg_id\":\"q{request}\",\"msg_type\":\"{parent_type}\"}}")?;
     let due = due_message(alloc, front.as_str(), due, parent.as_str())?;
@@ -274,11 +274,11 @@ fn control_ends_a_kernel_that_begins_anew(rt: HostRuntime) -> Result<(), Fail> {
 fn await_reply<R: Wait + Abort>(
     rt: &R,
     alloc: Global,
-    replies: &Receiver<Frames>,
+    replies: &Receiver<ReplyMessage>,
 ) -> Result<String, Fail> {
     for _ in 0..TURNS {
-        if let Ok(frames) = replies.try_recv(rt) {
-            return frames_text(alloc, &frames);
+        if let Ok(reply) = replies.try_recv(rt) {
+            return frames_text(alloc, &reply.frames);
         }
         thread::yield_now();
     }

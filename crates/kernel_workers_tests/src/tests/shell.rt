@@ -56,9 +56,9 @@ struct Outside {
     /// On which no message comes, but the drop of its sender once shell has closed.
     ended: Receiver<()>,
     /// Where replies go.
-    replies: Sender<Frames>,
+    replies: Sender<ReplyMessage>,
     /// Where they come out.
-    from: Receiver<Frames>,
+    from: Receiver<ReplyMessage>,
 }
 
 /// Shell's worker with this engine, and what is outside of it.
@@ -94,8 +94,7 @@ fn ask_all<R: Wait>(rt: &R, alloc: Global, outside: &Outside) -> Result<(), Fail
     ask(rt, alloc, to, replies, (ASKED, "{}"))?;
     let nothing = Job {
         frames: Frames::new(Vec::new(alloc)),
-        reply: replies.clone()?,
-        credit: None,
+        to: uncounted(replies)?,
     };
     to.send(rt, Note::Item(nothing))?;
     ask(rt, alloc, to, replies, (ASKED, "{}"))?;

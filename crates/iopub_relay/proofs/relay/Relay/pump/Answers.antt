@@ -39,11 +39,18 @@ returns-in-Complete g c =
 
 pub returns-in-Done : goal.returns-in-Done
 returns-in-Done g c =
-    rw (← c.self.view_is) (serves_one g.W.Outlet.outflow (relaying c.self.inside) _ c.in-Item.field-0 c.in-Item.event
-    _ c.in-Item.ensures.given c.in-Done.ensures (λ id never. absurd never) refl c.self.invariant)
+    rw (← c.self.view_is) (
+      serves_one g.W.Outlet.outflow (relaying c.self.inside) _ c.in-Item.field-0 c.in-Item.event
+          _ c.in-Item.ensures.given c.in-Done.ensures (λ id never. absurd never) refl c.self.invariant,
+      c.in-Done.ensures.starves,
+    )
 
 pub returns-in-NoTopic : goal.returns-in-NoTopic
 returns-in-NoTopic g c =
-    rw (← c.self.view_is) (serves_one g.W.Outlet.outflow (relaying c.self.inside) _ c.in-Item.field-0 c.in-Item.event
-    _ c.in-Item.ensures.given c.in-NoTopic.ensures.1.0
-    (asks_for c.in-NoTopic.field-0 c.in-Item.event c.in-NoTopic.ensures.0) refl c.self.invariant)
+    rw (← c.self.view_is) (
+      serves_one g.W.Outlet.outflow (relaying c.self.inside) _ c.in-Item.field-0 c.in-Item.event
+          _ c.in-Item.ensures.given c.in-NoTopic.ensures.1.0
+          (asks_for c.in-NoTopic.id c.in-Item.event c.in-NoTopic.ensures.0) refl c.self.invariant,
+      c.in-NoTopic.ensures.1.0.starves,
+      c.in-NoTopic.ensures.1.1,
+    )
