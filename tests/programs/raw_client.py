@@ -1,4 +1,4 @@
-"""A client of a running kernel, written from ZeroMQ RFC 23 (ZMTP 3.0, mechanism NULL) and 'Messaging in Jupyter' 5.3.
+"""A client of a running kernel, written from ZeroMQ RFC 37 (ZMTP 3.1, mechanism NULL) and 'Messaging in Jupyter' 5.3.
 
 It needs sockets, hmac and json alone, and no library of ZeroMQ or Jupyter. All that it waits for has a time limit.
 Run as a program, it is a client that is to be killed:
@@ -31,8 +31,8 @@ import time
 PATIENCE = 60
 DELIMITER = b"<IDS|MSG>"
 MORE, LONG, COMMAND = 1, 2, 4
-# signature, version 3.0, mechanism, not as a server, filler
-GREETING = b"\xff" + bytes(8) + b"\x7f" + b"\3\0" + b"NULL".ljust(20, b"\0") + b"\0" + bytes(31)
+# signature, version 3.1, mechanism, not as a server, filler
+GREETING = b"\xff" + bytes(8) + b"\x7f" + b"\3\1" + b"NULL".ljust(20, b"\0") + b"\0" + bytes(31)
 CHANNELS = ("shell", "iopub", "control", "hb")
 # The socket types of a client, and those that the kernel has to be.
 SOCKET_TYPES = {"shell": b"DEALER", "iopub": b"SUB", "control": b"DEALER", "hb": b"REQ"}
@@ -65,7 +65,7 @@ def eventually(holds, what, patience=PATIENCE):
         time.sleep(0.01)
 
 
-# ZMTP: RFC 23.
+# ZMTP: RFC 37.
 
 
 def frame_text(flags, body):
@@ -78,6 +78,16 @@ def frame_text(flags, body):
 def message_text(frames):
     """The octets of a message."""
     return b"".join(frame_text(MORE, frame) for frame in frames[:-1]) + frame_text(0, frames[-1])
+
+
+def command_text(name, rest=b""):
+    """The octets of a command."""
+    return frame_text(COMMAND, bytes([len(name)]) + name + rest)
+
+
+def ping_text(context=b"", time_to_live=0):
+    """The octets of a PING."""
+    return command_text(b"PING", time_to_live.to_bytes(2, "big") + context)
 
 
 def ready_text(socket_type, identity=b""):
@@ -159,10 +169,10 @@ class Peer:
             check(octets, "the connection ended inside the greeting", greeting)
             greeting += octets
         check(greeting[0] == 0xFF and greeting[9] == 0x7F, "the greeting's signature", greeting)
-        check(greeting[10] >= 3 and greeting[12:33] == GREETING[12:33], "the greeting's mechanism", greeting)
+        check(greeting[10:33] == GREETING[10:33], "the greeting's version and mechanism", greeting)
         while not self.decoder.commands:
             self.read()
-        found = properties(self.decoder.commands[0])
+        found = properties(self.decoder.commands.pop(0))
         check(wanted is None or found.get(b"socket-type") == wanted, "the kernel's Socket-Type", found)
 
     def write(self, octets):
@@ -204,6 +214,17 @@ class Peer:
         rest = list(self.messages)
         self.messages.clear()
         return rest
+
+    def pongs(self, count):
+        """The contexts of the next so many PONGs; refuses any other command."""
+        found = []
+        while len(found) < count:
+            while not self.decoder.commands:
+                self.read()
+            command = self.decoder.commands.pop(0)
+            check(command[:5] == b"\4PONG", "a command that is no PONG", command)
+            found.append(command[5:])
+        return found
 
     def is_silent(self, seconds=0.2):
         """Whether nothing comes for a moment, and the connection stays."""

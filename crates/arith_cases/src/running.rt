@@ -73,7 +73,7 @@ fn append_output(written: &mut String, output: &Output) -> Result<(), AllocError
             }
             Ok(())
         }
-        Output::Stderr(_) | Output::Display(_) => written.push_str("another stream|"),
+        Output::Stderr(_) | Output::Display(..) => written.push_str("another stream|"),
     }
 }
 

@@ -38,7 +38,7 @@ goes_on (Failed fault) = false
 abbrev pub output_text : Output → List ℕ
 output_text (Stdout text) = text
 output_text (Stderr text) = []
-output_text (Display text) = []
+output_text (Display text shown) = []
 
 -- what is printed of the way a step ends: a value or a fault
 abbrev pub next_text : Next → List ℕ

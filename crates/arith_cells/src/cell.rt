@@ -83,7 +83,7 @@ fn print_outputs<W: Write>(outputs: &[Output], writer: &mut W) -> io::Result<()>
     for output in outputs {
         match output {
             Output::Stdout(text) => writer.write_all(text.as_str().as_bytes())?,
-            Output::Stderr(_) | Output::Display(_) => {}
+            Output::Stderr(_) | Output::Display(..) => {}
         }
     }
     Ok(())

@@ -45,10 +45,24 @@ fn add_frame(alloc: Global, text: &str, frames: &mut Vec<Vec<u8>>) -> Result<(),
     }
 }
 
+/// The frames that stand behind the delimiter up to the content: the signature and four parts.
+const PARTS: usize = 5;
+
+/// Where the buffers of a message begin: behind its content.
+fn place_of_buffers(frames: &[Vec<u8>]) -> usize {
+    let delimiter = frames
+        .iter()
+        .position(|frame| frame.as_slice() == b"<IDS|MSG>".as_slice());
+    match delimiter {
+        Some(place) => place.saturating_add(1 + PARTS),
+        None => frames.len(),
+    }
+}
+
 /// The frames of a message, each behind a line feed.
-fn whole(alloc: Global, frames: &Frames) -> io::Result<String> {
+fn whole(alloc: Global, frames: &[Vec<u8>]) -> io::Result<String> {
     let mut octets = Vec::new(alloc);
-    for frame in frames.as_slice() {
+    for frame in frames {
         octets.push(b'\n')?;
         octets.extend_from_slice(frame.as_slice())?;
     }
@@ -98,8 +112,20 @@ fn parts_of(whole: &str) -> Option<Parts<'_>> {
 
 /// Adds a message to a text, on one line.
 pub(crate) fn add_message(alloc: Global, text: &mut String, frames: &Frames) -> io::Result<()> {
-    let whole = whole(alloc, frames)?;
-    Ok(add_text(text, whole.as_str())?)
+    let frames = frames.as_slice();
+    let (front, buffers) = frames.split_at(frames.len().min(place_of_buffers(frames)));
+    let whole = whole(alloc, front)?;
+    add_text(text, whole.as_str())?;
+    add_buffers(alloc, text, buffers)
+}
+
+/// Adds the buffers of a message to a text, each by its digits.
+fn add_buffers(alloc: Global, text: &mut String, buffers: &[Vec<u8>]) -> io::Result<()> {
+    for buffer in buffers {
+        let digits = hex::encode(alloc, buffer.as_slice())?;
+        write!(text, " + '{digits}'")?;
+    }
+    Ok(())
 }
 
 /// Adds a message whose frames these are to a text, on one line.

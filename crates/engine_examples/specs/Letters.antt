@@ -1,7 +1,7 @@
 -- A language whose cells are letters, each of which is a step: what it means.
 use Rattle.std.proofs.Common.{zero, suc, sym, ◌∙◌, ap, subst}
 use Rattle.std.specs.Prelude.{◌≡◌, ⊤, ℕ, List, [], ◌∷◌, length, Bool, true, false, ◌==◌, if◌then◌else◌}
-use Rattle.std.specs.Prelude.{Option, Some, None, Ok, Err, codes}
+use Rattle.std.specs.Prelude.{Option, Some, None, Ok, Err, codes, replicate}
 use Rattle.interp_core.specs.Interpreter.{FailsOwn, HasOwn, IsEnd, Laws, Meaning}
 use Rattle.interp_core.specs.declared.answer.Next.{Next}
 use Rattle.interp_core.specs.declared.answer.Next.TheVariants.{More, Done, Failed}
@@ -11,13 +11,15 @@ use Rattle.interp_core.specs.declared.answer.Stepped.{Stepped}
 use Rattle.interp_core.specs.declared.fault.InterpFault.TheVariants as fault
 
 -- what a letter writes: `o`, `e` and `d` what they are on standard output, on standard error and on display, `b` the
--- first two
+-- first two; `p` and `q` what they are on display, with two buffers
 abbrev pub outputs_of : ℕ → List Output
 outputs_of letter =
     if letter == 111 then Stdout (codes "o") ∷ []
     else (if letter == 101 then Stderr (codes "e") ∷ []
     else (if letter == 98 then Stdout (codes "o") ∷ Stderr (codes "e") ∷ []
-    else (if letter == 100 then Display (codes "d") ∷ [] else [])))
+    else (if letter == 100 then Display (codes "d") [] ∷ []
+    else (if letter == 112 then Display (codes "p") ((0x00 ∷ 0xFF ∷ []) ∷ [] ∷ []) ∷ []
+    else (if letter == 113 then Display (codes "q") (replicate 256 113 ∷ [] ∷ []) ∷ [] else [])))))
 
 -- the value of a cell that ends with this letter: `v` has one
 abbrev pub value_of : ℕ → Option (List ℕ)

@@ -1,21 +1,22 @@
 //! A language of a few lines.
 
 ghost use Rattle.std.specs.Prelude.{◌≡◌, ◌⊎◌, ◌==◌, [], ◌∷◌, ◌++◌, IfOk, codes};
-ghost use Rattle.interp_core.specs.declared.answer.Output.TheVariants.{Stdout, Stderr};
+ghost use Rattle.interp_core.specs.declared.answer.Output.TheVariants.{Stdout, Stderr, Display};
 ghost use Rattle.interp_core.specs.declared.fault.InterpFault.TheVariants.{OutOfMemory};
 ghost use Rattle.engine_examples.specs.Letters.{next_of, outputs_of};
 
 use interp_core::{
     Completeness, Completion, Info, InterpFault, Interpreter, Next, Output, Stepped,
 };
-use listed::{Row, Text};
+use listed::{Frames, Row, Text};
 use std::alloc::{AllocError, Global};
 use std::collections::VecDeque;
 use std::marker::Model;
 
 /// A language whose cells are letters, each of which is a step. `o`, `e` and `d` write what they are on standard
-/// output, on standard error and on display, `b` the first two, `x` fails, and `v` at the end is a value. `m` finds no
-/// memory, and no memory is found to read `!`. An expression is worth its own text. All else has a fault.
+/// output, on standard error and on display, `b` the first two, `x` fails, and `v` at the end is a value. `p` and `q`
+/// display what they are with two buffers: two octets, or 256, and none. `m` finds no memory, and no memory is found to
+/// read `!`. An expression is worth its own text. All else has a fault.
 #[derive(Clone, Copy, Debug)]
 pub struct Letters {
     /// Whether no memory is found for anything but cells.
@@ -82,7 +83,9 @@ fn add_outputs(alloc: Global, letter: u8, outputs: &mut Vec<Output>) -> Result<(
             add_stdout(alloc, outputs)?;
             add_stderr(alloc, outputs)
         }
-        b'd' => add(outputs, Output::Display(text(alloc, "d")?)),
+        b'd' => add_display(alloc, outputs),
+        b'p' => add_shown(alloc, outputs, "p", &[0x00, 0xff]),
+        b'q' => add_shown(alloc, outputs, "q", &[b'q'; 256]),
         _ => Ok(()),
     }
 }
@@ -99,6 +102,51 @@ fn add_stderr(alloc: Global, outputs: &mut Vec<Output>) -> Result<(), AllocError
     ensures { IfOk result (λ _. outputs.new.items ≡ outputs.old.items ++ Stderr (codes "e") ∷ []) }
 {
     add(outputs, Output::Stderr(text(alloc, "e")?))
+}
+
+/// Adds what `d` writes.
+fn add_display(alloc: Global, outputs: &mut Vec<Output>) -> Result<(), AllocError>
+    ensures { IfOk result (λ _. outputs.new.items ≡ outputs.old.items ++ Display (codes "d") [] ∷ []) }
+{
+    let shown = text(alloc, "d")?;
+    add(
+        outputs,
+        Output::Display(shown, Frames::new(Vec::new(alloc))),
+    )
+}
+
+/// Adds a text that is displayed, with a buffer of these octets and one of none.
+fn add_shown(
+    alloc: Global,
+    outputs: &mut Vec<Output>,
+    letter: &str,
+    octets: &[u8],
+) -> Result<(), AllocError>
+    ensures { IfOk result (λ _. outputs.new.items
+        ≡ outputs.old.items ++ Display letter.now (octets.now ∷ [] ∷ []) ∷ []) }
+{
+    let buffers = buffers(alloc, octets)?;
+    match text(alloc, letter) {
+        Ok(shown) => add(outputs, Output::Display(shown, buffers)),
+        Err(AllocError) => {
+            drop(buffers);
+            Err(AllocError)
+        }
+    }
+}
+
+/// A buffer of these octets, and one of none.
+fn buffers(alloc: Global, octets: &[u8]) -> Result<Frames, AllocError>
+    ensures { IfOk result (λ buffers. buffers ≡ octets.now ∷ [] ∷ []) }
+{
+    let first = octets.to_vec(alloc)?;
+    match Vec::from_array(alloc, [first, Vec::new(alloc)]) {
+        Ok(buffers) => Ok(Frames::new(buffers)),
+        Err(refused) => {
+            drop(refused);
+            Err(AllocError)
+        }
+    }
 }
 
 /// Adds an output.

@@ -14,6 +14,8 @@ pub enum Event<W> {
     Subscribe(u64, Octets),
     /// A subscriber gives a topic up.
     Cancel(u64, Octets),
+    /// A subscriber asks for a PONG, by a PING of this context (ZeroMQ RFC 37, rule `ping`).
+    Pong(u64, Octets),
     /// A subscriber leaves.
     Detach(u64),
 }

@@ -5,7 +5,7 @@ use Rattle.std.specs.Bool.{⊤}
 use Rattle.std.proofs.lemmas.Bool.Decides.{eqb_tells}
 use Rattle.zmtp_wire.specs.Device.{Outflow, risen}
 use Rattle.iopub_event.specs.declared.event.Event.{Event}
-use Rattle.iopub_event.specs.declared.event.Event.TheVariants.{Message, Attach, Subscribe, Cancel, Detach}
+use Rattle.iopub_event.specs.declared.event.Event.TheVariants.{Message, Attach, Subscribe, Cancel, Pong, Detach}
 use Rattle.iopub_relay.specs.declared.subscriber.Standing.{Standing}
 use Rattle.iopub_relay.specs.declared.subscriber.Standing.TheVariants.{Served, Broken, Starved}
 use Rattle.iopub_relay.specs.declared.subscriber.Subscriber.{Subscriber}
@@ -39,6 +39,7 @@ module _ {Writer : Type 0} where
   is_detach id (Attach other writer) left = absurd (true≢false (sym left))
   is_detach id (Subscribe other topic) left = absurd (true≢false (sym left))
   is_detach id (Cancel other topic) left = absurd (true≢false (sym left))
+  is_detach id (Pong other context) left = absurd (true≢false (sym left))
   is_detach id (Detach other) left = ap Detach (sym (same_as id other left))
 
   some_of_if : (id other : ℕ) (test : Bool) (writer came : Writer) → nat_eq id other ≡ test
@@ -55,6 +56,7 @@ module _ {Writer : Type 0} where
   is_attach id (Attach other with_it) writer came = some_of_if id other (nat_eq id other) with_it writer refl came
   is_attach id (Subscribe other topic) writer came = absurd (some_not_none writer (sym came))
   is_attach id (Cancel other topic) writer came = absurd (some_not_none writer (sym came))
+  is_attach id (Pong other context) writer came = absurd (some_not_none writer (sym came))
   is_attach id (Detach other) writer came = absurd (some_not_none writer (sym came))
 
   module _ (outflow : Writer → Outflow) (id : ℕ) (event : Event Writer) where
@@ -63,7 +65,7 @@ module _ {Writer : Type 0} where
         → standing ≡ Served
     served_at_first Served old new gets = refl
     served_at_first Broken old new gets =
-        absurd (nothing_splits gets.before gets.behind (Message gets.message) gets.split)
+        absurd (nothing_splits gets.before gets.behind gets.event gets.split)
     served_at_first Starved old new gets =
         absurd (nothing_splits gets.before gets.behind (Subscribe id gets.topic) gets.split)
 
@@ -181,6 +183,17 @@ module _ {Writer : Type 0} where
       }
 
   -- who asks for a topic
-  pub asks_for : (id : ℕ) (event : Event Writer) → (topic : List ℕ) × (event ≡ Subscribe id topic) → (other : ℕ)
+  asks_for : (id : ℕ) (event : Event Writer) → (topic : List ℕ) × (event ≡ Subscribe id topic) → (other : ℕ)
       → other ≡ id → IsSubscribeOf event other
   asks_for id event asks other same = subst (IsSubscribeOf event) (sym same) asks
+
+  -- an event that was taken is served, by which a subscriber asks for a topic that finds no memory
+  pub serves_topic : (outflow : Writer → Outflow) (old new : Relaying Writer) (number id : ℕ) (event : Event Writer)
+      → TakesOne old.taker number (Some event) new.taker → Grows outflow (λ other. other ≡ id) old.rows new.rows event
+      → IsSubscribeOf event id → new.no_room ≡ old.no_room → ServesTaken outflow old
+      → (serves : ServesOne outflow old new) × IsSubscribeOf serves.event id
+  unfolding serves_one
+  serves_topic outflow old new number id event takes grows asks room serves = (
+    serves_one outflow old new number event (λ other. other ≡ id) takes grows (asks_for id event asks) room serves,
+    asks,
+  )

@@ -1,19 +1,23 @@
 -- Edits of the rows of a table at a place, and what they make of it.
-use Rattle.std.proofs.Common.{◌≡◌, ℕ, ◌+◌, ◌-◌, List, ◌∷◌, ◌++◌, get_or, if◌then◌else◌, bytes_eq, sym, ap, subst, ◌∙◌}
+use Rattle.std.proofs.Common.{◌≡◌, ℕ, ◌+◌, ◌-◌, List, ◌∷◌, ◌++◌, get_or, if◌then◌else◌, bytes_eq, refl, sym, ap}
+use Rattle.std.proofs.Common.{subst, ◌∙◌}
 use Rattle.std.specs.List.{insert, remove, slice_set}
 use Rattle.zmtp_wire.specs.Device.{Outflow}
-use Rattle.iopub_event.specs.declared.event.Event.TheVariants.{Attach, Subscribe, Cancel, Detach}
-use Rattle.iopub_relay.specs.declared.subscriber.Standing.TheVariants.{Served, Starved}
+use Rattle.zmtp_wire.specs.Ping.{pong_if_short}
+use Rattle.iopub_event.specs.declared.event.Event.TheVariants.{Attach, Subscribe, Cancel, Pong, Detach}
+use Rattle.iopub_relay.specs.declared.subscriber.Standing.{Standing}
+use Rattle.iopub_relay.specs.declared.subscriber.Standing.TheVariants.{Served, Broken, Starved}
 use Rattle.iopub_relay.specs.declared.subscriber.Subscriber.{Subscriber}
 use Rattle.iopub_relay.specs.declared.table.EventOutcome.TheVariants.{Done, NoTopic}
 use Rattle.iopub_relay.specs.Counts.{holding_of}
 use Rattle.iopub_relay.specs.Rows.{AreBelow, AreAbove, AreRising, IsAt, IsFree}
-use Rattle.iopub_relay.specs.Table.{ServesEvent}
+use Rattle.iopub_relay.specs.Table.{ServesEvent, GetsText, PongsBy}
 use Rattle.iopub_relay.proofs.RowLemmas.{rising_with, rising_without, rising_at, set_here, removed_here}
 use Rattle.iopub_relay.proofs.RowLemmas.{inserted_here, here}
 use Rattle.iopub_relay.proofs.TableLemmas.{attach_new, detach_there}
 use Rattle.iopub_relay.proofs.ServeLemmas.{subscribe_there, subscribe_failed, subscribe_starved, cancel_there}
-use Rattle.iopub_relay.proofs.ServeLemmas.{cancel_failed}
+use Rattle.iopub_relay.proofs.ServeLemmas.{cancel_failed, pong_there, pong_failed}
+use Rattle.iopub_relay.proofs.StandingLemmas.{broken_not_served, served_not_starved}
 
 module _ {Writer : Type 0} (id place : ℕ) (rows : List (Subscriber Writer)) where
   removed : (stands : IsAt id place rows) → remove rows place ≡ stands.before ++ stands.behind
@@ -75,6 +79,20 @@ module _ {Writer : Type 0} (id place : ℕ) (rows : List (Subscriber Writer)) wh
       (rising_at stands.before stands.behind stands.row row (is ∙ sym stands.is)
       (subst (λ (all : List (Subscriber Writer)). AreRising all) stands.split rising))
 
+  answered_id : (outflow : Writer → Outflow) (standing : Standing) (context : List ℕ) (row one : Subscriber Writer)
+      → PongsBy outflow standing context row one → one.id ≡ row.id
+  answered_id outflow Served context row one answers = answers.same
+  answered_id outflow Broken context row one answers = ap (λ (row : Subscriber Writer). row.id) answers
+  answered_id outflow Starved context row one answers = ap (λ (row : Subscriber Writer). row.id) answers
+
+  -- the ids rise where that a PONG is asked for was answered
+  pub rising_answered : (outflow : Writer → Outflow) (stands : IsAt id place rows) (context : List ℕ)
+      (row one : Subscriber Writer) → row ≡ stands.row → PongsBy outflow row.standing context row one
+      → AreRising rows → AreRising (slice_set rows place one)
+  rising_answered outflow stands context row one same answers rising =
+      rising_set stands one (answered_id outflow row.standing context row one answers
+      ∙ ap (λ (one : Subscriber Writer). one.id) same ∙ stands.is) rising
+
   module _ (outflow : Writer → Outflow) where
     -- a subscriber's row was taken out
     pub detach_removed : IsAt id place rows → ServesEvent outflow rows (remove rows place) (Detach id) Done
@@ -115,6 +133,49 @@ module _ {Writer : Type 0} (id place : ℕ) (rows : List (Subscriber Writer)) wh
         (sym (set_same stands row same))
         (cancel_failed outflow id place rows topic stands
         (λ served. failed (ap (λ (one : Subscriber Writer). one.standing) same ∙ served)))
+
+    -- the same where a PONG is asked for
+    failed_pong_set : (stands : IsAt id place rows) (row : Subscriber Writer) (context : List ℕ)
+        → row ≡ stands.row → (row.standing ≡ Served → ⊥)
+        → ServesEvent outflow rows (slice_set rows place row) (Pong id context) Done
+    failed_pong_set stands row context same failed =
+        subst (λ (new : List (Subscriber Writer)). ServesEvent outflow rows new (Pong id context) Done)
+        (sym (set_same stands row same))
+        (pong_failed outflow id place rows context stands
+        (λ served. failed (ap (λ (one : Subscriber Writer). one.standing) same ∙ served)))
+
+    -- a subscriber's writer got a PONG
+    pong_set : (stands : IsAt id place rows) (one : Subscriber Writer) (context : List ℕ)
+        → stands.row.standing ≡ Served → one.id ≡ id → one.topics ≡ stands.row.topics
+        → GetsText one.standing (outflow stands.row.writer) (outflow one.writer) (pong_if_short context)
+        → ServesEvent outflow rows (slice_set rows place one) (Pong id context) Done
+    pong_set stands one context served is topics gets =
+        pong_there outflow id place rows (slice_set rows place one) one context stands served (set stands one) is topics
+        gets
+
+    -- that a PONG is asked for was answered
+    answered_set : (stands : IsAt id place rows) (row one : Subscriber Writer) (context : List ℕ) (standing : Standing)
+        → row ≡ stands.row → row.standing ≡ standing → PongsBy outflow standing context row one
+        → ServesEvent outflow rows (slice_set rows place one) (Pong id context) Done
+    answered_set stands row one context Served same served answers =
+        pong_set stands one context (ap (λ (one : Subscriber Writer). one.standing) (sym same) ∙ served)
+        (answers.same ∙ ap (λ (one : Subscriber Writer). one.id) same ∙ stands.is)
+        (answers.topics ∙ ap (λ (one : Subscriber Writer). one.topics) same)
+        (subst (λ (was : Subscriber Writer). GetsText one.standing (outflow was.writer) (outflow one.writer)
+        (pong_if_short context)) same answers.gets)
+    answered_set stands row one context Broken same failed answers =
+        subst (λ (now : Subscriber Writer). ServesEvent outflow rows (slice_set rows place now) (Pong id context) Done)
+        (sym answers)
+        (failed_pong_set stands row context same (λ served. broken_not_served (sym failed ∙ served)))
+    answered_set stands row one context Starved same failed answers =
+        subst (λ (now : Subscriber Writer). ServesEvent outflow rows (slice_set rows place now) (Pong id context) Done)
+        (sym answers)
+        (failed_pong_set stands row context same (λ served. served_not_starved (sym served ∙ failed)))
+
+    pub answered : (stands : IsAt id place rows) (row one : Subscriber Writer) (context : List ℕ) → row ≡ stands.row
+        → PongsBy outflow row.standing context row one
+        → ServesEvent outflow rows (slice_set rows place one) (Pong id context) Done
+    answered stands row one context same answers = answered_set stands row one context row.standing same refl answers
 
     -- a subscriber's row is starved
     pub starved_set : (stands : IsAt id place rows) (one : Subscriber Writer) (topic : List ℕ) → one.id ≡ id

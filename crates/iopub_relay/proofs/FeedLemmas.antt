@@ -6,10 +6,8 @@ use Rattle.std.proofs.Common.{append_assoc, length-append, arith}
 use Rattle.std.proofs.Common.{Result, Ok, Err}
 use Rattle.std.specs.Global.{Vec}
 use Rattle.std.specs.Result.{IfOk}
-use Rattle.zmtp_wire.specs.Frame.{text}
 use Rattle.zmtp_wire.specs.Device.{Outflow, Puts}
 use Rattle.iopub_event.specs.declared.event.Event.{Event}
-use Rattle.iopub_event.specs.declared.event.Event.TheVariants.{Message}
 use Rattle.iopub_relay.specs.declared.subscriber.Standing.{Standing}
 use Rattle.iopub_relay.specs.declared.subscriber.Standing.TheVariants.{Served as IsServed, Broken, Starved}
 use Rattle.iopub_relay.specs.declared.subscriber.Subscriber.{Subscriber}
@@ -53,10 +51,9 @@ module _ {Writer : Type 0} where
   pub broken_off : (old new : Outflow) (id : ℕ) (events : List (Event Writer)) → BreaksOff old new id events
       → (front : List ℕ) × (lost : List ℕ) × (feed id events ≡ front ++ lost) × (0 < length lost) × Puts old new front 1
   broken_off old new id events gets =
-      let behind = feed_behind id (gets.before ++ Message gets.message ∷ []) gets.behind in
+      let behind = feed_behind id (gets.before ++ gets.event ∷ []) gets.behind in
       let whole : feed id events ≡ (feed id gets.before ++ gets.front) ++ (gets.lost ++ behind) =
-      ap (feed id) gets.split ∙ feed_on id [] gets.before (Message gets.message ∷ gets.behind)
-      ∙ ap (λ (due : Bool). feed id gets.before ++ ((if due then text gets.message else []) ++ behind)) gets.due
+      ap (feed id) gets.split ∙ feed_on id [] gets.before (gets.event ∷ gets.behind)
       ∙ ap (λ (octets : List ℕ). feed id gets.before ++ (octets ++ behind)) gets.cut
       ∙ ap (λ (octets : List ℕ). feed id gets.before ++ octets) (append_assoc gets.front gets.lost behind)
       ∙ sym (append_assoc (feed id gets.before) gets.front (gets.lost ++ behind)) in

@@ -6,7 +6,7 @@ use Rattle.std.specs.List.{list_any}
 use Rattle.std.proofs.lemmas.Bool.{eqb-true}
 use Rattle.std.proofs.lemmas.List.{append-nil}
 use Rattle.iopub_event.specs.declared.event.Event.{Event}
-use Rattle.iopub_event.specs.declared.event.Event.TheVariants.{Message, Attach, Subscribe, Cancel, Detach}
+use Rattle.iopub_event.specs.declared.event.Event.TheVariants.{Message, Attach, Subscribe, Cancel, Pong, Detach}
 use Rattle.iopub_relay.specs.Life.{Life, leaves, comes_with, life_begun, life}
 use Rattle.iopub_relay.specs.Laws.{BeganIn, LifeBegan, WhoCameLives, WhoLeftLivesNot}
 use Rattle.iopub_relay.proofs.LifeLemmas.{any_but_last, onward, life_left, life_more}
@@ -38,6 +38,7 @@ module _ {Writer : Type 0} (id : ℕ) where
   came_now events (Attach other writer) none = came_as events other writer (nat_eq id other) refl none
   came_now events (Subscribe other topic) none = tt
   came_now events (Cancel other topic) none = tt
+  came_now events (Pong other context) none = tt
   came_now events (Detach other) none = tt
 
   went_on : (events : List (Event Writer)) (event : Event Writer) (found : Option (Life Writer))

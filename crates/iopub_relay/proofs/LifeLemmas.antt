@@ -96,21 +96,22 @@ module _ {Writer : Type 0} (id : ℕ) where
 
   feed_behind_more : (before events : List (Event Writer)) (event : Event Writer)
       → feed_behind id before (events ++ event ∷ [])
-      ≡ feed_behind id before events ++ brings (held id (before ++ events)) event
+      ≡ feed_behind id before events ++ brings id (held id (before ++ events)) event
   feed_behind_more before [] event =
-      append-nil (brings (held id before) event)
-      ∙ ap (λ (events : List (Event Writer)). brings (held id events) event) (sym (append-nil before))
+      append-nil (brings id (held id before) event)
+      ∙ ap (λ (events : List (Event Writer)). brings id (held id events) event) (sym (append-nil before))
   feed_behind_more before (first ∷ events) event =
-      ap (λ (rest : List ℕ). brings (held id before) first ++ rest)
+      ap (λ (rest : List ℕ). brings id (held id before) first ++ rest)
       (feed_behind_more (before ++ first ∷ []) events event
-      ∙ ap (λ (all : List (Event Writer)). feed_behind id (before ++ first ∷ []) events ++ brings (held id all) event)
+      ∙ ap (λ (all : List (Event Writer)). feed_behind id (before ++ first ∷ []) events
+      ++ brings id (held id all) event)
       (append_assoc before (first ∷ []) events))
-      ∙ sym (append_assoc (brings (held id before) first) (feed_behind id (before ++ first ∷ []) events)
-      (brings (held id (before ++ first ∷ events)) event))
+      ∙ sym (append_assoc (brings id (held id before) first) (feed_behind id (before ++ first ∷ []) events)
+      (brings id (held id (before ++ first ∷ events)) event))
 
   -- the feed behind one more event
   pub feed_more : (events : List (Event Writer)) (event : Event Writer)
-      → feed id (events ++ event ∷ []) ≡ feed id events ++ brings (held id events) event
+      → feed id (events ++ event ∷ []) ≡ feed id events ++ brings id (held id events) event
   feed_more events event = feed_behind_more [] events event
 
   -- the feed of events and of what stands behind them
@@ -120,9 +121,9 @@ module _ {Writer : Type 0} (id : ℕ) where
   feed_on before [] behind =
       ap (λ (events : List (Event Writer)). feed_behind id events behind) (sym (append-nil before))
   feed_on before (first ∷ events) behind =
-      ap (λ (rest : List ℕ). brings (held id before) first ++ rest)
+      ap (λ (rest : List ℕ). brings id (held id before) first ++ rest)
       (feed_on (before ++ first ∷ []) events behind
       ∙ ap (λ (all : List (Event Writer)). feed_behind id (before ++ first ∷ []) events ++ feed_behind id all behind)
       (append_assoc before (first ∷ []) events))
-      ∙ sym (append_assoc (brings (held id before) first) (feed_behind id (before ++ first ∷ []) events)
+      ∙ sym (append_assoc (brings id (held id before) first) (feed_behind id (before ++ first ∷ []) events)
       (feed_behind id (before ++ first ∷ events) behind))

@@ -5,8 +5,9 @@ use Rattle.std.proofs.Common.{bytes_eq, cond}
 use Rattle.std.specs.Bool.{⊤}
 use Rattle.zmtp_wire.specs.Frame.{text}
 use Rattle.zmtp_wire.specs.Device.{Outflow, Puts}
+use Rattle.zmtp_wire.specs.Ping.{pong_if_short}
 use Rattle.iopub_event.specs.declared.event.Event.{Event}
-use Rattle.iopub_event.specs.declared.event.Event.TheVariants.{Message, Subscribe, Cancel}
+use Rattle.iopub_event.specs.declared.event.Event.TheVariants.{Message, Subscribe, Cancel, Pong}
 use Rattle.iopub_relay.specs.declared.subscriber.Standing.{Standing}
 use Rattle.iopub_relay.specs.declared.subscriber.Standing.TheVariants.{Served, Broken, Starved}
 use Rattle.iopub_relay.specs.declared.subscriber.Subscriber.{Subscriber}
@@ -22,13 +23,13 @@ use Rattle.iopub_relay.proofs.LifeLemmas.{onward, life_more, held_more, feed_mor
 use Rattle.iopub_relay.proofs.RowLemmas.{same_id, found}
 use Rattle.iopub_relay.proofs.StandingLemmas.{broken_not_served, broken_not_starved, served_not_starved}
 use Rattle.iopub_relay.proofs.TableLemmas.{puts_on, matches_same, grown, gets_on, lives_on}
-use Rattle.iopub_relay.proofs.TableLemmas.{keeps_at, fits_still, subscribe_is_of, cancel_is_of, changed, starves_by}
-use Rattle.iopub_relay.proofs.TableLemmas.{starves_nobody, stays_failed, stays_by, IsOf}
+use Rattle.iopub_relay.proofs.TableLemmas.{keeps_at, fits_still, subscribe_is_of, cancel_is_of, pong_is_of, changed}
+use Rattle.iopub_relay.proofs.TableLemmas.{starves_by, starves_nobody, stays_failed, stays_by, IsOf}
 
 module _ {Writer : Type 0} (outflow : Writer → Outflow) where
   -- a subscriber whose topics alone were changed lives on
   retopic : (id : ℕ) (row one : Subscriber Writer) (now : Life Writer) (event : Event Writer)
-      → one.writer ≡ row.writer → one.standing ≡ row.standing → brings (held id now.events) event ≡ []
+      → one.writer ≡ row.writer → one.standing ≡ row.standing → brings id (held id now.events) event ≡ []
       → ((topic : List ℕ) → holding_of one.topics topic ≡ held_after id topic (holding_of row.topics topic) event)
       → Lives outflow id row now → Lives outflow id one (grown now event)
   retopic id row one now event writer standing nothing topics lives = record {
@@ -86,6 +87,62 @@ module _ {Writer : Type 0} (outflow : Writer → Outflow) where
             (λ starved. inl (sym standing ∙ starved));
       }
 
+  -- who gets a text isn't starved
+  starves_text : (standing : Standing) (old new : Outflow) (octets : List ℕ) → GetsText standing old new octets
+      → standing ≡ Starved → ⊥
+  starves_text Served old new octets gets starved = served_not_starved starved
+  starves_text Broken old new octets gets starved = broken_not_starved starved
+  starves_text Starved old new octets gets starved = absurd gets
+
+  ponged : (id : ℕ) (context : List ℕ) (old new : Subscriber Writer) (now : Life Writer) (standing : Standing)
+      → old.standing ≡ Served → new.standing ≡ standing
+      → GetsText standing (outflow old.writer) (outflow new.writer) (pong_if_short context) → Lives outflow id old now
+      → GetsBy standing (outflow now.writer) (outflow new.writer) id (now.events ++ Pong id context ∷ [])
+  ponged id context old new now Served served is gets lives =
+      subst (λ (octets : List ℕ). Puts (outflow now.writer) (outflow new.writer) octets 0)
+      (sym (feed_more id now.events (Pong id context)
+      ∙ ap (λ (b : Bool). feed id now.events ++ (if b then pong_if_short context else [])) (same_id id)))
+      (puts_on (outflow now.writer) (outflow old.writer) (outflow new.writer) (feed id now.events)
+      (pong_if_short context) 0
+      (subst (λ (s : Standing). GetsBy s (outflow now.writer) (outflow old.writer) id now.events) served lives.gets)
+      gets)
+  ponged id context old new now Broken served is (front, lost, cut, some, puts) lives = record {
+    before = now.events;
+    event = Pong id context;
+    behind = [];
+    split = refl;
+    front = front;
+    lost = lost;
+    cut = ap (λ (b : Bool). if b then pong_if_short context else []) (same_id id) ∙ cut;
+    some = some;
+    puts = puts_on (outflow now.writer) (outflow old.writer) (outflow new.writer) (feed id now.events) front 1
+        (subst (λ (s : Standing). GetsBy s (outflow now.writer) (outflow old.writer) id now.events) served lives.gets)
+        puts;
+  }
+  ponged id context old new now Starved served is gets lives = absurd gets
+
+  -- a subscriber that is served gets a PONG
+  pub pong_there : (id place : ℕ) (rows new : List (Subscriber Writer)) (one : Subscriber Writer) (context : List ℕ)
+      (stands : IsAt id place rows) → stands.row.standing ≡ Served → new ≡ stands.before ++ one ∷ stands.behind
+      → one.id ≡ id → one.topics ≡ stands.row.topics
+      → GetsText one.standing (outflow stands.row.writer) (outflow one.writer) (pong_if_short context)
+      → ServesEvent outflow rows new (Pong id context) Done
+  pong_there id place rows new one context stands served is_new is topics gets =
+      let (fits, others, before, after) = changed outflow id place rows new one (Pong id context) stands is_new is
+      (pong_is_of outflow id context) refl
+      (λ lived lives. record {
+        gets = ponged id context stands.row one lived one.standing served refl gets lives;
+        topics = λ still topic. ap (λ topics. holding_of topics topic) topics ∙ lives.topics served topic
+            ∙ sym (held_more id lived.events (Pong id context) topic);
+      })
+      in record {
+        fits = fits;
+        stays = stays_by outflow id rows new stands.row (Pong id context) others before served;
+        starves = starves_by outflow (λ id. ⊥) id rows new stands.row one others before after
+            (λ starved. absurd (starves_text one.standing (outflow stands.row.writer) (outflow one.writer)
+            (pong_if_short context) gets starved));
+      }
+
   failed_still : (id place : ℕ) (rows : List (Subscriber Writer)) (event : Event Writer) (stands : IsAt id place rows)
       → (stands.row.standing ≡ Served → ⊥) → IsOf outflow id event → leaves id event ≡ false
       → comes_with id event ≡ None → ServesEvent outflow rows rows event Done
@@ -101,7 +158,7 @@ module _ {Writer : Type 0} (outflow : Writer → Outflow) where
         starves = starves_nobody outflow rows;
       }
 
-  -- a subscriber that has failed subscribes to a topic, or gives one up: it stays as it is
+  -- a subscriber that has failed subscribes to a topic, gives one up or asks for a PONG: it stays as it is
   pub subscribe_failed : (id place : ℕ) (rows : List (Subscriber Writer)) (topic : List ℕ) (stands : IsAt id place rows)
       → (stands.row.standing ≡ Served → ⊥) → ServesEvent outflow rows rows (Subscribe id topic) Done
   subscribe_failed id place rows topic stands failed =
@@ -111,6 +168,11 @@ module _ {Writer : Type 0} (outflow : Writer → Outflow) where
       → (stands.row.standing ≡ Served → ⊥) → ServesEvent outflow rows rows (Cancel id topic) Done
   cancel_failed id place rows topic stands failed =
       failed_still id place rows (Cancel id topic) stands failed (cancel_is_of outflow id topic) refl refl
+
+  pub pong_failed : (id place : ℕ) (rows : List (Subscriber Writer)) (context : List ℕ) (stands : IsAt id place rows)
+      → (stands.row.standing ≡ Served → ⊥) → ServesEvent outflow rows rows (Pong id context) Done
+  pong_failed id place rows context stands failed =
+      failed_still id place rows (Pong id context) stands failed (pong_is_of outflow id context) refl refl
 
   -- there is no memory for a topic of a subscriber that is served
   pub subscribe_starved : (id place : ℕ) (rows new : List (Subscriber Writer)) (one : Subscriber Writer)
@@ -204,13 +266,12 @@ module _ {Writer : Type 0} (outflow : Writer → Outflow) where
       gets)
   delivered id frames old new now Broken served due is (front, lost, cut, some, puts) lives = record {
     before = now.events;
-    message = frames;
+    event = Message frames;
     behind = [];
     split = refl;
-    due = due;
     front = front;
     lost = lost;
-    cut = cut;
+    cut = ap (λ (b : Bool). if b then text frames else []) due ∙ cut;
     some = some;
     puts = puts_on (outflow now.writer) (outflow old.writer) (outflow new.writer) (feed id now.events) front 1
         (subst (λ (s : Standing). GetsBy s (outflow now.writer) (outflow old.writer) id now.events) served lives.gets)
@@ -247,12 +308,6 @@ module _ {Writer : Type 0} (outflow : Writer → Outflow) where
   message_at id frames (Some old) (Some new) None hears lives = absurd lives
   message_at id frames (Some old) (Some new) (Some now) hears lives =
       receives_by id frames old new now old.standing (matches (holding_of old.topics) frames) refl refl hears lives
-
-  starves_text : (standing : Standing) (old new : Outflow) (octets : List ℕ) → GetsText standing old new octets
-      → standing ≡ Starved → ⊥
-  starves_text Served old new octets gets starved = served_not_starved starved
-  starves_text Broken old new octets gets starved = broken_not_starved starved
-  starves_text Starved old new octets gets starved = absurd gets
 
   starves_one : (standing : Standing) (due : Bool) (frames : List (List ℕ)) (old new : Subscriber Writer)
       → ReceivesBy outflow standing due frames old new → new.standing ≡ Starved → old.standing ≡ Starved

@@ -8,8 +8,9 @@ use Rattle.std.proofs.lemmas.List.{append-nil}
 use Rattle.std.proofs.lemmas.Bool.Decides.{eqb_tells}
 use Rattle.std.proofs.KnownBytes.{Appends-nil, Appends-trans}
 use Rattle.zmtp_wire.specs.Device.{Outflow, Puts, risen_by}
+use Rattle.zmtp_wire.specs.Ping.{pong_if_short}
 use Rattle.iopub_event.specs.declared.event.Event.{Event}
-use Rattle.iopub_event.specs.declared.event.Event.TheVariants.{Message, Attach, Subscribe, Cancel, Detach}
+use Rattle.iopub_event.specs.declared.event.Event.TheVariants.{Attach, Subscribe, Cancel, Pong, Detach}
 use Rattle.iopub_relay.specs.declared.subscriber.Standing.{Standing}
 use Rattle.iopub_relay.specs.declared.subscriber.Standing.TheVariants.{Served, Broken, Starved}
 use Rattle.iopub_relay.specs.declared.subscriber.Subscriber.{Subscriber}
@@ -54,11 +55,11 @@ module _ {Writer : Type 0} where
 
   -- An event brings nothing to whom holds these topics, and leaves them.
   pub record Quiet (id : ℕ) (now : Life Writer) (event : Event Writer) : Type 0 where
-    pub nothing : brings (held id now.events) event ≡ []
+    pub nothing : brings id (held id now.events) event ≡ []
     pub keeps : (topic : List ℕ) (count : ℕ) → held_after id topic count event ≡ count
 
   pub gets_on : (standing : Standing) (old new : Outflow) (id : ℕ) (events : List (Event Writer)) (event : Event Writer)
-      → (standing ≡ Served → brings (held id events) event ≡ []) → GetsBy standing old new id events
+      → (standing ≡ Served → brings id (held id events) event ≡ []) → GetsBy standing old new id events
       → GetsBy standing old new id (events ++ event ∷ [])
   gets_on Served old new id events event nothing gets =
       subst (λ (octets : List ℕ). Puts old new octets 0)
@@ -66,11 +67,10 @@ module _ {Writer : Type 0} where
       ∙ append-nil (feed id events))) gets
   gets_on Broken old new id events event nothing gets = record {
     before = gets.before;
-    message = gets.message;
+    event = gets.event;
     behind = gets.behind ++ event ∷ [];
     split = ap (λ (all : List (Event Writer)). all ++ event ∷ []) gets.split
-        ∙ append_assoc gets.before (Message gets.message ∷ gets.behind) (event ∷ []);
-    due = gets.due;
+        ∙ append_assoc gets.before (gets.event ∷ gets.behind) (event ∷ []);
     front = gets.front;
     lost = gets.lost;
     cut = gets.cut;
@@ -181,6 +181,16 @@ module _ {Writer : Type 0} where
       quiet = λ other now apart. record {
         nothing = refl;
         keeps = λ held count. ap (λ (b : Bool). if b && bytes_eq topic held then count - 1 else count) apart;
+      };
+    }
+
+    pub pong_is_of : (id : ℕ) (context : List ℕ) → IsOf id (Pong id context)
+    pong_is_of id context = record {
+      stays = λ other apart. refl;
+      away = λ other apart. refl;
+      quiet = λ other now apart. record {
+        nothing = ap (λ (b : Bool). if b then pong_if_short context else []) apart;
+        keeps = λ topic count. refl;
       };
     }
 
@@ -295,6 +305,16 @@ module _ {Writer : Type 0} where
         record {
           fits = absent_still id place rows (Cancel id topic) (cancel_is_of id topic) refl refl free;
           stays = stays_failed rows (Cancel id topic);
+          starves = starves_nobody rows;
+        }
+
+    -- that one asks for a PONG who isn't there changes nothing
+    pub pong_absent : (id place : ℕ) (rows : List (Subscriber Writer)) (context : List ℕ) → IsFree id place rows
+        → ServesEvent outflow rows rows (Pong id context) Done
+    pong_absent id place rows context free =
+        record {
+          fits = absent_still id place rows (Pong id context) (pong_is_of id context) refl refl free;
+          stays = stays_failed rows (Pong id context);
           starves = starves_nobody rows;
         }
 

@@ -2,15 +2,19 @@
 use Rattle.std.specs.Prelude.{ℕ, List, Option, Some, None}
 use Rattle.zmtp_wire.specs.declared.traffic.Traffic.{Traffic}
 use Rattle.zmtp_wire.specs.Subscription.{subscribed_topic, cancelled_topic}
+use Rattle.zmtp_wire.specs.Ping.{ping_context}
 use Rattle.iopub_event.specs.declared.event.Event.{Event}
-use Rattle.iopub_event.specs.declared.event.Event.TheVariants.{Subscribe, Cancel}
+use Rattle.iopub_event.specs.declared.event.Event.TheVariants.{Subscribe, Cancel, Pong}
 
--- that a topic is subscribed to, or else that one is given up, or nothing
-abbrev pub asks_for : {Writer : Type 0} → ℕ → Option (List ℕ) → Option (List ℕ) → Option (Event Writer)
-asks_for id (Some subscribed) cancelled = Some (Subscribe id subscribed)
-asks_for id None (Some cancelled) = Some (Cancel id cancelled)
-asks_for id None None = None
+-- that a topic is subscribed to, or else that one is given up, or else that a PONG is asked for, or nothing
+abbrev pub asks_for : {Writer : Type 0} → ℕ → Option (List ℕ) → Option (List ℕ) → Option (List ℕ)
+    → Option (Event Writer)
+asks_for id (Some subscribed) cancelled context = Some (Subscribe id subscribed)
+asks_for id None (Some cancelled) context = Some (Cancel id cancelled)
+asks_for id None None (Some context) = Some (Pong id context)
+asks_for id None None None = None
 
--- the event that a subscriber's traffic is: that it subscribes to a topic or gives one up; other traffic is none
+-- the event that a subscriber's traffic is: that it subscribes to a topic or gives one up, or asks for a PONG; other
+-- traffic is none
 abbrev pub event_of : {Writer : Type 0} → ℕ → Traffic → Option (Event Writer)
-event_of id traffic = asks_for id (subscribed_topic traffic) (cancelled_topic traffic)
+event_of id traffic = asks_for id (subscribed_topic traffic) (cancelled_topic traffic) (ping_context traffic)

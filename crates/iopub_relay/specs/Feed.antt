@@ -1,25 +1,29 @@
--- The feed of a subscriber: what is due to it of the messages of its life.
+-- The feed of a subscriber: what is due to it of the messages and the PONGs of its life.
 use Rattle.std.specs.Prelude.{◌≡◌, ◌⊎◌, ⊤, ℕ, ◌<◌, nat_eq, if◌then◌else◌, List, [], ◌∷◌, ◌++◌, length, Option}
 use Rattle.std.specs.Prelude.{Some, None}
 use Rattle.zmtp_wire.specs.Frame.{text}
+use Rattle.zmtp_wire.specs.Ping.{pong_if_short}
 use Rattle.zmtp_wire.specs.Device.{Outflow, Puts}
 use Rattle.iopub_event.specs.declared.event.Event.{Event}
-use Rattle.iopub_event.specs.declared.event.Event.TheVariants.{Message, Attach, Subscribe, Cancel, Detach}
+use Rattle.iopub_event.specs.declared.event.Event.TheVariants.{Message, Attach, Subscribe, Cancel, Pong, Detach}
 use Rattle.iopub_relay.specs.Life.{Life}
 use Rattle.iopub_relay.specs.Topics.{Holding, held, matches}
 
--- what an event brings to whom holds these topics: the text of a message that matches them
-abbrev pub brings : {Writer : Type 0} → Holding → Event Writer → List ℕ
-brings topics (Message frames) = if matches topics frames then text frames else []
-brings topics (Attach id writer) = []
-brings topics (Subscribe id topic) = []
-brings topics (Cancel id topic) = []
-brings topics (Detach id) = []
+-- what an event brings to a subscriber that holds these topics: the text of a message that matches them, or the PONG
+-- that it asks for, whatever its topics are
+abbrev pub brings : {Writer : Type 0} → ℕ → Holding → Event Writer → List ℕ
+brings id topics (Message frames) = if matches topics frames then text frames else []
+brings id topics (Attach other writer) = []
+brings id topics (Subscribe other topic) = []
+brings id topics (Cancel other topic) = []
+brings id topics (Pong other context) = if nat_eq id other then pong_if_short context else []
+brings id topics (Detach other) = []
 
 -- what events bring to a subscriber, each under the topics that it holds by then, behind others of its life
 abbrev pub feed_behind : {Writer : Type 0} → ℕ → List (Event Writer) → List (Event Writer) → List ℕ
 feed_behind id before [] = []
-feed_behind id before (event ∷ events) = brings (held id before) event ++ feed_behind id (before ++ event ∷ []) events
+feed_behind id before (event ∷ events) =
+    brings id (held id before) event ++ feed_behind id (before ++ event ∷ []) events
 
 -- the feed of a subscriber: what the events of its life bring to it, joined in their order
 abbrev pub feed : {Writer : Type 0} → ℕ → List (Event Writer) → List ℕ

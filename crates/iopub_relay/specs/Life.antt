@@ -2,7 +2,7 @@
 use Rattle.std.specs.Prelude.{ℕ, nat_eq, Bool, false, if◌then◌else◌, List, [], ◌∷◌, Option, Some, None}
 use Rattle.std.specs.List.{list_any}
 use Rattle.iopub_event.specs.declared.event.Event.{Event}
-use Rattle.iopub_event.specs.declared.event.Event.TheVariants.{Message, Attach, Subscribe, Cancel, Detach}
+use Rattle.iopub_event.specs.declared.event.Event.TheVariants.{Message, Attach, Subscribe, Cancel, Pong, Detach}
 
 -- whether an event is that this subscriber leaves
 abbrev pub leaves : {Writer : Type 0} → ℕ → Event Writer → Bool
@@ -10,6 +10,7 @@ leaves id (Message frames) = false
 leaves id (Attach other writer) = false
 leaves id (Subscribe other topic) = false
 leaves id (Cancel other topic) = false
+leaves id (Pong other context) = false
 leaves id (Detach other) = nat_eq id other
 
 -- the writer with which this subscriber comes, where an event is that it comes
@@ -18,6 +19,7 @@ comes_with id (Message frames) = None
 comes_with id (Attach other writer) = if nat_eq id other then Some writer else None
 comes_with id (Subscribe other topic) = None
 comes_with id (Cancel other topic) = None
+comes_with id (Pong other context) = None
 comes_with id (Detach other) = None
 
 -- The life of a subscriber: the writer that it came with, and what happened since.

@@ -8,7 +8,7 @@ use Rattle.iopub_queue.specs.Values.{Publishing, Taking}
 use Rattle.iopub_queue.specs.Calls.{TakesOne, FindsNothing, Settles}
 use Rattle.iopub_queue.specs.declared.taken.Settled.{Settled}
 use Rattle.iopub_event.specs.declared.event.Event.{Event}
-use Rattle.iopub_event.specs.declared.event.Event.TheVariants.{Message, Attach, Subscribe, Cancel, Detach}
+use Rattle.iopub_event.specs.declared.event.Event.TheVariants.{Message, Attach, Subscribe, Cancel, Pong, Detach}
 use Rattle.iopub_relay.specs.declared.relay.Drain.{Drain}
 use Rattle.iopub_relay.specs.declared.relay.Drain.TheVariants as drain
 use Rattle.iopub_relay.specs.declared.relay.Pumped.{Pumped}
@@ -39,6 +39,7 @@ IsAttach (Message frames) = ⊥
 IsAttach (Attach id writer) = ⊤
 IsAttach (Subscribe id topic) = ⊥
 IsAttach (Cancel id topic) = ⊥
+IsAttach (Pong id context) = ⊥
 IsAttach (Detach id) = ⊥
 
 -- what is left of events without so many of those by which a subscriber comes
@@ -130,7 +131,8 @@ Pumps outflow old (pumped.Closed number) new =
 Pumps outflow old pumped.Empty new = FindsNothing old.taker new.taker × (new ≡ old)
 Pumps outflow old pumped.Complete new = (new ≡ old) × IsComplete old.taker.count old.taker.taken
 Pumps outflow old (pumped.NoTopic id) new =
-    ServesOne outflow old new × StarvesOnly (λ other. other ≡ id) old.rows new.rows × IsStarved (row_of id new.rows)
+    (serves : ServesOne outflow old new) × IsSubscribeOf serves.event id
+    × StarvesOnly (λ other. other ≡ id) old.rows new.rows × IsStarved (row_of id new.rows)
 Pumps outflow old (pumped.NoRoom id) new = LacksRoom id old new
 
 -- a pump took an entry

@@ -1,9 +1,10 @@
 -- A table of subscribers, and the events that it fits.
 use Rattle.std.specs.Prelude.{◌≡◌, ◌⊎◌, ⊤, ℕ, ◌<◌, Bool, true, false, List, [], ◌∷◌, ◌++◌, length, Option, Some, None}
 use Rattle.zmtp_wire.specs.Frame.{text}
+use Rattle.zmtp_wire.specs.Ping.{pong_if_short}
 use Rattle.zmtp_wire.specs.Device.{Outflow, Puts}
 use Rattle.iopub_event.specs.declared.event.Event.{Event}
-use Rattle.iopub_event.specs.declared.event.Event.TheVariants.{Message, Attach, Subscribe, Detach}
+use Rattle.iopub_event.specs.declared.event.Event.TheVariants.{Attach, Subscribe, Detach}
 use Rattle.iopub_relay.specs.declared.subscriber.Standing.{Standing}
 use Rattle.iopub_relay.specs.declared.subscriber.Standing.TheVariants.{Served, Broken, Starved}
 use Rattle.iopub_relay.specs.declared.subscriber.Subscriber.{Subscriber}
@@ -12,19 +13,18 @@ use Rattle.iopub_relay.specs.declared.table.EventOutcome.TheVariants.{Done, NoTo
 use Rattle.iopub_relay.specs.Counts.{holding_of}
 use Rattle.iopub_relay.specs.Life.{Life, life}
 use Rattle.iopub_relay.specs.Topics.{held, matches}
-use Rattle.iopub_relay.specs.Feed.{feed}
+use Rattle.iopub_relay.specs.Feed.{brings, feed}
 use Rattle.iopub_relay.specs.Rows.{row_of}
 
--- A write of a message that matches failed or took nothing: the writer got the feed up to there, and some of the text.
+-- A write of what an event brings failed or took nothing: the writer got the feed up to there, and a beginning of that.
 pub record BreaksOff {Writer : Type 0} (old new : Outflow) (id : ℕ) (events : List (Event Writer)) : Type 0 where
   pub before : List (Event Writer)
-  pub message : List (List ℕ)
+  pub event : Event Writer
   pub behind : List (Event Writer)
-  pub split : events ≡ before ++ Message message ∷ behind
-  pub due : matches (held id before) message ≡ true
+  pub split : events ≡ before ++ event ∷ behind
   pub front : List ℕ
   pub lost : List ℕ
-  pub cut : text message ≡ front ++ lost
+  pub cut : brings id (held id before) event ≡ front ++ lost
   pub some : 0 < length lost
   pub puts : Puts old new (feed id before ++ front) 1
 
@@ -48,24 +48,25 @@ pub record Lives {Writer : Type 0} (outflow : Writer → Outflow) (id : ℕ) (ro
   pub gets : GetsBy row.standing (outflow now.writer) (outflow row.writer) id now.events
   pub topics : row.standing ≡ Served → (topic : List ℕ) → holding_of row.topics topic ≡ held id now.events topic
 
--- what a writer got of a text, by how its subscriber stands then: all of it, or a beginning before a write failed
+-- what a writer got of octets that are for it, by how its subscriber stands then: all of them, or a beginning before a
+-- write failed
 abbrev pub GetsText : Standing → Outflow → Outflow → List ℕ → Type 0
 GetsText Served old new octets = Puts old new octets 0
 GetsText Broken old new octets =
     (front : List ℕ) × (lost : List ℕ) × (octets ≡ front ++ lost) × (0 < length lost) × Puts old new front 1
 GetsText Starved old new octets = ⊥
 
--- A message that matches came to a subscriber: its writer got the text.
-pub record Delivers {Writer : Type 0} (outflow : Writer → Outflow) (frames : List (List ℕ))
-    (old new : Subscriber Writer) : Type 0 where
+-- Octets that are for a subscriber came to it: its writer got them.
+pub record Delivers {Writer : Type 0} (outflow : Writer → Outflow) (octets : List ℕ) (old new : Subscriber Writer)
+    : Type 0 where
   pub same : new.id ≡ old.id
   pub topics : new.topics ≡ old.topics
-  pub gets : GetsText new.standing (outflow old.writer) (outflow new.writer) (text frames)
+  pub gets : GetsText new.standing (outflow old.writer) (outflow new.writer) octets
 
 -- what a message makes of a subscriber, by how it stands and whether the message matches
 abbrev pub ReceivesBy : {Writer : Type 0} → (Writer → Outflow) → Standing → Bool → List (List ℕ) → Subscriber Writer
     → Subscriber Writer → Type 0
-ReceivesBy outflow Served true frames old new = Delivers outflow frames old new
+ReceivesBy outflow Served true frames old new = Delivers outflow (text frames) old new
 ReceivesBy outflow Served false frames old new = new ≡ old
 ReceivesBy outflow Broken due frames old new = new ≡ old
 ReceivesBy outflow Starved due frames old new = new ≡ old
@@ -75,6 +76,13 @@ abbrev pub Receives : {Writer : Type 0} → (Writer → Outflow) → List (List 
     → Type 0
 Receives outflow frames old new =
     ReceivesBy outflow old.standing (matches (holding_of old.topics) frames) frames old new
+
+-- what a PING makes of the subscriber that sent it, by how that stands: one that has failed gets no PONG
+abbrev pub PongsBy : {Writer : Type 0} → (Writer → Outflow) → Standing → List ℕ → Subscriber Writer
+    → Subscriber Writer → Type 0
+PongsBy outflow Served context old new = Delivers outflow (pong_if_short context) old new
+PongsBy outflow Broken context old new = new ≡ old
+PongsBy outflow Starved context old new = new ≡ old
 
 -- what a message makes of subscribers
 abbrev pub AllReceive : {Writer : Type 0} → (Writer → Outflow) → List (List ℕ) → List (Subscriber Writer)

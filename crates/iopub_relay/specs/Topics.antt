@@ -3,7 +3,7 @@ use Rattle.std.specs.Prelude.{ℕ, ◌+◌, ◌-◌, nat_eq, nat_lt, Bool, false
 use Rattle.std.specs.Prelude.{bytes_eq}
 use Rattle.std.specs.List.{list_any}
 use Rattle.iopub_event.specs.declared.event.Event.{Event}
-use Rattle.iopub_event.specs.declared.event.Event.TheVariants.{Message, Attach, Subscribe, Cancel, Detach}
+use Rattle.iopub_event.specs.declared.event.Event.TheVariants.{Message, Attach, Subscribe, Cancel, Pong, Detach}
 
 -- topics with how often each of them is held: a multiset
 abbrev pub Holding : Type 0
@@ -17,6 +17,7 @@ held_after id topic count (Attach other writer) = count
 held_after id topic count (Subscribe other asked) =
     if nat_eq id other && bytes_eq asked topic then count + 1 else count
 held_after id topic count (Cancel other given) = if nat_eq id other && bytes_eq given topic then count - 1 else count
+held_after id topic count (Pong other context) = count
 held_after id topic count (Detach other) = count
 
 -- the topics that a subscriber holds behind events of its life, at first none

@@ -6,14 +6,15 @@ ghost use Rattle.iopub_relay.specs.Door.{event_of};
 use iopub_event::Event;
 use listed::Octets;
 use std::alloc::{AllocError, Global};
-use zmtp_wire::Traffic;
+use zmtp_wire::{Traffic, read_ping};
 
-/// The event that traffic of this subscriber is (ZMTP 3.0): a message of one frame that begins with 1 subscribes to
-/// the rest as topic, and with 0 gives it up. All other traffic is no event.
+/// The event that traffic of this subscriber is: a message of one frame that begins with 1 subscribes to the rest as
+/// topic, and with 0 gives it up (ZMTP 3.0); the commands SUBSCRIBE and CANCEL do that, too, and PING asks for a PONG
+/// (ZMTP 3.1). All other traffic is no event.
 ///
 /// # Errors
 ///
-/// Where there is an event and memory was refused for its topic.
+/// Where there is an event and memory was refused for its topic or context.
 pub fn door_event<W>(
     alloc: Global,
     id: u64,
@@ -27,6 +28,9 @@ pub fn door_event<W>(
     }
     if let Some(topic) = traffic.cancelled_topic() {
         return Ok(Some(Event::Cancel(id, Octets::new(topic.to_vec(alloc)?))));
+    }
+    if let Some(context) = read_ping(traffic) {
+        return Ok(Some(Event::Pong(id, Octets::new(context.to_vec(alloc)?))));
     }
     Ok(None)
 }

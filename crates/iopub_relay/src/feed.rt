@@ -13,8 +13,8 @@ use std::alloc::{AllocError, Global};
 use zmtp_wire::Outlet;
 
 /// Serves events one after the other, and answers the subscribers that are there behind them, by rising ids, each with
-/// its writer: it got the text of each message of its life that matched the topics that it held by then, or a
-/// beginning of that where a write failed or took nothing.
+/// its writer: it got the text of each message of its life that matched the topics that it held by then, and the PONGs
+/// that it asked for, each at its place, or a beginning of that where a write failed or took nothing.
 ///
 /// # Errors
 ///

@@ -45,9 +45,9 @@ pub enum Drain {
     More,
 }
 
-/// A relay: it takes messages, and that subscribers come, ask for topics, give them up and leave; and it writes to each
-/// subscriber the messages that are for it. It serves all that it took, without the newcomers for which there was no
-/// memory.
+/// A relay: it takes messages, and that subscribers come, ask for topics or a PONG, give topics up and leave; and it
+/// writes to each subscriber the messages and PONGs that are for it. It serves all that it took, without the newcomers
+/// for which there was no memory.
 #[derive(Drop)]
 pub struct Relay<W: Outlet, R> {
     /// What it takes from.

@@ -4,11 +4,12 @@ ghost use Rattle.std.specs.Prelude.{◌≡◌, IfSome};
 ghost use Rattle.listed.specs.Bodies.{bodies};
 ghost use Rattle.zmtp_wire.specs.Frame.{text};
 ghost use Rattle.zmtp_wire.specs.Device.{AddsAll};
+ghost use Rattle.zmtp_wire.specs.Ping.{pong_if_short};
 ghost use Rattle.iopub_relay.specs.Relay.{has_failed};
-ghost use Rattle.iopub_relay.specs.Table.{Receives};
+ghost use Rattle.iopub_relay.specs.Table.{Receives, PongsBy};
 
 use crate::topics::Topics;
-use zmtp_wire::{Outlet, WriteFailed, write_all, write_frames};
+use zmtp_wire::{CONTEXT_LIMIT, Outlet, WriteFailed, pong_text, write_all, write_frames};
 
 /// How a subscriber stands.
 #[derive(Clone, Copy, Debug, PartialEq, Eq)]
@@ -65,6 +66,30 @@ impl<W: Outlet> Subscriber<W> {
             self.standing = Standing::Broken;
         }
     }
+
+    /// Receives the PONG that it asks for by a PING of this context.
+    pub(crate) fn pong(&mut self, context: &[u8])
+        ensures { PongsBy W.outflow self.old.standing context.now self.old self.new }
+    {
+        match self.standing {
+            Standing::Served => {}
+            Standing::Broken | Standing::Starved => return,
+        }
+        match write_pong(&mut self.writer, context) {
+            Ok(()) => {}
+            Err(WriteFailed) => self.standing = Standing::Broken,
+        }
+    }
+}
+
+/// Writes the PONG of a context, if that isn't too long for one.
+fn write_pong<W: Outlet>(writer: &mut W, context: &[u8]) -> Result<(), WriteFailed>
+    ensures { AddsAll (W.outflow writer.old) (W.outflow writer.new) result (pong_if_short context.now) }
+{
+    if context.len() > CONTEXT_LIMIT {
+        return Ok(());
+    }
+    write_all(writer, pong_text(context).octets())
 }
 
 /// Writes the text of a message: as it was built, or frame by frame where it wasn't.

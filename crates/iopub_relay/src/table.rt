@@ -69,6 +69,7 @@ impl<W: Outlet + Drop> Table<W> {
             Event::Attach(id, writer) => self.attach(id, writer),
             Event::Subscribe(id, topic) => self.subscribe(id, topic),
             Event::Cancel(id, topic) => self.cancel(id, topic),
+            Event::Pong(id, context) => self.pong(id, context),
             Event::Detach(id) => self.detach(id),
         }
     }
@@ -137,6 +138,18 @@ impl<W: Outlet + Drop> Table<W> {
             return EventOutcome::Done;
         };
         row.topics.take_out(topic.as_slice());
+        EventOutcome::Done
+    }
+
+    /// Serves that a subscriber asks for a PONG: it gets one, unless its context is too long. Needs no memory.
+    pub(crate) fn pong(&mut self, id: u64, context: Octets) -> EventOutcome
+        ensures { ServesEvent W.outflow self.old self.new (Event.Pong id context) result }
+    {
+        let Ok(place) = place_of(&self.rows, id) else {
+            return EventOutcome::Done;
+        };
+        let row = &mut self.rows[place];
+        row.pong(context.as_slice());
         EventOutcome::Done
     }
 

@@ -3,7 +3,7 @@ use Rattle.std.specs.Prelude.{ℕ, List, [], ◌∷◌, ◌++◌, Bool, not, ◌
 use Rattle.std.specs.Result.{result_ok}
 use Rattle.hex.specs.Hex.{decode_of, encode_lower}
 use Rattle.iopub_event.specs.declared.event.Event.{Event}
-use Rattle.iopub_event.specs.declared.event.Event.TheVariants.{Message, Attach, Subscribe, Cancel, Detach}
+use Rattle.iopub_event.specs.declared.event.Event.TheVariants.{Message, Attach, Subscribe, Cancel, Pong, Detach}
 use Rattle.zmtp_wire.specs.Frame.{text}
 use Rattle.zmtp_wire.specs.Fault.{wire_fault_number}
 use Rattle.jkernel.specs.declared.lines.PrintedEnd.{PrintedEnd}
@@ -55,4 +55,5 @@ event_text (Message frames) = text frames
 event_text (Attach id writer) = []
 event_text (Subscribe id topic) = []
 event_text (Cancel id topic) = []
+event_text (Pong id context) = []
 event_text (Detach id) = []

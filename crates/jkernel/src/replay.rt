@@ -283,6 +283,10 @@ fn append_event(
             }
             Ok(())
         }
-        Event::Attach(..) | Event::Subscribe(..) | Event::Cancel(..) | Event::Detach(_) => Ok(()),
+        Event::Attach(..)
+        | Event::Subscribe(..)
+        | Event::Cancel(..)
+        | Event::Pong(..)
+        | Event::Detach(_) => Ok(()),
     }
 }

@@ -1,5 +1,5 @@
 -- What is published ('Messaging in Jupyter' 5.3, "Messages on the IOPub (PUB/SUB) channel" and "Custom Messages").
-use Rattle.std.specs.Prelude.{ℕ, List, Bool, true, false, ◌++◌, codes}
+use Rattle.std.specs.Prelude.{ℕ, List, [], Bool, true, false, ◌++◌, codes}
 use Rattle.serde_json.specs.Data.{Data, number, unsigned, string, object, member, no_members}
 use Rattle.jmsg_types.specs.Content.{empty_data, plain_data, traceback_data}
 use Rattle.jmsg_types.specs.declared.publication.Publication.{Publication}
@@ -25,7 +25,7 @@ publication_type (Status state) = codes "status"
 publication_type (ExecuteInput code count) = codes "execute_input"
 publication_type (Stream err text) = codes "stream"
 publication_type (ExecuteResult text count) = codes "execute_result"
-publication_type (Display text) = codes "display_data"
+publication_type (Display text shown) = codes "display_data"
 publication_type (Error ename evalue) = codes "error"
 publication_type (CommClose comm_id) = codes "comm_close"
 
@@ -41,6 +41,22 @@ failure_data ename evalue = object
     (member (codes "evalue") (string evalue)
     (member (codes "traceback") (traceback_data ename evalue) no_members)))
 
+-- what a cell shows ("Display data")
+abbrev pub display_data : List ℕ → Data
+display_data text = object
+    (member (codes "data") (plain_data text)
+    (member (codes "metadata") empty_data no_members))
+
+-- The buffers of each publication: what a cell shows may have some, and nothing else has ("The Wire Protocol").
+abbrev pub buffers : Publication → List (List ℕ)
+buffers (Status state) = []
+buffers (ExecuteInput code count) = []
+buffers (Stream err text) = []
+buffers (ExecuteResult text count) = []
+buffers (Display text shown) = shown
+buffers (Error ename evalue) = []
+buffers (CommClose comm_id) = []
+
 -- The content of each publication.
 abbrev pub publication_data : Publication → Data
 publication_data (Status state) = object (member (codes "execution_state") (string (state_word state)) no_members)
@@ -54,9 +70,7 @@ publication_data (ExecuteResult text count) = object
     (member (codes "data") (plain_data text)
     (member (codes "execution_count") (number (unsigned count))
     (member (codes "metadata") empty_data no_members)))
-publication_data (Display text) = object
-    (member (codes "data") (plain_data text)
-    (member (codes "metadata") empty_data no_members))
+publication_data (Display text shown) = display_data text
 publication_data (Error ename evalue) = failure_data ename evalue
 publication_data (CommClose comm_id) = object
     (member (codes "comm_id") (string comm_id)

@@ -18,7 +18,8 @@ pub use fault::{ContentFault, content_words};
 pub use laws::{law_each_type_is_found, law_replies_are_named_for_requests};
 pub use message_type::{Columns, ErrorForm, Heard, MessageType, reply_type};
 pub use publication::{
-    Publication, State, content_of_publication, content_text_of_publication, topic_of, type_of,
+    Publication, State, buffers_of, content_of_publication, content_text_of_publication, topic_of,
+    type_of,
 };
 pub use reply::{Reply, Shown, Verdict, content_of, content_text};
 pub use request::{Request, read_known, read_request};

@@ -2,15 +2,16 @@
 
 ghost use Rattle.std.specs.Prelude.{◌≡◌, IfOk, IfErr};
 ghost use Rattle.jmsg_types.specs.Publication.{failure_data, publication_data, publication_type, state_word};
-ghost use Rattle.jmsg_types.specs.Publication.{stream_name, topic};
-ghost use Rattle.jmsg_types.specs.declared.publication.Publication.TheVariants.{CommClose, Display, ExecuteInput};
+ghost use Rattle.jmsg_types.specs.Publication.{buffers, display_data, stream_name, topic};
+ghost use Rattle.listed.specs.Bodies.{bodies};
+ghost use Rattle.jmsg_types.specs.declared.publication.Publication.TheVariants.{CommClose, ExecuteInput};
 ghost use Rattle.jmsg_types.specs.declared.publication.Publication.TheVariants.{ExecuteResult, Status};
 ghost use Rattle.serde_json.specs.View.{view};
 ghost use Rattle.serde_json.specs.Written.{compact_text};
 
 use crate::ContentFault;
 use crate::content::{object_of_texts, plain_value, put_texts, traceback_value};
-use listed::Text;
+use listed::{Frames, Text};
 use serde_json::{Map, Value, json};
 use std::alloc::{AllocError, Global};
 
@@ -44,6 +45,8 @@ pub enum Publication {
     Display {
         /// What it shows, as plain text.
         text: Text,
+        /// Octets that go along with it as they are.
+        buffers: Frames,
     },
     /// A cell failed.
     Error {
@@ -133,6 +136,40 @@ pub fn topic_of(publication: &Publication) -> &'static str
     }
 }
 
+/// The buffers of a publication, which stand behind its content ('Messaging in Jupyter' 5.3, "The Wire Protocol"):
+/// those of what a cell shows, and none of any other. Takes no memory.
+pub fn buffers_of(publication: &Publication) -> &[Vec<u8>]
+    ensures { bodies result.now ≡ buffers publication.now }
+{
+    match publication {
+        Publication::Display { buffers, .. } => buffers.as_slice(),
+        Publication::Status(_)
+        | Publication::ExecuteInput { .. }
+        | Publication::Stream { .. }
+        | Publication::ExecuteResult { .. }
+        | Publication::Error { .. }
+        | Publication::CommClose { .. } => &[],
+    }
+}
+
+impl Publication {
+    /// Its buffers, without a copy: those that `buffers_of` lends. Takes no memory.
+    pub fn into_buffers(self, alloc: Global) -> Frames
+        ensures { result ≡ buffers self }
+    {
+        match self {
+            Publication::Display { text, buffers } => {
+                drop(text);
+                buffers
+            }
+            other => {
+                drop(other);
+                Frames::new(Vec::new(alloc))
+            }
+        }
+    }
+}
+
 /// The content of a publication, as JSON.
 ///
 /// # Errors
@@ -184,7 +221,7 @@ fn publication_value(alloc: Global, publication: &Publication) -> Result<Value, 
             )
         }
         Publication::ExecuteResult { text, count } => result_value(alloc, text.as_str(), *count),
-        Publication::Display { text } => display_value(alloc, text.as_str()),
+        Publication::Display { text, .. } => display_value(alloc, text.as_str()),
         Publication::Error { ename, evalue } => {
             failure_value(alloc, ename.as_str(), evalue.as_str())
         }
@@ -218,7 +255,7 @@ fn result_value(alloc: Global, text: &str, count: u64) -> Result<Value, AllocErr
 
 /// What a cell shows.
 fn display_value(alloc: Global, text: &str) -> Result<Value, AllocError>
-    ensures { IfOk result (λ value. view value ≡ publication_data (Display text.now)) }
+    ensures { IfOk result (λ value. view value ≡ display_data text.now) }
 {
     let data = plain_value(alloc, text)?;
     json!(in alloc; {"data": data, "metadata": {}})

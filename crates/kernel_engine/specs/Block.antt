@@ -8,10 +8,11 @@ use Rattle.jmsg_types.specs.declared.publication.Publication.{Publication}
 use Rattle.jmsg_types.specs.declared.publication.Publication.TheVariants.{Status}
 use Rattle.jmsg_types.specs.declared.publication.State.TheVariants.{Starting, Busy, Idle}
 use Rattle.jmsg_types.specs.declared.reply.Reply.{Reply}
-use Rattle.jmsg_types.specs.Publication.{publication_data, publication_type, topic}
+use Rattle.jmsg_types.specs.Publication.{buffers, publication_data, publication_type, topic}
 use Rattle.jmsg_types.specs.Reply.{reply_data}
 use Rattle.jmsg_types.specs.Request.{reply_type_of}
 use Rattle.kernel_engine.specs.declared.heading.Heading.{Heading}
+use Rattle.kernel_engine.specs.declared.publishing.Body.{Body}
 
 -- the frames of a message
 abbrev pub Message : Type 0
@@ -27,22 +28,22 @@ pub record Sealing : Type 0 where
 abbrev pub empty_object : List ℕ
 empty_object = codes "{}"
 
--- the message of this number, type and content, sealed behind a prefix
-unfoldable pub message : Sealing → Heading → List (List ℕ) → ℕ → List ℕ → List ℕ → Message
-message sealing heading prefix number msg_type content =
+-- the message of this number and type that says this, sealed behind a prefix
+unfoldable pub message : Sealing → Heading → List (List ℕ) → ℕ → List ℕ → Body → Message
+message sealing heading prefix number msg_type body =
     sealed sealing.key prefix (record {
       header = header_octets sealing.session (sealing.id number) heading.date msg_type;
       parent = heading.parent;
       metadata = empty_object;
-      content = content;
-      buffers = [];
+      content = body.content;
+      buffers = body.buffers;
     })
 
 -- a publication, as a message behind its topic
 abbrev pub published : Sealing → Heading → ℕ → Publication → Message
 published sealing heading number publication =
     message sealing heading (topic publication ∷ []) number (publication_type publication)
-    (compact_text (publication_data publication))
+    (record { content = compact_text (publication_data publication); buffers = buffers publication })
 
 -- publications one after the other, with rising numbers
 abbrev pub published_all : Sealing → Heading → ℕ → List Publication → List Message
@@ -77,7 +78,8 @@ reply_name msg_type = unwrap_or (reply_type_of msg_type) []
 abbrev pub reply_message : Sealing → Heading → List (List ℕ) → ℕ → List ℕ → Option Reply → Option Message
 reply_message sealing heading identities number msg_type None = None
 reply_message sealing heading identities number msg_type (Some reply) =
-    Some (message sealing heading identities number (reply_name msg_type) (compact_text (reply_data reply)))
+    Some (message sealing heading identities number (reply_name msg_type)
+    (record { content = compact_text (reply_data reply); buffers = [] }))
 
 -- the first message that is published: the kernel starts, and no request is its parent
 abbrev pub starting : Sealing → List ℕ → Message

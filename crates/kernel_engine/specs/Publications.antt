@@ -17,7 +17,7 @@ use Rattle.kernel_engine.specs.Course.{Course, Outcome, TextRuns}
 abbrev pub publication_of : Output → Publication
 publication_of (writes.Stdout text) = Stream false text
 publication_of (writes.Stderr text) = Stream true text
-publication_of (writes.Display text) = Display text
+publication_of (writes.Display text shown) = Display text shown
 
 -- what came of a cell, as it is published: its last value, nothing where it has none, or the error ("Execution
 -- results", "Execution errors")

@@ -10,7 +10,7 @@ ghost use Rattle.kernel_engine.specs.Opens.{Opens, PublishesNone, Starts, ids_of
 
 use crate::heading::Heading;
 use crate::open_block::OpenBlock;
-use crate::publishing::{LAST_NUMBER, Publishing};
+use crate::publishing::{Body, LAST_NUMBER, Publishing};
 use iopub_event::Event;
 use iopub_queue::Publish;
 use jmsg_envelope::Stamp;
@@ -30,10 +30,7 @@ impl<P, S: Stamp> Publishing<P, S> {
         ensures { IfOk result (λ message. message
             ≡ published (sealing_of S.stamp self.now) heading.now number (Status state)) }
     {
-        let publication = Publication::Status(state);
-        let message = self.publication(alloc, heading, number, &publication);
-        drop(publication);
-        message
+        self.publication(alloc, heading, number, Publication::Status(state))
     }
 
     /// The ends of a block, under the next two numbers: that the kernel is busy, and that it is idle.
@@ -131,9 +128,7 @@ impl<P, S: Stamp> Publishing<P, S> {
     {
         let parent = Octets::new(Vec::from_slice(alloc, b"{}")?);
         let heading = self.heading(alloc, parent)?;
-        let starting = Publication::Status(State::Starting);
-        let told = self.publish(alloc, &heading, &starting);
-        drop(starting);
+        let told = self.publish(alloc, &heading, Publication::Status(State::Starting));
         drop(heading);
         told
     }
@@ -171,7 +166,11 @@ impl<P, S: Stamp> Publishing<P, S> {
             return Err(AllocError);
         }
         let msg_type = reply_type(msg_type).unwrap_or("");
-        let message = self.message(alloc, heading, identities, self.next, msg_type, content)?;
+        let body = Body {
+            content,
+            buffers: Frames::new(Vec::new(alloc)),
+        };
+        let message = self.message(alloc, heading, identities, self.next, msg_type, body)?;
         self.next += 1;
         Ok(Some(message))
     }

@@ -34,7 +34,7 @@ pub use heading::Heading;
 pub use laws::law_one_course;
 pub use open_block::OpenBlock;
 pub use parts::Parts;
-pub use publishing::Publishing;
+pub use publishing::{Body, Publishing};
 pub use respond::{Answered, read_does};
 pub use response::Response;
 pub use side::Side;

@@ -3,6 +3,8 @@
 ghost use Rattle.std.specs.Prelude.{◌≡◌, [], ◌∷◌, IfOk, MatchResult, map};
 ghost use Rattle.jmsg_envelope.specs.Header.{header_octets};
 ghost use Rattle.kernel_engine.specs.Block.{empty_object, message, published};
+ghost use Rattle.jmsg_types.specs.Publication.{publication_data, topic};
+ghost use Rattle.serde_json.specs.Written.{compact_text};
 ghost use Rattle.kernel_engine.specs.Growth.{InFront, Puts, sealing_of, unless_silent};
 ghost use Rattle.kernel_engine.specs.Publications.{publication_of};
 
@@ -19,6 +21,15 @@ use std::collections::VecDeque;
 
 /// The last number for an id.
 pub(crate) const LAST_NUMBER: u64 = 1 << 63;
+
+/// What a message says: its content, and the buffers behind it.
+#[derive(Drop)]
+pub struct Body {
+    /// The content, which is JSON.
+    pub content: Octets,
+    /// The buffers: octets that go along as they are.
+    pub buffers: Frames,
+}
 
 /// What the messages of an engine are made and published with.
 #[derive(Drop)]
@@ -50,13 +61,11 @@ impl<P, S: Stamp> Publishing<P, S> {
         ensures { let grew = Puts P.sink S.stamp block.now.heading self.old self.new in
             MatchResult result (λ _. grew (unless_silent block.now.silent (publication ∷ []))) (λ _. grew []) }
     {
-        let put = if block.silent {
-            Ok(())
-        } else {
-            self.publish(alloc, &block.heading, &publication)
-        };
-        drop(publication);
-        put
+        if block.silent {
+            drop(publication);
+            return Ok(());
+        }
+        self.publish(alloc, &block.heading, publication)
     }
 
     /// Publishes a publication with the next number.
@@ -68,14 +77,15 @@ impl<P, S: Stamp> Publishing<P, S> {
         &mut self,
         alloc: Global,
         heading: &Heading,
-        publication: &Publication,
+        publication: Publication,
     ) -> Result<(), AllocError>
     where
         P: Publish<Item = Event<W>>,
         ensures { let grew = Puts P.sink S.stamp heading.now self.old self.new in
-            MatchResult result (λ _. grew (publication.now ∷ [])) (λ _. grew []) }
+            MatchResult result (λ _. grew (publication ∷ [])) (λ _. grew []) }
     {
         if self.next > LAST_NUMBER {
+            drop(publication);
             return Err(AllocError);
         }
         let message = self.publication(alloc, heading, self.next, publication)?;
@@ -122,28 +132,24 @@ impl<P, S: Stamp> Publishing<P, S> {
         alloc: Global,
         heading: &Heading,
         number: u64,
-        publication: &Publication,
+        publication: Publication,
     ) -> Result<Frames, AllocError>
         ensures { IfOk result (λ frames. frames
-            ≡ published (sealing_of S.stamp self.now) heading.now number publication.now) }
+            ≡ published (sealing_of S.stamp self.now) heading.now number publication) }
     {
-        let topic = Vec::from_slice(alloc, topic_of(publication).as_bytes())?;
-        let mut prefix = Vec::new(alloc);
-        prefix.push(topic)?;
-        let Ok(content) = content_text_of_publication(alloc, publication) else {
+        let Ok((prefix, content)) = topic_and_content(alloc, &publication) else {
+            drop(publication);
             return Err(AllocError);
         };
-        self.message(
-            alloc,
-            heading,
-            Frames::new(prefix),
-            number,
-            type_of(publication),
-            Octets::new(content),
-        )
+        let msg_type = type_of(&publication);
+        let body = Body {
+            content,
+            buffers: publication.into_buffers(alloc),
+        };
+        self.message(alloc, heading, prefix, number, msg_type, body)
     }
 
-    /// The message of this number, type and content, sealed behind a prefix.
+    /// The message of this number and type that says this, sealed behind a prefix.
     #[tactic(auto, unfolding(crate::specs::Block::message))]
     pub fn message(
         &self,
@@ -152,12 +158,12 @@ impl<P, S: Stamp> Publishing<P, S> {
         prefix: Frames,
         number: u64,
         msg_type: &str,
-        content: Octets,
+        body: Body,
     ) -> Result<Frames, AllocError>
         ensures { IfOk result (λ frames. frames
-            ≡ message (sealing_of S.stamp self.now) heading.now prefix number msg_type.now content) }
+            ≡ message (sealing_of S.stamp self.now) heading.now prefix number msg_type.now body) }
     {
-        let parts = match self.parts(alloc, heading, number, msg_type, content) {
+        let parts = match self.parts(alloc, heading, number, msg_type, body) {
             Ok(parts) => parts,
             Err(AllocError) => {
                 drop(prefix);
@@ -170,34 +176,37 @@ impl<P, S: Stamp> Publishing<P, S> {
         }
     }
 
-    /// The parts of the message of this number, type and content.
+    /// The parts of the message of this number and type that says this.
     fn parts(
         &self,
         alloc: Global,
         heading: &Heading,
         number: u64,
         msg_type: &str,
-        content: Octets,
+        body: Body,
     ) -> Result<MessageParts, AllocError>
         ensures { let sealing = sealing_of S.stamp self.now in
             IfOk result (λ parts. parts ≡ record {
               header = header_octets sealing.session (sealing.id number) heading.now.date msg_type.now;
               parent = heading.now.parent;
               metadata = empty_object;
-              content = content;
-              buffers = [];
+              content = body.content;
+              buffers = body.buffers;
             }) }
     {
         match self.heads(alloc, heading, number, msg_type) {
-            Ok((header, parent, metadata)) => Ok(MessageParts {
-                header: Octets::new(header),
-                parent: Octets::new(parent),
-                metadata: Octets::new(metadata),
-                content,
-                buffers: Frames::new(Vec::new(alloc)),
-            }),
+            Ok((header, parent, metadata)) => {
+                let Body { content, buffers } = body;
+                Ok(MessageParts {
+                    header: Octets::new(header),
+                    parent: Octets::new(parent),
+                    metadata: Octets::new(metadata),
+                    content,
+                    buffers,
+                })
+            }
             Err(AllocError) => {
-                drop(content);
+                drop(body);
                 Err(AllocError)
             }
         }
@@ -253,6 +262,23 @@ impl<P, S: Stamp> Publishing<P, S> {
     }
 }
 
+/// The topic of a publication, as the frame in front of its message, and the octets of its content, which is JSON.
+fn topic_and_content(
+    alloc: Global,
+    publication: &Publication,
+) -> Result<(Frames, Octets), AllocError>
+    ensures { IfOk result (λ made. (made.0 ≡ topic publication.now ∷ [])
+        × (made.1 ≡ compact_text (publication_data publication.now))) }
+{
+    let topic = Vec::from_slice(alloc, topic_of(publication).as_bytes())?;
+    let mut prefix = Vec::new(alloc);
+    prefix.push(topic)?;
+    let Ok(content) = content_text_of_publication(alloc, publication) else {
+        return Err(AllocError);
+    };
+    Ok((Frames::new(prefix), Octets::new(content)))
+}
+
 /// What a cell wrote, as it is published.
 fn publication_of(output: Output) -> Publication
     ensures { result ≡ publication_of output }
@@ -260,6 +286,6 @@ fn publication_of(output: Output) -> Publication
     match output {
         Output::Stdout(text) => Publication::Stream { err: false, text },
         Output::Stderr(text) => Publication::Stream { err: true, text },
-        Output::Display(text) => Publication::Display { text },
+        Output::Display(text, buffers) => Publication::Display { text, buffers },
     }
 }

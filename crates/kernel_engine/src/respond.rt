@@ -283,11 +283,7 @@ where
         MatchResult result (λ _. grew (option_to_list publication)) (λ _. grew []) }
 {
     match publication {
-        Some(publication) => {
-            let told = publishing.publish(alloc, heading, &publication);
-            drop(publication);
-            told
-        }
+        Some(publication) => publishing.publish(alloc, heading, publication),
         None => Ok(()),
     }
 }

@@ -1,10 +1,12 @@
-//! Connections of shell and control: one thread reads a peer's requests, another writes the replies.
+//! Connections of shell and control: one thread reads a peer's requests and answers its PINGs, another writes the
+//! replies.
 
 use crate::asking::shows_key;
 use crate::guest::Guest;
 use crate::mailbox::{Mailbox, Replies};
 use crate::mailboxes::{Caller, Mailboxes, wake};
 use crate::reader::{Gauge, Reader};
+use crate::shared_writer::{SharedWriter, pong_to};
 use crate::socket::Socket;
 use crossbeam_channel::{SendError, Sender};
 use crossbeam_utils::sync::{Parker, Unparker};
@@ -19,7 +21,7 @@ use std::thread;
 use std::thread::Threads;
 use std::time::{Clock, Duration};
 use zmtp_connection::{Intake, OpenPeer, hear, shake};
-use zmtp_wire::{Counted, SocketType, Traffic, text_len, write_all, write_message};
+use zmtp_wire::{Counted, SocketType, Traffic, text_len};
 
 /// For how many milliseconds a reader waits for credit, before it looks whether the connection was closed.
 const CREDIT_LOOK: u64 = 100;
@@ -58,7 +60,7 @@ impl Channel {
     }
 }
 
-/// Where a peer's messages go as jobs. Its commands are dropped, and what isn't signed.
+/// Where a peer's messages go as jobs. A PING is answered at once, other commands are dropped, and what isn't signed.
 #[derive(Drop)]
 struct Requests<R> {
     /// The handle to wait by.
@@ -73,6 +75,8 @@ struct Requests<R> {
     member: Member,
     /// What the reader waits by while too much is in work.
     parker: Parker,
+    /// What PONGs are written to.
+    writer: SharedWriter,
     /// What the connection has unfinished.
     gauge: Arc<Gauge, Global>,
     /// The connection's socket.
@@ -96,9 +100,7 @@ impl<R: Wait + Clock> Intake for Requests<R> {
             Traffic::Message(message) => self.receive(Frames::new(message.into_vec()), octets),
             Traffic::Command(name, rest) => {
                 self.gauge.finish(&self.rt, octets);
-                drop(name);
-                drop(rest);
-                Ok(true)
+                Ok(self.heed(Traffic::Command(name, rest)))
             }
         }
     }
@@ -154,6 +156,21 @@ impl<R: Wait + Clock> Requests<R> {
             self.is_over = true;
         }
         Ok(!self.is_over)
+    }
+
+    /// Answers a PING, unless its peer has left that may connect again, and ignores another command. Answers whether
+    /// nothing failed. A reply that the other thread has begun to write is written first, for which it waits.
+    fn heed(&self, command: Traffic) -> bool {
+        let pong = pong_to(&command);
+        drop(command);
+        match pong {
+            Some(pong) if !self.has_left() => {
+                let is_written = self.writer.pong(&self.rt, &pong);
+                self.gauge.resume(&self.rt);
+                is_written
+            }
+            Some(_) | None => true,
+        }
     }
 
     /// Whether a message is signed, by a peer that has shown that it holds the key, if only by this one.
@@ -270,8 +287,8 @@ impl<R: Wait + Clock> Requests<R> {
     }
 }
 
-/// Hears a peer with whom hands were shaken, until its octets end or are refused, or the intake gives it up. A peer whose
-/// identity is too long isn't heard.
+/// Hears a peer with whom hands were shaken, until its octets end or are refused, or the intake gives it up. A peer
+/// whose identity is too long isn't heard.
 pub(crate) fn hear_out<R, T>(
     alloc: Global,
     reader: &mut Counted<Reader<R>>,
@@ -344,9 +361,23 @@ fn serve_open<R>(rt: R, alloc: Global, guest: &Guest, channel: Channel, shaken: 
 where
     R: Threads + Wait + Clock + Copy + Send + Sync + Drop + 'static,
 {
-    match requests_of(rt, alloc, guest, channel, shaken.peer.identity()) {
-        Some(ends) => serve_both(rt, alloc, guest, ends, shaken),
-        None => drop(shaken),
+    let Shaken {
+        reader,
+        writer,
+        peer,
+    } = shaken;
+    let Some(writers) = SharedWriter::twice(alloc, writer) else {
+        drop(channel);
+        drop(reader);
+        drop(peer);
+        return;
+    };
+    match requests_of(rt, alloc, guest, channel, peer.identity(), writers) {
+        Some(ends) => serve_both(rt, alloc, guest, ends, (reader, peer)),
+        None => {
+            drop(reader);
+            drop(peer);
+        }
     }
 }
 
@@ -356,18 +387,14 @@ fn serve_both<R>(
     alloc: Global,
     guest: &Guest,
     ends: (Requests<R>, Replies),
-    shaken: Shaken<R>,
+    said: (Counted<Reader<R>>, OpenPeer),
 )
 where
     R: Threads + Wait + Clock + Copy + Send + Sync + Drop + 'static,
 {
     let (mut requests, replies) = ends;
-    let Shaken {
-        mut reader,
-        writer,
-        peer,
-    } = shaken;
-    match thread::spawn(&rt, move || replies.write_all(rt, alloc, writer)) {
+    let (mut reader, peer) = said;
+    match thread::spawn(&rt, move || replies.write_all(rt, alloc)) {
         Ok(writing) => {
             hear_out(alloc, &mut reader, peer, &mut requests);
             drop(reader);
@@ -394,9 +421,11 @@ fn requests_of<R: Wait + Clock + Drop>(
     guest: &Guest,
     channel: Channel,
     identity: &[u8],
+    writers: (SharedWriter, SharedWriter),
 ) -> Option<(Requests<R>, Replies)> {
     let Some(shares) = shares_of(alloc, guest, identity) else {
         drop(channel);
+        drop(writers);
         return None;
     };
     let caller = Caller {
@@ -406,12 +435,13 @@ fn requests_of<R: Wait + Clock + Drop>(
         reader: &shares.wakes_reader,
         now: guest.gauge.now(&rt),
     };
-    let Some((replies, mailbox, shared)) = ends_of(&rt, &channel, caller) else {
+    let Some(ends) = ends_of(&rt, &channel, caller) else {
         drop(channel);
         drop(shares);
+        drop(writers);
         return None;
     };
-    Some(joined(rt, alloc, channel, shares, (replies, mailbox, shared)))
+    Some(joined(rt, alloc, channel, shares, ends, writers))
 }
 
 /// Where replies to a peer are put, and its mailbox twice.
@@ -444,8 +474,10 @@ fn joined<R: Wait + Clock + Drop>(
     channel: Channel,
     shares: Shares,
     ends: Ends,
+    writers: (SharedWriter, SharedWriter),
 ) -> (Requests<R>, Replies) {
     let (replies, mailbox, shared) = ends;
+    let (answering, replying) = writers;
     let is_named = !shares.identity.is_empty();
     let member = Member {
         number: shares.number,
@@ -461,6 +493,7 @@ fn joined<R: Wait + Clock + Drop>(
         replies,
         member,
         parker: shares.reader,
+        writer: answering,
         gauge: shares.gauge,
         socket: shares.socket,
         is_over: false,
@@ -471,6 +504,7 @@ fn joined<R: Wait + Clock + Drop>(
         mailbox: shared,
         parker: shares.writer,
         reader: shares.wakes_reader,
+        writer: replying,
         socket: shares.closed,
     };
     (requests, replies)
@@ -554,13 +588,4 @@ fn parker_of(alloc: Global) -> Option<(Parker, Unparker)> {
             None
         }
     }
-}
-
-/// Writes a message in as few writes as it takes, and answers whether that went well.
-pub(crate) fn write_whole(alloc: Global, writer: &mut Counted<Socket>, frames: &[Vec<u8>]) -> bool {
-    if frames.is_empty() {
-        return true;
-    }
-    let mut text = Vec::new(alloc);
-    write_message(alloc, frames, &mut text).is_ok() && write_all(writer, &text).is_ok()
 }

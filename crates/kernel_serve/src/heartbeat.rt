@@ -1,17 +1,18 @@
 //! Connections of the heartbeat.
 
-use crate::connection::{hear_out, octets_of, write_whole};
+use crate::connection::{hear_out, octets_of};
 use crate::guest::Guest;
 use crate::reader::{Gauge, Reader};
+use crate::shared_writer::{pong_to, write_whole};
 use crate::socket::Socket;
 use kernel_limits::limits::{HEARTBEAT_OCTETS, READS};
 use std::alloc::{AllocError, Global};
 use std::sync::{Arc, Wait};
 use std::time::Clock;
 use zmtp_connection::{Intake, OpenPeer, shake};
-use zmtp_wire::{Counted, SocketType, Traffic};
+use zmtp_wire::{Counted, SocketType, Traffic, write_all};
 
-/// Where a peer's messages go, which are written back. Its commands are dropped.
+/// Where a peer's messages go, which are written back. A PING is answered by its PONG, other commands are dropped.
 #[derive(Drop)]
 struct Echo<R: Wait + Clock + Drop> {
     /// The handle to wait by.
@@ -42,19 +43,22 @@ impl<R: Wait + Clock + Drop> Intake for Echo<R> {
 }
 
 impl<R: Wait + Clock + Drop> Echo<R> {
-    /// Writes a message back, and answers whether that went well.
+    /// Writes a message back, or the PONG of a PING, and answers whether that went well.
     fn write_back(&mut self, traffic: &Traffic) -> bool {
         match traffic {
             Traffic::Message(message) => {
                 write_whole(self.alloc, &mut self.writer, message.as_slice())
             }
-            Traffic::Command(..) => true,
+            Traffic::Command(..) => match pong_to(traffic) {
+                Some(pong) => write_all(&mut self.writer, pong.octets()).is_ok(),
+                None => true,
+            },
         }
     }
 }
 
-/// Serves a peer of the heartbeat as a REP: shakes hands with it, and writes each message back. Returns when its octets
-/// ended or are refused, or a write failed.
+/// Serves a peer of the heartbeat as a REP: shakes hands with it, writes each message back and answers each PING.
+/// Returns when its octets ended or are refused, or a write failed.
 pub(crate) fn serve_heartbeat<R>(rt: R, alloc: Global, guest: &Guest)
 where
     R: Wait + Clock + Copy + Drop,

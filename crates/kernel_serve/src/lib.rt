@@ -19,6 +19,7 @@ mod reader;
 mod server;
 mod service;
 mod serving;
+mod shared_writer;
 mod socket;
 mod stamp;
 mod subscriber;

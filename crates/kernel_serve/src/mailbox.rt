@@ -1,7 +1,7 @@
 //! The replies to a peer, and the connection on which they are written. They are a mailbox's, and not a connection's: a
 //! peer that gives itself an identity may connect again, and gets what wasn't written yet.
 
-use crate::connection::write_whole;
+use crate::shared_writer::SharedWriter;
 use crate::socket::Socket;
 use crossbeam_channel::{Receiver, RecvTimeoutError};
 use crossbeam_utils::sync::{Parker, Unparker};
@@ -10,7 +10,6 @@ use kernel_workers::{Account, ReplyMessage};
 use std::alloc::Global;
 use std::sync::{Arc, Mutex, Wait};
 use std::time::{Clock, Duration};
-use zmtp_wire::Counted;
 
 /// For how many milliseconds it is waited for a reply, before it is looked whether the connection was closed.
 const REPLY_LOOK: u64 = 1_000;
@@ -186,19 +185,13 @@ impl Mailbox {
     }
 
     /// Writes the next reply to the peer of a connection, if that has the mailbox. What can't be written waits on.
-    fn write_next<R: Wait + Clock>(
-        &self,
-        rt: &R,
-        alloc: Global,
-        peer: &Replies,
-        writer: &mut Counted<Socket>,
-    ) -> Look {
+    fn write_next<R: Wait + Clock>(&self, rt: &R, alloc: Global, peer: &Replies) -> Look {
         let mut due = self.due.lock(rt);
         if !self.is_of(rt, peer.number) {
             return Look::Nothing;
         }
         match due.next(rt) {
-            Ok(reply) => self.write_out(rt, alloc, peer, writer, (&mut due, reply)),
+            Ok(reply) => self.write_out(rt, alloc, peer, (&mut due, reply)),
             Err(RecvTimeoutError::Timeout) => Look::Nothing,
             Err(RecvTimeoutError::Disconnected) => Look::Last,
         }
@@ -211,7 +204,6 @@ impl Mailbox {
         rt: &R,
         alloc: Global,
         peer: &Replies,
-        writer: &mut Counted<Socket>,
         next: (&mut Due, ReplyMessage),
     ) -> Look {
         let (due, reply) = next;
@@ -219,7 +211,7 @@ impl Mailbox {
             due.put_back(reply);
             return Look::Nothing;
         }
-        if write_whole(alloc, writer, reply.frames.as_slice()) {
+        if peer.writer.message(rt, alloc, reply.frames.as_slice()) {
             drop(reply);
             return Look::Written;
         }
@@ -266,6 +258,8 @@ pub(crate) struct Replies {
     pub(crate) parker: Parker,
     /// Wakes the connection's reader.
     pub(crate) reader: Unparker,
+    /// What replies are written to.
+    pub(crate) writer: SharedWriter,
     /// The connection's socket.
     pub(crate) socket: Socket,
 }
@@ -273,23 +267,16 @@ pub(crate) struct Replies {
 impl Replies {
     /// Writes replies to the peer, until nobody is left who could send one, the connection is closed, a write fails or
     /// there is no memory for a text. Then the peer is to know that, and isn't heard any more.
-    pub(crate) fn write_all<R: Wait + Clock + Drop>(
-        self,
-        rt: R,
-        alloc: Global,
-        writer: Counted<Socket>,
-    ) {
-        let mut writer = writer;
-        self.write_each(&rt, alloc, &mut writer);
+    pub(crate) fn write_all<R: Wait + Clock + Drop>(self, rt: R, alloc: Global) {
+        self.write_each(&rt, alloc);
         self.reader.unpark();
-        drop(writer);
         drop(self);
     }
 
     /// Writes replies to the peer, until there comes none any more or one can't be written.
-    fn write_each<R: Wait + Clock>(&self, rt: &R, alloc: Global, writer: &mut Counted<Socket>) {
+    fn write_each<R: Wait + Clock>(&self, rt: &R, alloc: Global) {
         for _ in rt.forever() {
-            match self.look(rt, alloc, writer) {
+            match self.look(rt, alloc) {
                 Look::Written => self.reader.unpark(),
                 Look::Nothing => {}
                 Look::Last => return,
@@ -309,7 +296,7 @@ impl Replies {
 
     /// Writes the next reply, if the connection has the mailbox and its peer hasn't left; else it asks for the mailbox,
     /// or waits for a while.
-    fn look<R: Wait + Clock>(&self, rt: &R, alloc: Global, writer: &mut Counted<Socket>) -> Look {
+    fn look<R: Wait + Clock>(&self, rt: &R, alloc: Global) -> Look {
         if self.socket.is_shut() {
             return Look::Failed;
         }
@@ -320,7 +307,7 @@ impl Replies {
             return Look::Nothing;
         }
         if self.mailbox.is_of(rt, self.number) {
-            return self.mailbox.write_next(rt, alloc, self, writer);
+            return self.mailbox.write_next(rt, alloc, self);
         }
         if self.socket.is_ended() {
             return Look::Last;

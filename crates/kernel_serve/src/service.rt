@@ -16,7 +16,7 @@ pub(crate) enum Service<R: Wait + Clock + Drop> {
     Requests(Channel),
     /// IOPub: who comes, what it asks for and who leaves goes into the inbox of subscriptions.
     Subscriptions(SubscriptionsInbox<R>),
-    /// The heartbeat: each message is written back.
+    /// The heartbeat: each message is written back, and each PING answered.
     Heartbeat,
 }
 

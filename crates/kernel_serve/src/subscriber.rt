@@ -64,7 +64,9 @@ impl Asked {
         match event {
             Event::Subscribe(_, topic) => self.add(rt, topic.as_slice()),
             Event::Cancel(_, topic) => Ok(self.take_out(rt, topic.as_slice())),
-            Event::Message(_) | Event::Attach(..) | Event::Detach(_) => Ok(Asks::Something),
+            Event::Message(_) | Event::Attach(..) | Event::Pong(..) | Event::Detach(_) => {
+                Ok(Asks::Something)
+            }
         }
     }
 
@@ -124,7 +126,7 @@ fn asks_for(topic: &[u8]) -> Asks {
     }
 }
 
-/// Where a subscriber's subscriptions go as events. All else that it sends is dropped.
+/// Where a subscriber's subscriptions and PINGs go as events. All else that it sends is dropped.
 #[derive(Drop)]
 struct Subscriptions<R: Wait + Clock + Drop> {
     /// The handle to wait by.
@@ -168,7 +170,7 @@ impl<R: Wait + Clock + Drop> Intake for Subscriptions<R> {
 }
 
 impl<R: Wait + Clock + Drop> Subscriptions<R> {
-    /// Tells the worker of subscriptions what the subscriber asks for by a message of so many octets, if it may, and
+    /// Tells the worker of subscriptions what the subscriber asks for by traffic of so many octets, if it may, and
     /// answers whether that went well.
     ///
     /// # Errors

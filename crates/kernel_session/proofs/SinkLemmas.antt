@@ -60,7 +60,7 @@ module _ {I P S W Cell : Type 0} (world : World I P S W Cell)
       → Treats (WorksOne world may) old item reply new answered
       → HasSink old new
   sink_treated old new (traffic.Message message) reply answered step = sink_one old new message reply answered step
-  sink_treated old new (traffic.Command name rest) reply answered (none, same, goes) = sink_stays old new same
+  sink_treated old new (traffic.Command name rest) reply answered (pong, same, goes) = sink_stays old new same
 
   -- traffic that is treated in turn
   sink_all : (old new : Serving (Parts I P S W)) (items : List Traffic) (replies : List ℕ)

@@ -7,6 +7,7 @@ use Rattle.std.proofs.lemmas.List.{append-nil, map-append}
 use Rattle.zmtp_wire.specs.declared.handshake.socket_type.SocketType.TheVariants.{Router}
 use Rattle.zmtp_wire.specs.declared.traffic.Traffic.{Traffic}
 use Rattle.zmtp_wire.specs.declared.traffic.Traffic.TheVariants as traffic
+use Rattle.zmtp_wire.specs.Ping.{pong_to}
 use Rattle.zmtp_connection.specs.declared.end.ConnectionEnd.{ConnectionEnd}
 use Rattle.zmtp_connection.specs.declared.end.ConnectionEnd.TheVariants as ended
 use Rattle.zmtp_connection.specs.declared.end.Ending.{Ending}
@@ -192,11 +193,11 @@ module _ {I P S W Cell : Type 0} (world : World I P S W Cell) (may : Type 0) whe
 
   -- the engine stayed at the first, and treated the others
   treated_past : (old middle new : Parts I P S W) (first : Traffic) (items : List Traffic)
-      (reply later replies : List ℕ) → middle ≡ old → reply ≡ []
-      → ((standing : Standing I) → Treats (Performs world.language may (setting_of world.stamp old)) standing first []
-      standing (Ok Done))
+      (reply later replies : List ℕ) → middle ≡ old
+      → ((standing : Standing I) → Treats (Performs world.language may (setting_of world.stamp old)) standing first
+      reply standing (Ok Done))
       → IsTreated middle items later new → replies ≡ reply ++ later → IsTreated old (first ∷ items) replies new
-  treated_past old middle new first items reply later replies same none stay rest is =
+  treated_past old middle new first items reply later replies same stay rest is =
       let next = subst (λ (e : Parts I P S W). IsTreated e items later new) same rest in
       record {
         runs = next.runs;
@@ -205,11 +206,11 @@ module _ {I P S W Cell : Type 0} (world : World I P S W Cell) (may : Type 0) whe
         stays = next.stays;
         all = λ published more. (
           tells old published (next.runs ++ more),
-          [],
+          reply,
           later,
           (Done, stay (standing_of old published (next.runs ++ more)), refl),
           next.all published more,
-          is ∙ ap (λ o. o ++ later) none,
+          is,
         );
       }
 
@@ -247,17 +248,17 @@ module _ {I P S W Cell : Type 0} (world : World I P S W Cell) (may : Type 0) whe
       → answered ≡ Done → IsTreated middle items later new → replies ≡ reply ++ later
       → IsTreated old (first ∷ items) replies new
   treated_one old middle new (traffic.Message message) items reply later replies Done (inl ignores) done rest is =
-      treated_past old middle new (traffic.Message message) items reply later replies ignores.same ignores.silent
-      (λ standing. inl (ignores.refused, refl, refl)) rest is
+      treated_past old middle new (traffic.Message message) items reply later replies ignores.same
+      (λ standing. inl (ignores.refused, ignores.silent, refl)) rest is
   treated_one old middle new (traffic.Message message) items reply later replies Done (inr through) done rest is =
       treated_on old middle new message items reply later replies through.handled
       (is_done old message through.handled reply middle through.works through.replied) through.end rest is
   treated_one old middle new (traffic.Message message) items reply later replies Dropped step done rest is =
       absurd (let e = done in cc)
-  treated_one old middle new (traffic.Command name said) items reply later replies answered (none, same, goes) done rest
+  treated_one old middle new (traffic.Command name said) items reply later replies answered (pong, same, goes) done rest
       is =
-      treated_past old middle new (traffic.Command name said) items reply later replies same none
-      (λ standing. (refl, refl, refl)) rest is
+      treated_past old middle new (traffic.Command name said) items reply later replies same
+      (λ standing. (pong, refl, refl)) rest is
 
   treated_all : (old new : Serving (Parts I P S W)) (items : List Traffic) (replies : List ℕ)
       → AnswersAll (GoesOn (WorksOne world may)) old items replies new
@@ -386,6 +387,56 @@ module _ {I P S W Cell : Type 0} (world : World I P S W Cell) (may : Type 0) whe
         stays = one.stays ∙ treated.stays;
       }
 
+  -- a session that ended where a PONG couldn't be written
+  told_unponged : (old new : Parts I P S W) (octets written : List ℕ) (ending : Ending SessionEnd)
+      → ending ≡ Connection (ended.Failed Write)
+      → (served : IsServed false (WorksOne world may) Router old octets written new ending)
+      (last : IsLast (WorksOne world may) served.converses.now
+      served.converses.rest served.converses.replies served.replies (record { server = new; dropped = false }) ending)
+      → (name rest : List ℕ) → last.last ≡ traffic.Command name rest
+      → last.reply ≡ pong_to (traffic.Command name rest) → new ≡ served.converses.now.server
+      → served.converses.now.dropped ≡ false → BreaksIn served.converses.replies last.reply served.replies
+      → TellsSession world may old octets written new ending
+  told_unponged old new octets written ending is served last name rest named pong same kept breaks =
+      let talk = served.converses in
+      let treated = subst (λ e. IsTreated old talk.traffic talk.replies e) (sym same)
+      (treated_all (begins old) talk.now talk.traffic talk.replies talk.answered kept) in
+      let now = standing_of new treated.messages [] in
+      record {
+        runs = treated.runs ++ [];
+        published = treated.messages;
+        session = inr (record {
+          opening = served.opening;
+          peer = served.peer;
+          behind = served.behind;
+          replies = served.replies;
+          is_open = served.is_open;
+          converses = record {
+            traffic = talk.traffic;
+            rest = talk.rest;
+            read = talk.read;
+            calm = talk.calm;
+            now = tells new treated.messages [];
+            replies = talk.replies;
+            answered = treated.all [] [];
+            ends = inr (record {
+              last = last.last;
+              comes = last.comes;
+              harmless = last.harmless;
+              reply = last.reply;
+              answered = Ok Done;
+              step = subst (λ t. Treats (Performs world.language may (setting_of world.stamp old)) now t last.reply now
+                  (Ok Done)) (sym named) (pong, refl, refl);
+              mark = refl;
+              how = inr (is, breaks);
+            });
+          };
+          all = served.all;
+        });
+        listed = treated.listed;
+        stays = treated.stays;
+      }
+
   -- a session that ended where the reply to one traffic couldn't be written
   told_cut : (old new : Parts I P S W) (octets written : List ℕ) (ending : Ending SessionEnd)
       → ending ≡ Connection (ended.Failed Write)
@@ -398,9 +449,9 @@ module _ {I P S W Cell : Type 0} (world : World I P S W Cell) (may : Type 0) whe
       → BreaksIn served.converses.replies last.reply served.replies
       → TellsSession world may old octets written new ending
   told_cut old new octets written ending is served last (traffic.Command name rest) named answered
-      (none, same, goes) mark
-      breaks =
-      absurd (no_break served.converses.replies last.reply served.replies breaks none)
+      (pong, same, goes) mark breaks =
+      told_unponged old new octets written ending is served last name rest named pong same
+      (sym (mark ∙ ap (marked served.converses.now.dropped) goes)) breaks
   told_cut old new octets written ending is served last (traffic.Message message) named (Ok Done) (inl ignores) mark
       breaks =
       absurd (no_break served.converses.replies last.reply served.replies breaks ignores.silent)

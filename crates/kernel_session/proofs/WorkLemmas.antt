@@ -17,6 +17,7 @@ use Rattle.kernel_engine.specs.Block.{Message, Sealing, message, reply_message}
 use Rattle.kernel_engine.specs.Growth.{sealing_of}
 use Rattle.kernel_engine.specs.Handles.{HandlesOk}
 use Rattle.kernel_engine.specs.WellBlocked.{heading_of, past}
+use Rattle.kernel_engine.specs.declared.publishing.Body.{Body}
 use Rattle.kernel_engine.specs.World.{World}
 use Rattle.kernel_session.specs.declared.end.SessionEnd.{SessionEnd}
 use Rattle.kernel_session.specs.declared.end.SessionEnd.TheVariants.{Shutdown, Failed}
@@ -28,10 +29,10 @@ use Rattle.kernel_engine.specs.declared.asked.Done.TheVariants as variant
 use Rattle.kernel_engine.specs.Takes.{Takes}
 
 -- a message has frames
-message_frames : (sealing : Sealing) (heading : Heading) (prefix : List (List ℕ)) (number : ℕ) (kind content : List ℕ)
-    → 0 < length (message sealing heading prefix number kind content)
+message_frames : (sealing : Sealing) (heading : Heading) (prefix : List (List ℕ)) (number : ℕ) (kind : List ℕ)
+    (body : Body) → 0 < length (message sealing heading prefix number kind body)
 unfolding message
-message_frames sealing heading prefix number kind content = omega (arith, length-append {A = List ℕ})
+message_frames sealing heading prefix number kind body = omega (arith, length-append {A = List ℕ})
 
 reply_frames : (sealing : Sealing) (heading : Heading) (identities : List (List ℕ)) (number : ℕ) (kind : List ℕ)
     (reply : Option Reply)

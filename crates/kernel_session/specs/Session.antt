@@ -110,8 +110,8 @@ module _ {State Cell : Type 0} (m : Meaning State Cell) (may : Type 0) (setting 
   IsSession old octets written new ending = Serves false Performs Router old octets written new ending
 
 -- A session that ended so came to an end by what was read, or by a read or a write: no memory and no id was wanting,
--- and no request came back for an idle that is owed. Where a write failed, it is that of the messages up to the one in
--- whose reply it did: what comes before that is written, and a beginning of it.
+-- and no request came back for an idle that is owed. Where a write failed, it is that of the messages and PINGs up to
+-- the one in whose reply or PONG it did: what comes before that is written, and a beginning of it.
 abbrev pub IsTold : Ending SessionEnd → Type 0
 IsTold (Connection ended.Eof) = ⊤
 IsTold (Connection (ended.Wire fault)) = fault ≢ OutOfMemory

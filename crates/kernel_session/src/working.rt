@@ -1,4 +1,5 @@
-//! Sessions of an engine with a peer: each message is opened, handled as a request, and its reply written.
+//! Sessions of an engine with a peer: each message is opened, handled as a request, and its reply written; and each PING
+//! is answered.
 
 ghost use Rattle.std.specs.Prelude.{◌≡◌, ◌<◌, ◌++◌, ℕ, List, Bool, length, IfSome};
 ghost use Rattle.zmtp_wire.specs.declared.handshake.socket_type.SocketType.TheVariants.{Router};
@@ -154,8 +155,8 @@ fn employ<R: Inlet, W: Outlet, E: Worker, T: Stop>(
 }
 
 /// A session of an engine with a peer, as a ROUTER: greeting out, greeting in, READY out, READY in, and then each
-/// message opened, done as a request and its reply written. A message that is no request under the engine's key is
-/// dropped. A request for a shutdown ends the session as `Shutdown` with whether to restart, its reply written, and
+/// message opened, done as a request and its reply written, and each PING answered by its PONG. A message that is no
+/// request under the engine's key is dropped. A request for a shutdown ends the session as `Shutdown` with whether to restart, its reply written, and
 /// nothing is read behind it. Where the engine refuses a request, the session ends `Failed` with its fault. One that no
 /// memory was left to open is dropped, and the session goes on and ends as the connection, `Failed` with `Memory`. At
 /// most `turns` reads are made.

@@ -41,6 +41,7 @@ IsNoMessage (Some (events.Message frames)) = ⊥
 IsNoMessage (Some (events.Attach id writer)) = ⊤
 IsNoMessage (Some (events.Subscribe id topic)) = ⊤
 IsNoMessage (Some (events.Cancel id topic)) = ⊤
+IsNoMessage (Some (events.Pong id context)) = ⊤
 IsNoMessage (Some (events.Detach id)) = ⊤
 
 -- the worker of subscriptions left the closing token of its publisher, whose list has no message and ends with the

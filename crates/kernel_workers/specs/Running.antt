@@ -52,7 +52,7 @@ pub record TookAll {W : Type 0} (outflow : W → Outflow) (shell control subscri
 -- How a kernel ends. All that was published was taken. What shell published, and what control did, is well blocked:
 -- each request's messages stand between its busy and its idle, signed with the kernel's key, under the ids and dates of
 -- the channel's stamp. Of subscriptions no message was published. Each subscriber that is left got the texts of the
--- messages of its life that match its topics, or a beginning of that where it failed.
+-- messages of its life that match its topics, and the PONGs that it asked for, or a beginning of that where it failed.
 pub record EndsWell {I S W Cell : Type 0} (m : Meaning I Cell) (stamps : Stamping S) (outflow : W → Outflow)
     (parts : Parts I S W) (ended : KernelEnd W) : Type 0 where
   pub capacity : IsCapacity parts.capacity

@@ -48,9 +48,9 @@ pub struct KernelEnd<W> {
 
 /// Runs a kernel until a request asks for a shutdown, all ids of a channel were given, or an end note comes into the
 /// inbox of control or of shell: four workers, each in a thread of its own. Shell and control handle the requests of
-/// their inboxes. The worker of subscriptions publishes that subscribers come, ask for topics, give them up and leave.
-/// The relay serves all that is published. The workers hold senders of the inboxes themselves, so dropping all
-/// others ends nothing.
+/// their inboxes. The worker of subscriptions publishes that subscribers come, ask for topics or a PONG, give topics up
+/// and leave. The relay serves all that is published. The workers hold senders of the inboxes themselves, so dropping
+/// all others ends nothing.
 ///
 /// # Errors
 ///

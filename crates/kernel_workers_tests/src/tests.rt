@@ -128,6 +128,10 @@ fn text_of(alloc: Global, number: usize, event: &Event<()>) -> Result<String, Fa
         Event::Attach(id, ()) => Ok(format!(in alloc; "{number} attach {id}")?),
         Event::Subscribe(id, _) => Ok(format!(in alloc; "{number} subscribe {id}")?),
         Event::Cancel(id, _) => Ok(format!(in alloc; "{number} cancel {id}")?),
+        Event::Pong(id, context) => Ok(format!(in alloc;
+            "{number} pong {id} {:?}",
+            context.as_slice()
+        )?),
         Event::Detach(id) => Ok(format!(in alloc; "{number} detach {id}")?),
     }
 }

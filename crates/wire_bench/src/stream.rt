@@ -110,7 +110,7 @@ fn message_count(bodies: &[usize]) -> Count {
     count
 }
 
-/// Appends the text of a message of these bodies (ZMTP 3.0, "Framing"), without a body of its own in memory.
+/// Appends the text of a message of these bodies (RFC 23, "Framing"), without a body of its own in memory.
 fn append_message(bodies: &[usize], octets: &mut Vec<u8>) -> Result<(), AllocError> {
     for (place, body) in bodies.iter().enumerate() {
         append_head(place + 1 < bodies.len(), *body, octets)?;

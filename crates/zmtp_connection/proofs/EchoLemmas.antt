@@ -34,8 +34,8 @@ went_back : {Server : Type 0} (old new : Server) (item : Traffic) (reply : List 
     → after ≡ marked {End = AllocError} before (Ok answered) → (reply ≡ echo_of item) × (after ≡ before)
 went_back old new (traffic.Message message) reply Done before after same mark = (same, mark)
 went_back old new (traffic.Message message) reply Dropped before after never mark = absurd never
-went_back old new (traffic.Command name rest) reply Done before after (none, stays, is) mark = (none, mark)
-went_back old new (traffic.Command name rest) reply Dropped before after (none, stays, is) mark =
+went_back old new (traffic.Command name rest) reply Done before after (pong, stays, is) mark = (pong, mark)
+went_back old new (traffic.Command name rest) reply Dropped before after (pong, stays, is) mark =
     absurd (let e = is in cc)
 
 came_back : {Server : Type 0} (old new : Serving Server) (items : List Traffic) (replies : List ℕ)
@@ -57,8 +57,8 @@ back_front old new (traffic.Message message) reply (Ok Done) same = ([], sym sam
 back_front old new (traffic.Message message) reply (Ok Dropped) never = absurd never
 back_front old new (traffic.Message message) reply (Err error) none =
     (text message, ap (λ o. o ++ text message) (sym none))
-back_front old new (traffic.Command name rest) reply answered (none, stays, is) =
-    ([], sym none ∙ sym (append-nil reply))
+back_front old new (traffic.Command name rest) reply answered (pong, stays, is) =
+    ([], sym pong ∙ sym (append-nil reply))
 
 -- where the heartbeat ended it, it replied nothing
 gave_up : {Server : Type 0} (old new : Server) (last : Traffic) (reply : List ℕ)
@@ -66,7 +66,8 @@ gave_up : {Server : Type 0} (old new : Server) (last : Traffic) (reply : List �
     → answered ≡ Err error → reply ≡ []
 gave_up old new (traffic.Message message) reply (Ok answered) error step is = absurd (let e = is in cc)
 gave_up old new (traffic.Message message) reply (Err found) error none is = none
-gave_up old new (traffic.Command name rest) reply answered error (none, stays, done) is = none
+gave_up old new (traffic.Command name rest) reply answered error (pong, stays, done) is =
+    absurd (let e = sym done ∙ is in cc)
 
 -- no message is dropped
 last_kept : {Server : Type 0} (old new : Server) (last : Traffic) (reply : List ℕ)
@@ -75,7 +76,7 @@ last_kept : {Server : Type 0} (old new : Server) (last : Traffic) (reply : List 
 last_kept old new (traffic.Message message) reply (Ok Done) before after step mark = mark
 last_kept old new (traffic.Message message) reply (Ok Dropped) before after never mark = absurd never
 last_kept old new (traffic.Message message) reply (Err error) before after step mark = mark
-last_kept old new (traffic.Command name rest) reply answered before after (none, stays, done) mark =
+last_kept old new (traffic.Command name rest) reply answered before after (pong, stays, done) mark =
     mark ∙ ap (marked before) done
 
 -- how the heartbeat is told to end: where a message found no memory, for want of it

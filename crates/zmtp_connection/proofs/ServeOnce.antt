@@ -33,9 +33,8 @@ step_once : {Server End : Type 0} (settles : End → Bool) (answers : Answering 
 step_once settles answers once state one other (traffic.Message message) reply also first second done did a b =
     once state one other message reply also first second done did a b
 step_once settles answers once state one other (traffic.Command name rest) reply also first second done did
-    (none, stays, is)
-    (nothing, keeps, same) =
-    (none ∙ sym nothing, stays ∙ sym keeps, is ∙ sym same)
+    (pong, stays, is) (other_pong, keeps, same) =
+    (pong ∙ sym other_pong, stays ∙ sym keeps, is ∙ sym same)
 
 -- nothing was dropped, and so it wasn't before
 pub unmarked : {End : Type 0} (settles : End → Bool) (before : Bool) (answered : Answered) (after : Bool)

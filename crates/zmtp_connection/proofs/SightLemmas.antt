@@ -31,8 +31,8 @@ treats_seen : {Server Other End : Type 0} {answers : Answering Server End} {sees
     → s.holds new × Treats sees (s.view old) item reply (s.view new) answered
 treats_seen s old new (traffic.Message message) reply answered holds step =
     s.steps old new message reply answered holds step
-treats_seen s old new (traffic.Command name rest) reply answered holds (none, same, done) =
-    (subst s.holds (sym same) holds, (none, ap s.view same, done))
+treats_seen s old new (traffic.Command name rest) reply answered holds (pong, same, done) =
+    (subst s.holds (sym same) holds, (pong, ap s.view same, done))
 
 -- what is seen of a server in a session
 abbrev seen : {Server Other End : Type 0} {answers : Answering Server End} {sees : Answering Other End}

@@ -1,4 +1,4 @@
--- The heartbeat: what a peer of a REP socket says comes back.
+-- The heartbeat: the messages of a peer of a REP socket come back, and its PINGs are answered.
 use Rattle.std.specs.Prelude.{◌≡◌, ◌⊎◌, ℕ, List, [], ◌++◌, false, Result, Ok, Err}
 use Rattle.std.specs.List.{flat_map}
 use Rattle.zmtp_wire.specs.declared.handshake.socket_type.SocketType.{SocketType}
@@ -9,6 +9,7 @@ use Rattle.zmtp_wire.specs.declared.traffic.Traffic.TheVariants as traffic
 use Rattle.zmtp_wire.specs.Frame.{text}
 use Rattle.zmtp_wire.specs.Limits.{usual_limits}
 use Rattle.zmtp_wire.specs.Grammar.{ReadsUpTo}
+use Rattle.zmtp_wire.specs.Ping.{pong_to}
 use Rattle.zmtp_wire.specs.Traffic.{is_error}
 use Rattle.zmtp_connection.specs.declared.server.Answered.{Answered}
 use Rattle.zmtp_connection.specs.declared.server.Answered.TheVariants.{Done, Dropped}
@@ -26,10 +27,10 @@ EchoesOne message reply (Ok Done) = reply ≡ text message
 EchoesOne message reply (Ok Dropped) = ⊥
 EchoesOne message reply (Err end) = reply ≡ []
 
--- what comes back of traffic: a message whole, and nothing of a command
+-- what comes back of traffic: a message whole, the PONG of a PING, and nothing of another command
 abbrev pub echo_of : Traffic → List ℕ
 echo_of (traffic.Message message) = text message
-echo_of (traffic.Command name rest) = []
+echo_of (traffic.Command name rest) = pong_to (traffic.Command name rest)
 
 -- The heartbeat ended at one traffic, which isn't the command ERROR, behind traffic that came back: there was no
 -- memory for it, or a write failed in it.
@@ -41,7 +42,8 @@ pub record IsCutShort (opening : List ℕ) (traffic : List Traffic) (rest writte
   pub how : ((end ≡ Failed Memory) × (written ≡ opening ++ flat_map echo_of traffic))
       ⊎ ((end ≡ Failed Write) × BreaksIn (opening ++ flat_map echo_of traffic) (echo_of last) written)
 
--- A peer was open, and each of its messages came back whole, behind what opens the connection.
+-- A peer was open, and each of its messages came back whole, and each of its PINGs had its PONG, behind what opens the
+-- connection.
 pub record IsEchoed (octets written : List ℕ) (end : ConnectionEnd) : Type 0 where
   pub opening : List ℕ
   pub peer : SocketType

@@ -8,6 +8,7 @@ use Rattle.zmtp_wire.specs.declared.traffic.Traffic.{Traffic}
 use Rattle.zmtp_wire.specs.declared.traffic.Traffic.TheVariants as traffic
 use Rattle.zmtp_wire.specs.Limits.{usual_limits}
 use Rattle.zmtp_wire.specs.Grammar.{ReadsUpTo}
+use Rattle.zmtp_wire.specs.Ping.{pong_to}
 use Rattle.zmtp_wire.specs.Traffic.{is_error}
 use Rattle.zmtp_connection.specs.declared.server.Answered.{Answered}
 use Rattle.zmtp_connection.specs.declared.server.Answered.TheVariants.{Done, Dropped}
@@ -27,12 +28,13 @@ use Rattle.zmtp_connection.specs.Steps.{TurnsAway, IsPrompt}
 abbrev pub Answering : Type 0 → Type 0 → Type 1
 Answering Server End = Server → Message → List ℕ → Server → Result Answered End → Type 0
 
--- traffic is treated: a message is answered, and a command is ignored. It has the arguments of such a step.
+-- traffic is treated: a message is answered, and a PING by its PONG; another command is ignored. It has the arguments
+-- of such a step.
 abbrev pub Treats : {Server End : Type 0} → Answering Server End → Server → Traffic → List ℕ → Server
     → Result Answered End → Type 0
 Treats answers old (traffic.Message message) reply new answered = answers old message reply new answered
 Treats answers old (traffic.Command name rest) reply new answered =
-    (reply ≡ []) × (new ≡ old) × (answered ≡ Ok Done)
+    (reply ≡ pong_to (traffic.Command name rest)) × (new ≡ old) × (answered ≡ Ok Done)
 
 -- a server in a session, and whether a message was dropped for want of memory by then
 pub record Serving (Server : Type 0) : Type 0 where
@@ -64,7 +66,7 @@ AnswersAll {State} answers old (first ∷ others) replies new =
     (middle : State) × (reply : List ℕ) × (later : List ℕ) × answers old first reply middle
     × AnswersAll answers middle others later new × (replies ≡ reply ++ later)
 
--- a write failed in a reply: what comes before that was written, and a beginning of it, and not all
+-- a write failed in a reply or PONG: what comes before that was written, and a beginning of it, and not all
 abbrev pub BreaksIn : List ℕ → List ℕ → List ℕ → Type 0
 BreaksIn before reply written = (front : List ℕ) × (lost : List ℕ) × (reply ≡ front ++ lost) × (0 < length lost)
     × (written ≡ before ++ front)

@@ -1,9 +1,11 @@
-//! Responding to a peer: a server hears what it says, and what the server answers is written.
+//! Responding to a peer: a server hears what it says, and what the server answers is written, and the PONG of a PING.
 
 ghost use Rattle.std.specs.Prelude.{◌≡◌, ℕ, List, Err, MatchResult};
 ghost use Rattle.zmtp_connection.specs.declared.end.Ending.{Ending};
 ghost use Rattle.zmtp_connection.specs.Exchange.{devices_at};
 ghost use Rattle.zmtp_connection.specs.Server.{marked};
+ghost use Rattle.zmtp_connection.specs.Steps.{PutsAll};
+ghost use Rattle.zmtp_wire.specs.Ping.{pong_to};
 ghost use Rattle.zmtp_connection.specs.Open.{Holds};
 ghost use Rattle.zmtp_connection.specs.Respond.{ConversesOn, Responds, flat, went};
 
@@ -14,12 +16,12 @@ use crate::shaking::OpenPeer;
 use crate::turn::put;
 use listed::Octets;
 use std::alloc::Global;
-use zmtp_wire::{Inlet, Message, Outlet, Traffic};
+use zmtp_wire::{Inlet, Message, Outlet, Traffic, pong_text, read_ping};
 
 /// A server at the writer of its peer.
 #[derive(Drop)]
 struct Desk<'w, 's, 'r, W, S> {
-    /// What replies are written to.
+    /// What replies and PONGs are written to.
     writer: &'w mut W,
     /// What answers messages.
     server: &'s mut S,
@@ -51,8 +53,8 @@ impl<W: Outlet, S: Server> Desk<'_, '_, '_, W, S> {
         go(answered, written)
     }
 
-    /// Ignores a command.
-    fn command(&mut self, _name: Octets, _rest: Octets) -> Result<(), Ending<S::End>>
+    /// Answers a PING by its PONG, and ignores another command.
+    fn command(&mut self, name: Octets, rest: Octets) -> Result<(), Ending<S::End>>
         ensures names { (self.new.writer.ghost_name ≡ self.old.writer.ghost_name)
             × (self.new.server.ghost_name ≡ self.old.server.ghost_name)
             × (self.new.reply.ghost_name ≡ self.old.reply.ghost_name)
@@ -60,12 +62,28 @@ impl<W: Outlet, S: Server> Desk<'_, '_, '_, W, S> {
         ensures responds { Responds S.answers (record {
           outflow = W.outflow self.old.writer.now;
           serving = record { server = self.old.server.now; dropped = self.old.dropped };
-        }) (Traffic.Command _name _rest) (record {
+        }) (Traffic.Command name rest) (record {
           outflow = W.outflow self.new.writer.now;
           serving = record { server = self.new.server.now; dropped = self.new.dropped };
         }) result }
     {
-        Ok(())
+        let command = Traffic::Command(name, rest);
+        let written = write_pong(self.writer, &command);
+        go(Ok(Answered::Done), written)
+    }
+}
+
+/// Writes the PONG that answers traffic, if that is a PING.
+///
+/// # Errors
+///
+/// `Failed` with `Write`, where a beginning of it was written.
+fn write_pong<W: Outlet>(writer: &mut W, traffic: &Traffic) -> Result<(), ConnectionEnd>
+    ensures { PutsAll (W.outflow writer.old) (W.outflow writer.new) (pong_to traffic.now) result }
+{
+    match read_ping(traffic) {
+        Some(context) => put(writer, pong_text(context).octets()),
+        None => Ok(()),
     }
 }
 

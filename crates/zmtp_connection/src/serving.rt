@@ -13,8 +13,8 @@ use crate::shaking::shake_within;
 use std::alloc::Global;
 use zmtp_wire::{Inlet, Outlet, SocketType};
 
-/// Serves a peer: greeting out, greeting in, READY out, READY in, and then each message answered, until the peer's
-/// octets end, are refused, the server ends it, or the connection can't go on. Nothing is read once the message came at
+/// Serves a peer: greeting out, greeting in, READY out, READY in, and then each message and each PING answered, until
+/// the peer's octets end, are refused, the server ends it, or the connection can't go on. Nothing is read once the message came at
 /// which the server ends it. A session of which a message was dropped for want of memory goes on, and ends as the
 /// connection, `Failed` with `Memory`. At most `turns` reads are made.
 pub fn serve<R: Inlet, W: Outlet, S: Server>(

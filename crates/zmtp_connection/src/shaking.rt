@@ -1,4 +1,4 @@
-//! Shaking hands with a peer: greetings, and then READY (ZMTP 3.0, "Greeting" and "The NULL Security Mechanism").
+//! Shaking hands with a peer: greetings, and then READY (RFC 23, "Greeting" and "The NULL Security Mechanism").
 
 ghost use Rattle.std.specs.Prelude.{◌≡◌, ◌≢◌, ◌<◌, ℕ, List, [], ◌∷◌, ◌++◌, length, Some, IfOk, IfErr};
 ghost use Rattle.zmtp_wire.specs.Device.{Puts};

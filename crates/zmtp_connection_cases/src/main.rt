@@ -5,7 +5,7 @@
 //!
 //! A case is a row of words, done one after another:
 //!
-//! - `05`, `00*48`, `'READY`, `PING`: an octet, an octet so many times, a text, or octets that have a name, which the
+//! - `05`, `00*48`, `'READY`, `BEAT`: an octet, an octet so many times, a text, or octets that have a name, which the
 //!   peer sends behind those before;
 //! - `/`: no read gives octets from both sides of it; `cut=N` says the same of place N;
 //! - `length=N`, `from=N`: what the peer sends ends at place N, and begins there;

@@ -1,4 +1,4 @@
--- A frame of ZMTP 3.0: a flags octet, a size, a body (RFC 23, "Framing").
+-- A frame of ZMTP: a flags octet, a size, a body (RFC 23, "Framing").
 use Rattle.std.specs.Prelude.{ℕ, ◌+◌, ◌^◌, ◌<◌, nat_lt, Bool, true}
 use Rattle.std.specs.Prelude.{false, if◌then◌else◌, List, [], ◌∷◌, ◌++◌, length, map}
 use Rattle.std.specs.Int.{w64, to_be_bytes}

@@ -1,4 +1,4 @@
--- The greeting (ZeroMQ RFC 23, rule `greeting` of its grammar): 64 octets, which each peer sends before any frame.
+-- The greeting (ZeroMQ RFC 37, rule `greeting` of its grammar): 64 octets, which each peer sends before any frame.
 use Rattle.std.specs.Prelude.{◌≡◌, ℕ, ◌<◌, ◌≤◌, List, [], ◌∷◌, ◌++◌, codes, replicate, slice_index, slice_range}
 use Rattle.zmtp_wire.specs.declared.fault.WireFault.{WireFault}
 use Rattle.zmtp_wire.specs.declared.fault.WireFault.TheVariants as faults
@@ -8,11 +8,11 @@ use Rattle.zmtp_wire.specs.declared.handshake.greeting.Peer.{Peer}
 abbrev pub null_mechanism : List ℕ
 null_mechanism = codes "NULL" ++ replicate 16 0
 
--- the greeting that we send: signature, version 3.0, the mechanism NULL, as-server 0, filler
+-- the greeting that we send: signature, version 3.1, the mechanism NULL, as-server 0, filler
 abbrev pub greeting_octets : List ℕ
 greeting_octets =
     0xFF ∷ replicate 8 0 ++ 0x7F ∷ []
-    ++ 3 ∷ 0 ∷ []
+    ++ 3 ∷ 1 ∷ []
     ++ null_mechanism
     ++ 0 ∷ []
     ++ replicate 31 0

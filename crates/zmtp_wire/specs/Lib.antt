@@ -8,6 +8,7 @@ pub mod Laws
 pub mod Lengths
 pub mod Limits
 pub mod Pending
+pub mod Ping
 pub mod Ready
 pub mod SocketType
 pub mod Subscription

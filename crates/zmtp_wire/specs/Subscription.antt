@@ -1,5 +1,6 @@
--- What a subscriber asks for by its messages: it subscribes to topics, and gives them up (ZMTP 3.0).
-use Rattle.std.specs.Prelude.{ℕ, zero, suc, List, [], ◌∷◌, Option, Some, None}
+-- What a subscriber asks for: it subscribes to topics, and gives them up, by messages (ZMTP 3.0, "The SUB Socket Type")
+-- or by the commands SUBSCRIBE and CANCEL (ZeroMQ RFC 37, rules `subscribe` and `cancel`).
+use Rattle.std.specs.Prelude.{ℕ, zero, suc, if◌then◌else◌, List, [], ◌∷◌, Option, Some, None, bytes_eq, codes}
 use Rattle.zmtp_wire.specs.declared.traffic.Traffic.{Traffic}
 use Rattle.zmtp_wire.specs.declared.traffic.Traffic.TheVariants.{Message, Command}
 
@@ -8,11 +9,6 @@ abbrev pub sole_body : List (List ℕ) → Option (List ℕ)
 sole_body [] = None
 sole_body (body ∷ []) = Some body
 sole_body (body ∷ next ∷ bodies) = None
-
--- the same of traffic, which may be a command
-abbrev pub sole_frame : Traffic → Option (List ℕ)
-sole_frame (Message bodies) = sole_body bodies
-sole_frame (Command name rest) = None
 
 -- what stands behind a 1 in front
 abbrev pub behind_one : Option (List ℕ) → Option (List ℕ)
@@ -29,10 +25,14 @@ behind_zero (Some []) = None
 behind_zero (Some (zero ∷ octets)) = Some octets
 behind_zero (Some (suc more ∷ octets)) = None
 
--- the topic that traffic subscribes to: what stands behind the 1 that the one frame of a message begins with
+-- the topic that traffic subscribes to: what stands behind the 1 that the one frame of a message begins with, or behind
+-- the name of the command SUBSCRIBE
 abbrev pub subscribed_topic : Traffic → Option (List ℕ)
-subscribed_topic traffic = behind_one (sole_frame traffic)
+subscribed_topic (Message bodies) = behind_one (sole_body bodies)
+subscribed_topic (Command name rest) = if bytes_eq name (codes "SUBSCRIBE") then Some rest else None
 
--- the topic that traffic gives up: what stands behind the 0 that the one frame of a message begins with
+-- the topic that traffic gives up: what stands behind the 0 that the one frame of a message begins with, or behind the
+-- name of the command CANCEL
 abbrev pub cancelled_topic : Traffic → Option (List ℕ)
-cancelled_topic traffic = behind_zero (sole_frame traffic)
+cancelled_topic (Message bodies) = behind_zero (sole_body bodies)
+cancelled_topic (Command name rest) = if bytes_eq name (codes "CANCEL") then Some rest else None

@@ -1,4 +1,5 @@
-//! ZMTP 3.0 (ZeroMQ RFC 23) with the mechanism NULL: greeting, READY, messages and commands.
+//! ZMTP 3.1 (ZeroMQ RFC 37) with the mechanism NULL: greeting, READY, messages and commands. What is as in ZMTP 3.0 is
+//! named by the sections of that (RFC 23).
 #![tactic(auto)]
 
 mod device;
@@ -22,3 +23,4 @@ pub use traffic::frame::Frame;
 pub use traffic::head::{Head, frame_head};
 pub use traffic::limits::Limits;
 pub use traffic::message::{Message, text_len, write_frames, write_message};
+pub use traffic::ping::{CONTEXT_LIMIT, pong_text, read_ping};

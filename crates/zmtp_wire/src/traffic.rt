@@ -8,12 +8,13 @@ pub(crate) mod head;
 pub(crate) mod limits;
 pub(crate) mod message;
 mod pending;
+pub(crate) mod ping;
 mod size;
 mod subscription;
 
 use listed::Octets;
 
-/// What a peer sends after its greeting (ZMTP 3.0, "Traffic").
+/// What a peer sends after its greeting (RFC 23, "Traffic").
 #[derive(Debug, Drop)]
 pub enum Traffic {
     /// A message.

@@ -3,8 +3,8 @@
 use crate::spelling::Spelled;
 use std::alloc::{AllocError, Global};
 use zmtp_wire::{
-    Decoder, Limits, SocketType, WireFault, greeting, read_greeting, read_identity, read_ready,
-    ready_text,
+    Decoder, Limits, SocketType, WireFault, greeting, pong_text, read_greeting, read_identity,
+    read_ping, read_ready, ready_text,
 };
 
 /// The faults.
@@ -94,7 +94,7 @@ pub(crate) fn judge(
 }
 
 /// Says what a socket of ours makes of the one traffic that octets are: of a READY, of an ERROR, by the identity that
-/// it gives, and by topics that it subscribes to or gives up.
+/// it gives, by topics that it subscribes to or gives up, and by the PONG that answers a PING.
 fn judge_first(
     alloc: Global,
     ours: &[u8],
@@ -121,6 +121,9 @@ fn judge_first(
     }
     if let Some(topic) = first.cancelled_topic() {
         write!(said, " cancels {}", Spelled(topic))?;
+    }
+    if let Some(context) = read_ping(first) {
+        write!(said, " pong {}", Spelled(pong_text(context).octets()))?;
     }
     Ok(())
 }

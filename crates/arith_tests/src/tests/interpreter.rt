@@ -25,7 +25,7 @@ pub(crate) fn run<I: Interpreter>(
         for output in outputs.as_slice() {
             match output {
                 Output::Stdout(text) => written.push_str(text.as_str())?,
-                Output::Stderr(_) | Output::Display(_) => written.push_str("another stream\n")?,
+                Output::Stderr(_) | Output::Display(..) => written.push_str("another stream\n")?,
             }
         }
         match next {

@@ -73,7 +73,7 @@ fn heading(alloc: Global) -> Result<Heading, Fail> {
 fn put_at(alloc: Global, next: u64) -> Result<(usize, u64), Fail> {
     let mut publishing = from_number(alloc, next);
     let idle = Publication::Status(State::Idle);
-    let is_put = publishing.publish(alloc, &heading(alloc)?, &idle).is_ok();
+    let is_put = publishing.publish(alloc, &heading(alloc)?, idle).is_ok();
     let next = publishing.next;
     let sink = publishing.sink;
     let count = sink.items.len();

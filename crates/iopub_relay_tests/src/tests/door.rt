@@ -13,6 +13,8 @@ enum Heard<'a> {
     Subscribes(&'a [u8]),
     /// It gives a topic up.
     Cancels(&'a [u8]),
+    /// It asks for a PONG of this context.
+    Pings(&'a [u8]),
     /// No event.
     Nothing,
     /// Any other event.
@@ -24,6 +26,7 @@ fn told_by(event: &Option<Event<u8>>) -> Heard<'_> {
     match event {
         Some(Event::Subscribe(7, topic)) => Heard::Subscribes(topic.as_slice()),
         Some(Event::Cancel(7, topic)) => Heard::Cancels(topic.as_slice()),
+        Some(Event::Pong(7, context)) => Heard::Pings(context.as_slice()),
         None => Heard::Nothing,
         Some(_) => Heard::Other,
     }
@@ -70,9 +73,38 @@ fn a_one_subscribes_and_a_zero_cancels(rt: HostRuntime) -> Result<(), Fail> {
 fn other_traffic_is_no_event(rt: HostRuntime) -> Result<(), Fail> {
     let two = message_of_two(rt.alloc(), b"\x01a", b"b")?;
     assert!(rt; is_heard(rt.alloc(), &two, Heard::Nothing)?);
-    for (name, body) in [("SUBSCRIBE", "a"), ("PING", "\0\0")] {
+    for (name, body) in [
+        ("HELLO", "a"),
+        ("PONG", "\0\0"),
+        ("PING", "\0"),
+        ("PING", LONG),
+    ] {
         let command = command_of(rt.alloc(), name.as_bytes(), body.as_bytes())?;
         assert!(rt; is_heard(rt.alloc(), &command, Heard::Nothing)?, "{name}");
+    }
+    Ok(())
+}
+
+/// What stands behind the name of a PING whose context is too long: two octets of time to live, and 17.
+const LONG: &str = "\0\0seventeen_octets_";
+
+#[test]
+fn commands_subscribe_cancel_and_ping(rt: HostRuntime) -> Result<(), Fail> {
+    let rows: [(&str, &str, Heard<'_>); 6] = [
+        ("SUBSCRIBE", "a", Heard::Subscribes(b"a")),
+        ("SUBSCRIBE", "", Heard::Subscribes(b"")),
+        ("CANCEL", "a", Heard::Cancels(b"a")),
+        ("PING", "\0\0hi", Heard::Pings(b"hi")),
+        ("PING", "\0<", Heard::Pings(b"")),
+        (
+            "PING",
+            "\0\0sixteen_octets__",
+            Heard::Pings(b"sixteen_octets__"),
+        ),
+    ];
+    for (name, body, wanted) in rows {
+        let command = command_of(rt.alloc(), name.as_bytes(), body.as_bytes())?;
+        assert!(rt; is_heard(rt.alloc(), &command, wanted)?, "{name}");
     }
     Ok(())
 }

@@ -7,8 +7,15 @@ use iopub_relay::feed_core;
 use std::alloc::{AllocError, Global};
 use std::test::Fail;
 
+/// Four octets are taken, one a write, and then writes fail.
+const FOUR_OCTETS: Takes = Takes {
+    width: 1,
+    writes: 4,
+    last: Last::Fails,
+};
+
 /// Lists of events, each with the subscribers that are left behind it and what these got.
-const LISTS: [(&[Step], &[(u64, &[u8])]); 5] = [
+const LISTS: [(&[Step], &[(u64, &[u8])]); 9] = [
     // A longer topic matches none.
     (
         &[
@@ -49,6 +56,70 @@ const LISTS: [(&[Step], &[(u64, &[u8])]); 5] = [
             Step::Message(&[b"b"]),
             Step::Attach(1, ALL),
             Step::Message(&[b"c"]),
+        ],
+        &[(1, b"")],
+    ),
+    // A PONG goes to whom it is for, at its place, whatever it asked for; one whose context is too long to nobody.
+    (
+        &[
+            Step::Attach(1, ALL),
+            Step::Attach(2, ALL),
+            Step::Subscribe(1, b"a"),
+            Step::Message(&[b"a"]),
+            Step::Pong(1, b"hi"),
+            Step::Pong(1, b"seventeen octets_"),
+            Step::Message(&[b"ab"]),
+            Step::Pong(2, b""),
+        ],
+        &[
+            (1, b"\x00\x01a\x04\x07\x04PONGhi\x00\x02ab"),
+            (2, b"\x04\x05\x04PONG"),
+        ],
+    ),
+    // The standard list, with a PONG for the second subscriber between the second message and the third: 45 octets.
+    (
+        &[
+            Step::Attach(1, ALL),
+            Step::Attach(2, ALL),
+            Step::Subscribe(1, b""),
+            Step::Subscribe(2, b"stream"),
+            Step::Subscribe(2, b"stream"),
+            Step::Message(&[b"stream.stdout", b"x"]),
+            Step::Cancel(2, b"stream"),
+            Step::Message(&[b"status", b"y"]),
+            Step::Pong(2, b"hi"),
+            Step::Message(&[b"stream.stdout", b"z"]),
+            Step::Cancel(2, b"stream"),
+            Step::Message(&[b"stream.stdout", b"w"]),
+        ],
+        &[
+            (1, EVERYTHING),
+            (
+                2,
+                b"\x01\x0dstream.stdout\x00\x01x\x04\x07\x04PONGhi\x01\x0dstream.stdout\x00\x01z",
+            ),
+        ],
+    ),
+    // A writer that fails in a PONG has a beginning of it, and nothing more.
+    (
+        &[
+            Step::Attach(1, FOUR_OCTETS),
+            Step::Subscribe(1, b""),
+            Step::Pong(1, b"hi"),
+            Step::Pong(1, b""),
+            Step::Message(&[b"a"]),
+        ],
+        &[(1, b"\x04\x07\x04P")],
+    ),
+    // Nobody gets the PONG of one that isn't there.
+    (
+        &[
+            Step::Pong(1, b"hi"),
+            Step::Attach(1, ALL),
+            Step::Detach(1),
+            Step::Pong(1, b"hi"),
+            Step::Attach(1, ALL),
+            Step::Pong(3, b"hi"),
         ],
         &[(1, b"")],
     ),

@@ -27,6 +27,7 @@ fn steps(alloc: Global, seed: u64, count: u32) -> Result<Vec<Step<'static>>, All
             1 => Step::Detach(id),
             2 | 3 => Step::Subscribe(id, OCTETS[number]),
             4 => Step::Cancel(id, OCTETS[number]),
+            5 => Step::Pong(id, OCTETS[number]),
             _ => Step::Message(MESSAGES[number]),
         })?;
     }
@@ -46,6 +47,7 @@ fn worked_out(alloc: Global, steps: &[Step<'_>], id: u64) -> Result<Option<Vec<u
             (Step::Detach(other), _) if other == id => got = None,
             (Step::Subscribe(other, topic), Some(_)) if other == id => held.push(topic)?,
             (Step::Cancel(other, topic), Some(_)) if other == id => give_up(&mut held, topic),
+            (Step::Pong(other, context), Some(octets)) if other == id => pong(octets, context)?,
             (Step::Message(&[frame]), Some(octets)) => hear(octets, &held, frame)?,
             _ => {}
         }
@@ -74,6 +76,14 @@ fn hear(octets: &mut Vec<u8>, held: &[&[u8]], frame: &[u8]) -> Result<(), AllocE
         }
     }
     Ok(())
+}
+
+/// Adds the PONG of a short context.
+fn pong(octets: &mut Vec<u8>, context: &[u8]) -> Result<(), AllocError> {
+    octets.push(0x04)?;
+    octets.push(u8::try_from(5 + context.len()).unwrap_or(u8::MAX))?;
+    octets.extend_from_slice(b"\x04PONG")?;
+    octets.extend_from_slice(context)
 }
 
 /// What a subscriber got, where it is there.

@@ -2,7 +2,9 @@
 
 ghost use Rattle.std.specs.Prelude.{◌≡◌};
 
-use crate::tests::steps::{ALL, EVERYTHING, Last, Narrow, STREAMS, Takes, standard};
+use crate::tests::steps::{
+    ALL, EVERYTHING, Last, Narrow, STREAMS, Step, Takes, events_of, standard,
+};
 use iopub_queue::{Closed, Publisher, open_queue};
 use iopub_relay::{Drain, Event, Pumped, Relay};
 use std::alloc::{AllocError, Global};
@@ -86,6 +88,35 @@ fn the_standard_list_is_pumped(rt: HostRuntime) -> Result<(), Fail> {
     assert_eq!(rt; relay.no_room(), 0);
     let left = relay.finish().ok().expect(&rt, "room for the subscribers");
     assert!(rt; left_are(&left, EVERYTHING, false));
+    Ok(())
+}
+
+#[test]
+fn a_pong_is_pumped(rt: HostRuntime) -> Result<(), Fail> {
+    let alloc = rt.alloc();
+    let (publishers, taker) = open_queue(&rt, alloc, 1, 1024)?;
+    let Some(mut only) = publishers.into_iter().next() else {
+        unreachable!();
+    };
+    let mut relay = Relay::new(alloc, taker);
+    let steps = [
+        Step::Attach(1, ALL),
+        Step::Attach(2, ALL),
+        Step::Pong(2, b"hi"),
+        Step::Pong(3, b"hi"),
+    ];
+    for event in events_of(alloc, &steps)? {
+        let Ok(()) = only.publish(event) else {
+            unreachable!();
+        };
+    }
+    assert!(rt; pumps(&mut relay, &[Pumped::Did; 4]));
+    let left = relay.finish().ok().expect(&rt, "room for the subscribers");
+    let wanted: [(u64, &[u8], bool); 2] = [(1, b"", false), (2, b"\x04\x07\x04PONGhi", false)];
+    assert_eq!(rt; left.len(), wanted.len());
+    for (one, wanted) in left.iter().zip(wanted) {
+        assert!(rt; (one.0, one.1.octets.as_slice(), one.2) == wanted);
+    }
     Ok(())
 }
 

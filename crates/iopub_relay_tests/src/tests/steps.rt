@@ -85,6 +85,8 @@ pub(crate) enum Step<'a> {
     Subscribe(u64, &'a [u8]),
     /// A subscriber gives a topic up.
     Cancel(u64, &'a [u8]),
+    /// A subscriber asks for a PONG of this context.
+    Pong(u64, &'a [u8]),
 }
 
 /// The frames of a message.
@@ -104,6 +106,7 @@ pub(crate) fn event_of(alloc: Global, step: Step<'_>) -> Result<Event<Narrow>, A
         Step::Detach(id) => Event::Detach(id),
         Step::Subscribe(id, topic) => Event::Subscribe(id, Octets::new(topic.to_vec(alloc)?)),
         Step::Cancel(id, topic) => Event::Cancel(id, Octets::new(topic.to_vec(alloc)?)),
+        Step::Pong(id, context) => Event::Pong(id, Octets::new(context.to_vec(alloc)?)),
     })
 }
 

@@ -128,6 +128,43 @@ fn what_is_sealed_is_opened(rt: HostRuntime) -> Result<(), Fail> {
     Ok(())
 }
 
+/// The frames of a displayed text with these buffers, signed with `Jefe`.
+fn sealed_with(alloc: Global, signer: &Signer, buffers: &[&[u8]]) -> Result<Vec<Vec<u8>>, Fail> {
+    let parts = MessageParts {
+        header: Octets::new(HEADER.to_vec(alloc)?),
+        parent: Octets::new(b"{}".to_vec(alloc)?),
+        metadata: Octets::new(b"{}".to_vec(alloc)?),
+        content: Octets::new(SHOWN.to_vec(alloc)?),
+        buffers: Frames::new(frames_of(alloc, buffers)?),
+    };
+    Ok(seal(alloc, signer, Frames::new(Vec::new(alloc)), parts)?.into_vec())
+}
+
+/// A content that is displayed.
+const SHOWN: &[u8] = br#"{"data":{"text/plain":"p"},"metadata":{}}"#;
+
+/// The code of `HEADER`, twice `{}` and `SHOWN` under the key `Jefe`.
+const SHOWN_DIGITS: &[u8] = b"23593c6ecd4ee7a06a59e113ae7bd947c02aade9cbc954df8c426e6563ff5053";
+
+#[test]
+fn buffers_stand_behind_the_content_and_are_not_signed(rt: HostRuntime) -> Result<(), Fail> {
+    let alloc = rt.alloc();
+    let signer = Signer::new(b"Jefe".to_vec(alloc)?);
+    let rest: [&[u8]; 6] = [b"<IDS|MSG>", SHOWN_DIGITS, HEADER, b"{}", b"{}", SHOWN];
+    let plain = sealed_with(alloc, &signer, &[])?;
+    assert!(rt; have(&plain, &rest), "{plain:?}");
+    let buffered = sealed_with(alloc, &signer, &[b"\x00\xff", b""])?;
+    let (front, buffers) = buffered.split_at(rest.len().min(buffered.len()));
+    assert!(rt; have(front, &rest), "{front:?}");
+    assert!(rt; have(buffers, &[b"\x00\xff", b""]), "{buffers:?}");
+    let envelope = open_envelope(alloc, &signer, buffered)?;
+    assert!(rt;
+        have(envelope.buffers.as_slice(), &[b"\x00\xff", b""]),
+        "{envelope:?}"
+    );
+    Ok(())
+}
+
 /// The number of the fault for which these frames are refused; 0 where they are opened.
 fn judged(alloc: Global, signer: &Signer, bodies: &[&[u8]]) -> Result<u8, AllocError> {
     let opened = open_envelope(alloc, signer, frames_of(alloc, bodies)?);

@@ -2,8 +2,10 @@
 
 use super::text;
 use jmsg_types::{
-    Publication, State, content_of_publication, content_text_of_publication, topic_of, type_of,
+    Publication, State, buffers_of, content_of_publication, content_text_of_publication, topic_of,
+    type_of,
 };
+use listed::Frames;
 use std::alloc::{AllocError, Global};
 use std::test::Fail;
 
@@ -42,6 +44,7 @@ fn publication_of(alloc: Global, news: News<'_>) -> Result<Publication, AllocErr
         },
         News::Display(value) => Publication::Display {
             text: text(alloc, value)?,
+            buffers: Frames::new(Vec::new(alloc)),
         },
         News::Error(ename, evalue) => Publication::Error {
             ename: text(alloc, ename)?,
@@ -143,6 +146,33 @@ const PUBLISHED: [(News, &str, &str, &str); 10] = [
         r#"{"comm_id":"c","data":{}}"#,
     ),
 ];
+
+/// What a cell shows with two buffers, of which one has no octets.
+fn shown_with_buffers(alloc: Global) -> Result<Publication, Fail> {
+    let buffers = Vec::from_array(alloc, [b"\x00\xff".to_vec(alloc)?, Vec::new(alloc)])?;
+    Ok(Publication::Display {
+        text: text(alloc, "p")?,
+        buffers: Frames::new(buffers),
+    })
+}
+
+#[test]
+fn what_is_shown_alone_has_buffers(rt: HostRuntime) -> Result<(), Fail> {
+    for (news, ..) in PUBLISHED {
+        let publication = publication_of(rt.alloc(), news)?;
+        assert!(rt; buffers_of(&publication).is_empty());
+        assert!(rt; publication.into_buffers(rt.alloc()).is_empty());
+    }
+    let shown = shown_with_buffers(rt.alloc())?;
+    let content = r#"{"data":{"text/plain":"p"},"metadata":{}}"#;
+    assert!(rt; is_published(rt.alloc(), &shown, "display_data", "display_data", content)?);
+    let [two, none] = buffers_of(&shown) else {
+        return Err(Fail::new("two buffers"));
+    };
+    assert_eq!(rt; two.as_slice(), b"\x00\xff".as_slice());
+    assert!(rt; none.is_empty());
+    Ok(())
+}
 
 #[test]
 fn publishes_news(rt: HostRuntime) -> Result<(), Fail> {

@@ -48,9 +48,10 @@ fn expect_in_work(
 
 /// How many octets a message has in ZMTP.
 fn octets_of(frames: &[Vec<u8>]) -> usize {
-    let mut octets = 0;
+    let mut octets = 0usize;
     for frame in frames {
-        octets += frame.len() + if frame.len() < 256 { 2 } else { 9 };
+        let head = if frame.len() < 256 { 2 } else { 9 };
+        octets = octets.saturating_add(frame.len()).saturating_add(head);
     }
     octets
 }
@@ -61,7 +62,7 @@ fn expect_three_replies<R: Wait + Abort>(rt: &R, from: &Receiver<ReplyMessage>, 
     for replies in [3, 2, 1] {
         expect_in_work(rt, account, (0, replies, left));
         let reply = from.try_recv(rt).ok().expect(rt, "a reply");
-        left -= octets_of(reply.frames.as_slice());
+        left = left.saturating_sub(octets_of(reply.frames.as_slice()));
         drop(reply);
     }
     assert_eq!(rt; left, 0);

@@ -168,7 +168,7 @@ fn expect_numbered<R: Wait + Abort>(
     Ok(())
 }
 
-/// How many messages these octets are, if they are whole ones (ZMTP 3.1, "Framing"): each frame has its flags, of
+/// How many messages these octets are, if they are whole ones (RFC 23, "Framing"): each frame has its flags, of
 /// which 1 says that another follows and 2 that the length has eight octets and not one, its length, and its body.
 fn count_messages(octets: &[u8]) -> Option<usize> {
     let mut rest = octets;

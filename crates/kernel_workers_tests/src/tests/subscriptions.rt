@@ -17,6 +17,8 @@ fn put_events<R: Wait>(rt: &R, alloc: Global, to: &Sender<Note<Event<()>>>) -> R
     to.send(rt, Note::Item(Event::Message(Frames::new(Vec::new(alloc)))))?;
     let topic = Octets::new(Vec::new(alloc));
     to.send(rt, Note::Item(Event::Subscribe(1, topic)))?;
+    let context = Octets::new(b"hi".to_vec(alloc)?);
+    to.send(rt, Note::Item(Event::Pong(1, context)))?;
     to.send(rt, Note::End)?;
     to.send(rt, Note::Item(Event::Detach(1)))?;
     Ok(())
@@ -48,6 +50,7 @@ fn no_message_is_published_and_nothing_after_the_end(rt: HostRuntime) -> Result<
         "1 closed",
         "2 attach 1",
         "2 subscribe 1",
+        "2 pong 1 [104, 105]",
         "2 closed",
     ];
     assert_eq!(rt; seen.len(), due.len());

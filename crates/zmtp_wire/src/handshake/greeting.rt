@@ -5,7 +5,7 @@ ghost use Rattle.zmtp_wire.specs.Greeting.{greeting_octets, IsGreeting, IsRefuse
 
 use crate::fault::WireFault;
 
-/// What a greeting tells of a peer: its version of ZMTP (RFC 23, rule `greeting`).
+/// What a greeting tells of a peer: its version of ZMTP (RFC 37, rule `greeting`).
 #[derive(Clone, Copy, Debug, PartialEq, Eq)]
 pub struct Peer {
     /// The major version, 3 at least.
@@ -23,10 +23,13 @@ const SIGNATURE_CLOSES: u8 = 0x7F;
 /// The major version that we speak, and the least that we accept.
 const MAJOR: u8 = 3;
 
+/// The minor version that we speak.
+const MINOR: u8 = 1;
+
 /// The name of the mechanism, padded with zeros.
 const NULL_MECHANISM: [u8; 20] = *b"NULL\0\0\0\0\0\0\0\0\0\0\0\0\0\0\0\0";
 
-/// The greeting that the kernel sends: ZMTP 3.0 with the mechanism NULL (RFC 23, rule `greeting`).
+/// The greeting that the kernel sends: ZMTP 3.1 with the mechanism NULL (RFC 37, rule `greeting`).
 pub fn greeting() -> [u8; 64]
     ensures { result ≡ greeting_octets }
 {
@@ -34,11 +37,12 @@ pub fn greeting() -> [u8; 64]
     octets[0] = SIGNATURE_OPENS;
     octets[9] = SIGNATURE_CLOSES;
     octets[10] = MAJOR;
+    octets[11] = MINOR;
     octets[12..32].copy_from_slice(&NULL_MECHANISM);
     octets
 }
 
-/// Judges a peer's greeting: its signature, then its version, then its mechanism (RFC 23, rule `greeting`).
+/// Judges a peer's greeting: its signature, then its version, then its mechanism (RFC 37, rule `greeting`).
 /// Padding, minor version, as-server and filler are free. Takes no memory.
 ///
 /// # Errors

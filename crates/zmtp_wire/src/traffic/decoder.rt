@@ -23,7 +23,7 @@ pub struct Fed {
 }
 
 /// Reads a peer's messages and commands from the octets behind its greeting, in whatever pieces they come
-/// (ZMTP 3.0, "Traffic"). It keeps the octets that aren't whole traffic, no more than the limits allow and
+/// (RFC 23, "Traffic"). It keeps the octets that aren't whole traffic, no more than the limits allow and
 /// the heads of these frames, and looks at each octet once.
 #[derive(Debug, Drop)]
 pub struct Decoder {

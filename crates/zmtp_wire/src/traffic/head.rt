@@ -1,4 +1,4 @@
-//! The head of a frame that is written: its flags and its size (RFC 23, "Framing").
+//! What a frame that is written begins with, its flags and its size (RFC 23, "Framing"); and frames that are as short.
 
 ghost use Rattle.std.specs.Prelude.{◌≡◌, nat_lt, false};
 ghost use Rattle.zmtp_wire.specs.Frame.{head_octets};
@@ -6,14 +6,17 @@ ghost use Rattle.zmtp_wire.specs.Frame.{head_octets};
 use crate::traffic::flags::Flags;
 use std::marker::Model;
 
-/// The head of a frame: its flags octet and its size, two octets or nine. It takes no memory of its own, and a
-/// contract sees the list of the octets.
+/// How many octets a `Head` has at most: those of a PONG with the longest context.
+pub(crate) const LONGEST: usize = 23;
+
+/// The head of a frame: its flags octet and its size, two octets or nine; or a PONG, which is a whole frame. It takes
+/// no memory of its own, and a contract sees the list of the octets.
 #[derive(Debug, Drop)]
 pub struct Head {
     /// The octets, and zeros behind them.
-    octets: [u8; 9],
+    pub(crate) octets: [u8; LONGEST],
     /// How many they are.
-    len: usize,
+    pub(crate) len: usize,
 }
 
 impl Model for Head {
@@ -23,7 +26,7 @@ impl Model for Head {
 
     ghost view = { λ head. take head.len head.octets };
 
-    ghost invariant = { λ head. head.len ≤ 9 };
+    ghost invariant = { λ head. head.len ≤ 23 };
 }
 
 impl Head {
@@ -35,7 +38,7 @@ impl Head {
     }
 }
 
-/// The head of a frame of a message whose body has `len` octets, with MORE where another frame follows (ZMTP 3.0,
+/// The head of a frame of a message whose body has `len` octets, with MORE where another frame follows (RFC 23,
 /// "Framing"): the size has one octet up to 255 and eight above. Needs no memory.
 pub fn frame_head(more: bool, len: usize) -> Head
     ensures { result ≡ head_octets more (nat_lt 255 len) false len }
@@ -46,10 +49,10 @@ pub fn frame_head(more: bool, len: usize) -> Head
         long,
         command: false,
     };
-    let mut octets = [0; 9];
+    let mut octets = [0; LONGEST];
     octets[0] = flags.octet();
     if long {
-        octets[1..].copy_from_slice(&(len as u64).to_be_bytes());
+        octets[1..9].copy_from_slice(&(len as u64).to_be_bytes());
         Head { octets, len: 9 }
     } else {
         octets[1] = len as u8;

@@ -57,7 +57,7 @@ impl Message {
     }
 }
 
-/// Appends the text of a message of these frames (ZMTP 3.0, "Framing"): MORE on all but the last, a size of
+/// Appends the text of a message of these frames (RFC 23, "Framing"): MORE on all but the last, a size of
 /// one octet up to 255 and of eight above. Room for all of it is asked for once, before the first octet is
 /// written, so `out` grows at most once. `_alloc` says that memory may be asked for; `out` asks for its own.
 ///

@@ -3,7 +3,7 @@ use Rattle.iopub_event.specs.declared.event.Event.{Event}
 use Rattle.iopub_queue.specs.Values.{Taking}
 use Rattle.iopub_relay.specs.Within.{relaying}
 use Rattle.iopub_relay.proofs.TakenLemmas.{serves_more, serves_close, serves_lacking, lacks_room}
-use Rattle.iopub_relay.proofs.ChangeLemmas.{serves_one, asks_for}
+use Rattle.iopub_relay.proofs.ChangeLemmas.{serves_one, serves_topic}
 use Rattle.iopub_relay.proofs.relay.Relay.pump.Goals as goal
 
 pub invariant_of-self-in-Closed : goal.invariant_of-self-in-Closed
@@ -47,10 +47,6 @@ returns-in-Done g c =
 
 pub returns-in-NoTopic : goal.returns-in-NoTopic
 returns-in-NoTopic g c =
-    rw (← c.self.view_is) (
-      serves_one g.W.Outlet.outflow (relaying c.self.inside) _ c.in-Item.field-0 c.in-Item.event
-          _ c.in-Item.ensures.given c.in-NoTopic.ensures.1.0
-          (asks_for c.in-NoTopic.id c.in-Item.event c.in-NoTopic.ensures.0) refl c.self.invariant,
-      c.in-NoTopic.ensures.1.0.starves,
-      c.in-NoTopic.ensures.1.1,
-    )
+    let (serves, asks) = serves_topic g.W.Outlet.outflow (relaying c.self.inside) _ c.in-Item.field-0 c.in-NoTopic.id
+    c.in-Item.event c.in-Item.ensures.given c.in-NoTopic.ensures.1.0 c.in-NoTopic.ensures.0 refl c.self.invariant in
+    rw (← c.self.view_is) (serves, asks, c.in-NoTopic.ensures.1.0.starves, c.in-NoTopic.ensures.1.1)
