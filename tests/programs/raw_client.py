@@ -338,6 +338,8 @@ class Kernel:
     def __init__(self, program, key="Jefe", limit=None, ip="127.0.0.1"):
         self.program, self.key, self.limit, self.ip = program, key, limit, ip
         self.room = self.process = None
+        # Whether a test has looked at its end, which isn't as it should be otherwise.
+        self.is_ended = False
 
     def __enter__(self):
         for _ in range(10):
@@ -428,11 +430,11 @@ class Kernel:
 
     def __exit__(self, kind, _value, _trace):
         try:
-            if kind is None:
+            if kind is None and not self.is_ended:
                 if self.process.poll() is None:
                     self.shut_down()
                 self.ends()
-            elif self.process.poll() is not None:
+            elif kind is not None and self.process.poll() is not None:
                 print(f"the kernel ended with {self.process.returncode}, and told {self.told()}")
         finally:
             self.process.kill()

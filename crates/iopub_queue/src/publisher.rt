@@ -1,12 +1,13 @@
 //! Publishers.
 
-ghost use Rattle.std.specs.Prelude.{◌≡◌, Some, None, Ok, IsOkAnd};
+ghost use Rattle.std.specs.Prelude.{◌≡◌, ◌++◌, ◌∷◌, [], Some, None, Ok, IfErr, IsOkAnd, OnErr, OnOk};
 ghost use Rattle.iopub_queue.specs.Entries.{of, StandsBehind};
 ghost use Rattle.iopub_queue.specs.Calls.{Adds};
 
 use crate::closed::Closed;
 use crate::line::{Line, Seat, join_word, push, split_word};
 use crate::publish::Publish;
+use crate::publish_after::PublishAfter;
 use crate::refused::Refused;
 use crate::word::Word;
 use std::alloc::Global;
@@ -151,4 +152,22 @@ impl<T, R: Wait> Publish for Publisher<T, R> {
       same_on = λ a b c ab bc. (bc.0 ∙ ab.0, bc.1 ∙ ab.1);
       same_may_refuse = λ _ _ _. (λ none. none, λ none. none);
     } };
+}
+
+impl<T, R: Wait> PublishAfter for Publisher<T, R> {
+    ghost publisher = { λ publisher. publisher };
+
+    fn publish_after(&mut self, word: Word<T>, item: T) -> Result<(), Refused<T>>
+        requires queue { word.queue ≡ self.old.queue }
+        ensures published { OnOk result (self.new.published ≡ self.old.published ++ Some item ∷ []) }
+        ensures unpublished { OnErr result (self.new.published ≡ self.old.published) }
+        ensures returned { IfErr result (λ refused. refused.item ≡ item) }
+        ensures allowed { OnErr result ⊥ }
+        ensures same { (self.new.queue ≡ self.old.queue) × (self.new.number ≡ self.old.number) }
+        ensures behind { OnOk result (StandsBehind self.new.told (self.old.number, Some item) word.list) }
+    {
+        Publisher::publish_after(self, word, item)
+    }
+
+    ghost stays = { λ one other same. same };
 }

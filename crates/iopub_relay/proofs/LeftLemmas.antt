@@ -1,21 +1,18 @@
 -- What is left of a relay: its subscribers by their rows.
 use Rattle.std.proofs.Common.{map}
 use Rattle.std.proofs.Common.{◌≡◌, inl, inr, ℕ, nat_eq, Bool, true, false, List, [], ◌∷◌, Option}
-use Rattle.std.proofs.Common.{Some, None, refl, sym, ap, subst, ◌∙◌, cond, option_map, if◌then◌else◌}
+use Rattle.std.proofs.Common.{Some, None, refl, sym, subst, cond, option_map, if◌then◌else◌}
 use Rattle.zmtp_wire.specs.Device.{Outflow}
 use Rattle.iopub_event.specs.declared.event.Event.{Event}
-use Rattle.iopub_event.specs.declared.event.Event.TheVariants.{Subscribe}
 use Rattle.iopub_relay.specs.declared.subscriber.Standing.{Standing}
 use Rattle.iopub_relay.specs.declared.subscriber.Standing.TheVariants.{Served, Broken, Starved}
 use Rattle.iopub_relay.specs.declared.subscriber.Subscriber.{Subscriber}
 use Rattle.iopub_relay.specs.Life.{Life, life}
-use Rattle.iopub_relay.specs.Feed.{feed, feed_behind, AreAboveId, AreRisingIds}
+use Rattle.iopub_relay.specs.Feed.{AreAboveId, AreRisingIds}
 use Rattle.iopub_relay.specs.Rows.{row_of, AreAbove, AreRising}
 use Rattle.iopub_relay.specs.Table.{GetsBy, LivesAt}
 use Rattle.iopub_relay.specs.Relay.{Relaying, ServesTaken, has_failed, left_by, left_of, GetsMarked, IsLeft}
 use Rattle.iopub_relay.specs.Relay.{IsLeftOf}
-use Rattle.iopub_relay.proofs.LifeLemmas.{feed_on}
-use Rattle.iopub_relay.proofs.FeedLemmas.{broken_off}
 
 module _ {Writer : Type 0} where
   above_left : (id : ℕ) (rows : List (Subscriber Writer)) → AreAbove id rows
@@ -46,19 +43,10 @@ module _ {Writer : Type 0} where
       (left_is id rows)
 
   gets_marked : (standing : Standing) (old new : Outflow) (id : ℕ) (events : List (Event Writer))
-      → GetsBy standing old new id events → GetsMarked (has_failed standing) old new (feed id events)
+      → GetsBy standing old new id events → GetsMarked (has_failed standing) old new id events
   gets_marked Served old new id events gets = gets
-  gets_marked Broken old new id events gets =
-      let (front, lost, whole, some, puts) = broken_off old new id events gets in
-      (front, (lost, whole), inr puts)
-  gets_marked Starved old new id events gets = (
-    feed id gets.before,
-    (
-      feed_behind id gets.before (Subscribe id gets.topic ∷ gets.behind),
-      ap (feed id) gets.split ∙ feed_on id [] gets.before (Subscribe id gets.topic ∷ gets.behind),
-    ),
-    inl gets.puts,
-  )
+  gets_marked Broken old new id events gets = inl gets
+  gets_marked Starved old new id events gets = inr gets
 
   module _ (outflow : Writer → Outflow) where
     left_at : (id : ℕ) (row : Option (Subscriber Writer)) (now : Option (Life Writer)) → LivesAt outflow id row now

@@ -19,7 +19,7 @@ use Rattle.iopub_relay.specs.declared.subscriber.Subscriber.{Subscriber}
 use Rattle.iopub_relay.specs.Life.{Life, life}
 use Rattle.iopub_relay.specs.Feed.{feed, AreRisingIds}
 use Rattle.iopub_relay.specs.Rows.{row_of, AreRising}
-use Rattle.iopub_relay.specs.Table.{Fits, FitsMore, IsStarved, StarvesOnly}
+use Rattle.iopub_relay.specs.Table.{BreaksOff, Fits, FitsMore, GoesWithout, IsStarved, StarvesOnly}
 
 -- What contracts see of a relay: its taker, its subscribers by rising ids, and how often there was no room for one.
 pub record Relaying (Writer : Type 0) : Type 0 where
@@ -193,12 +193,12 @@ abbrev pub left_of : {Writer : Type 0} → ℕ → List (ℕ × Writer × Bool) 
 left_of id [] = None
 left_of id ((other, writer, failed) ∷ left) = if nat_eq id other then Some (writer, failed) else left_of id left
 
--- what a writer got of what was due to it: all, and no write failed or took nothing; or a beginning where the
--- subscriber has failed, and at most one did
-abbrev pub GetsMarked : Bool → Outflow → Outflow → List ℕ → Type 0
-GetsMarked false old new octets = Puts old new octets 0
-GetsMarked true old new octets =
-    (front : List ℕ) × StartsWith octets front × (Puts old new front 0 ⊎ Puts old new front 1)
+-- What a writer got of what was due to it: all, and no write failed or took nothing; or, if the subscriber has failed,
+-- what was due up to an event, of which a write failed or took nothing, or by which it asked for a topic that there was
+-- no memory for.
+abbrev pub GetsMarked : {Writer : Type 0} → Bool → Outflow → Outflow → ℕ → List (Event Writer) → Type 0
+GetsMarked false old new id events = Puts old new (feed id events) 0
+GetsMarked true old new id events = BreaksOff old new id events ⊎ GoesWithout old new id events
 
 -- a subscriber is left where it is there, and none where it isn't; the writer that it came with got its feed
 abbrev pub IsLeft : {Writer : Type 0} → (Writer → Outflow) → ℕ → Option (Life Writer) → Option (Writer × Bool) → Type 0
@@ -206,7 +206,7 @@ IsLeft outflow id None None = ⊤
 IsLeft outflow id None (Some left) = ⊥
 IsLeft outflow id (Some life) None = ⊥
 IsLeft outflow id (Some life) (Some (writer, failed)) =
-    GetsMarked failed (outflow life.writer) (outflow writer) (feed id life.events)
+    GetsMarked failed (outflow life.writer) (outflow writer) id life.events
 
 -- What is left of a relay that took these entries: the subscribers that are there behind what was served of them, by
 -- rising ids. Each writer got what was due to it.

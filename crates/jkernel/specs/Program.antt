@@ -86,13 +86,9 @@ abbrev pub RefusesWords : GivenWords → Type 0
 RefusesWords words = MatchResult words (λ read. AreWrong (map string_bytes read.items)
     ⊎ (order_of (map string_bytes read.items) ≡ None)) (λ error. error_kind error ≡ InvalidData)
 
--- status 3: the words order that a file be served
-abbrev pub RefusesFile : GivenWords → Type 0
-RefusesFile words = WordsSay words (λ read. (file : List ℕ) × IsOrder read (Serve file))
-
--- status 4: the words order that a file be served
-abbrev pub CannotServe : GivenWords → Type 0
-CannotServe words = WordsSay words (λ read. (file : List ℕ) × IsOrder read (Serve file))
+-- statuses 3 and 4: the words order that a file be served
+abbrev pub OrdersServe : GivenWords → Type 0
+OrdersServe words = WordsSay words (λ read. (file : List ℕ) × IsOrder read (Serve file))
 
 -- status 6: the words order a replay, and its input spells no octets
 abbrev pub RefusesInput : GivenWords → Option (List ℕ) → Type 0

@@ -4,16 +4,17 @@ ghost use Rattle.std.specs.Prelude.{◌≡◌, ◌++◌, ◌⊎◌, Ok, IfOk, If
 ghost use Rattle.conn_file.specs.Connection.{connection_of};
 ghost use Rattle.std.specs.Io.KnownBytes.{Appends};
 ghost use Rattle.std.specs.declared.io.ErrorKind.TheVariants.{InvalidData};
-ghost use Rattle.jkernel.specs.Program.{CannotServe, DoesOrder, EndsServing, IsDone, IsReplay, IsServe, JudgesFile};
-ghost use Rattle.jkernel.specs.Program.{RefusesFile, RefusesInput, RefusesWords};
+ghost use Rattle.jkernel.specs.Program.{DoesOrder, EndsServing, IsDone, IsReplay, IsServe, JudgesFile, OrdersServe};
+ghost use Rattle.jkernel.specs.Program.{RefusesInput, RefusesWords};
 ghost use Rattle.jkernel.specs.Replay.{IsNotHex};
 
 use crate::lines::write_out;
 use crate::replay::run_replay;
 use crate::status::Status;
 use crate::words::{Order, WordsFault, read_words};
+use arith_shell::ShellArith;
 use conn_file::{ConnFault, Connection, kernelspec_text, read_connection};
-use kernel_serve::{ServeFault, Until, can_be_read};
+use kernel_serve::{Interpreters, ServeFault, Until, can_be_read};
 use std::alloc::Global;
 use std::fs::{self, Files};
 use std::io::{self, ErrorKind, Read, Write};
@@ -57,10 +58,10 @@ where
     ensures words { result ≡ 2 → RefusesWords words.now × (writer.new ≡ writer.old) }
 
     // 3: the words order that a file be served, and nothing was printed.
-    ensures file { result ≡ 3 → RefusesFile words.now × (writer.new ≡ writer.old) }
+    ensures file { result ≡ 3 → OrdersServe words.now × (writer.new ≡ writer.old) }
 
     // 4: the words order that a file be served, and nothing was printed: a port can't be bound.
-    ensures port { result ≡ 4 → CannotServe words.now × (writer.new ≡ writer.old) }
+    ensures port { result ≡ 4 → OrdersServe words.now × (writer.new ≡ writer.old) }
 
     // 6: the words order a replay, whose input is refused, and nothing was printed.
     ensures input { result ≡ 6 → RefusesInput words.now (R.remaining reader.old) × (writer.new ≡ writer.old) }
@@ -285,7 +286,11 @@ where
         + 'static,
     ensures { EndsServing result }
 {
-    match kernel_serve::serve(rt, alloc, connection, until) {
+    let interpreters = Interpreters {
+        shell: ShellArith::new(alloc),
+        control: ShellArith::new(alloc),
+    };
+    match kernel_serve::serve(rt, alloc, connection, interpreters, until) {
         Ok(served) => Status::of_end(served.complete),
         Err(ServeFault::CannotBind(port)) => Status::CannotBind(port),
         Err(ServeFault::NoThread | ServeFault::NoRandomness | ServeFault::OutOfMemory) => {

@@ -145,7 +145,8 @@ fn jkernel<'a>(alloc: Global) -> Result<Command<'a>, AllocError>
         .version("1.0")
         .about(ABOUT)
         .after_help(EXAMPLE);
-    let replaying = with_replay(alloc, command)?;
+    let named = command.bin_name("jkernel")?;
+    let replaying = with_replay(alloc, named)?;
     let serving = with_serve(alloc, replaying)?;
     serving.subcommand(kernelspec(alloc))
 }
@@ -187,10 +188,7 @@ fn replay<'a>(alloc: Global) -> Result<Command<'a>, AllocError>
         .action(ArgAction::Set)
         .help("The key that messages are signed with; without it nothing is signed");
     Command::new(alloc, "replay")
-        .about(concat!(
-            "Reads what a shell peer sends, as hexadecimal text from standard input, and prints what the kernel ",
-            "writes to it, what it publishes, and how the session ends (the default)",
-        ))
+        .about("Replays a peer of the shell channel, read as hexadecimal text (the default)")
         .arg(key)
 }
 
@@ -204,12 +202,9 @@ fn serve<'a>(alloc: Global) -> Result<Command<'a>, AllocError>
         .value_name("FILE")
         .required(true)
         .action(ArgAction::Set)
-        .help("The connection file that a Jupyter server wrote; words behind it are ignored");
+        .help("The connection file of a Jupyter server; words behind it are ignored");
     Command::new(alloc, "serve")
-        .about(concat!(
-            "Serves the ports of a connection file until a client asks for the kernel's end; prints nothing but what ",
-            "is wrong",
-        ))
+        .about("Runs a kernel on the ports of a connection file until a client ends it")
         .arg(file)
 }
 
@@ -218,7 +213,7 @@ fn kernelspec<'a>(alloc: Global) -> Command<'a>
     ensures { (app_of result ≡ kernelspec_command) × ((fields_of result).has_globals ≡ false) }
 {
     Command::new(alloc, "kernelspec").about(
-        "Reads nothing, and prints the kernelspec, by which Jupyter starts this kernel",
+        "Prints the kernelspec, by which Jupyter starts a kernel",
     )
 }
 

@@ -4,28 +4,35 @@ use Rattle.std.proofs.Common.{true, false, Option, Some, None, Result, Ok, Err, 
 use Rattle.std.proofs.Common.{ap, append_assoc, subst}
 use Rattle.std.proofs.lemmas.List.{append-nil, map-append}
 use Rattle.iopub_event.specs.declared.event.Event.TheVariants as events
+use Rattle.iopub_event.specs.declared.event.Event.{Event}
+use Rattle.iopub_queue.specs.Entries.{Entry, StandsBehind}
+use Rattle.iopub_queue.specs.Values as queue
 use Rattle.jmsg_envelope.specs.Stamp.{StampMeaning}
 use Rattle.jmsg_envelope.specs.declared.envelope.Envelope.{Envelope}
 use Rattle.jmsg_types.specs.declared.publication.Publication.{Publication}
+use Rattle.kernel_engine.specs.declared.asked.Asked.{Asked}
 use Rattle.kernel_engine.specs.declared.does.Does.{Does}
 use Rattle.kernel_engine.specs.declared.fault.EngineFault.{EngineFault}
-use Rattle.kernel_engine.specs.declared.fault.EngineFault.TheVariants.{Memory}
+use Rattle.kernel_engine.specs.declared.fault.EngineFault.TheVariants.{OwedIdle, Memory, Worn}
+use Rattle.kernel_engine.specs.declared.open_block.Begun.{Begun}
 use Rattle.kernel_engine.specs.declared.response.Response.{Response}
 use Rattle.kernel_engine.specs.declared.heading.Heading.{Heading}
 use Rattle.kernel_engine.specs.declared.parts.Parts.{Parts}
 use Rattle.kernel_engine.specs.declared.publishing.Publishing.{Publishing}
 use Rattle.kernel_engine.specs.declared.respond.Answered.{Answered}
 use Rattle.kernel_engine.specs.Answer.{Answer, Answers}
+use Rattle.kernel_engine.specs.Begins.{Begins, BeginsNot}
 use Rattle.kernel_engine.specs.Block.{Message, busy, idle, opened, published_all, reply_message}
 use Rattle.kernel_engine.specs.Comes.{IsRead, message_comes}
 use Rattle.kernel_engine.specs.declared.does.Does.TheVariants.{Unread}
 use Rattle.kernel_engine.specs.Growth.{Puts, item_of, sealing_of}
 use Rattle.kernel_engine.specs.Handles.{Adds, AnswersInBlock, AnswersNot, Closes, HandlesCut, HandlesErr, HandlesOk}
 use Rattle.kernel_engine.specs.Handles.{IsLeft, LeavesOpen, Pays, answer_with, owed_items}
+use Rattle.kernel_engine.specs.Last.{ClosesBehind, CutLast, HandlesLast, HandlesLastErr, IdleIsBehind, IsBehind}
 use Rattle.kernel_engine.specs.Opens.{Opens, ids_of_reply}
 use Rattle.kernel_engine.specs.Publications.{Publishes}
 use Rattle.kernel_engine.specs.Responds.{RespondsCut, RespondsWhole, answer_of}
-use Rattle.kernel_engine.specs.WellBlocked.{Block, past}
+use Rattle.kernel_engine.specs.WellBlocked.{Block, idle_of, past}
 use Rattle.kernel_engine.specs.World.{World}
 use Rattle.kernel_engine.proofs.AnswerLemmas.{counted_once, leaves_answered}
 use Rattle.kernel_engine.proofs.TellLemmas.{may_be_cut}
@@ -174,59 +181,57 @@ module _ {I P S W Cell : Type 0} (world : World I P S W Cell)
     count : new.count ≡ at.count
     next : new.publishing.next ≡ at.publishing.next
 
-  -- the idle of the block was published, or it is owed
-  closes : (parent : List ℕ) (heading : Heading) (idling : Message) (publications : List Publication)
+  -- the idle of the block was published
+  closed_by : (parent : List ℕ) (heading : Heading) (idling : Message) (publications : List Publication)
+      (old at new : Parts I P S W) → IsOpen parent heading idling publications old at
+      → Closes world.sink idling at new → Added (block_of heading old.publishing.next publications true) old at new
+  closed_by parent heading idling publications old at new first done = record {
+    adds = record {
+      number = refl;
+      dated = first.dated;
+      items = grown_behind (world.sink.items old.publishing.sink) (world.sink.items at.publishing.sink)
+          (world.sink.items new.publishing.sink) (owed_items old.owed) _ _ first.items
+          (done.items ∙ ap (λ i. world.sink.items at.publishing.sink ++ item_of i ∷ []) first.idle_is)
+          ∙ ap (λ l. world.sink.items old.publishing.sink ++ (owed_items old.owed ++ l)) (sym (map-append item_of
+          (opened (sealing_of world.stamp old.publishing) heading old.publishing.next publications) _));
+      owed = inl (refl, ap (λ (p : Parts I P S W). p.owed) done.rest ∙ first.owed);
+      side = ap (λ (p : Parts I P S W). p.side) done.rest ∙ first.side;
+      signer = ap (λ (p : Parts I P S W). p.publishing.signer) done.rest ∙ first.signer;
+      meant = ap (λ (p : Parts I P S W). world.stamp.meaning p.publishing.stamp) done.rest ∙ first.meant;
+      same = on _ _ _ first.same done.same;
+    };
+    interp = ap (λ (p : Parts I P S W). p.interp) done.rest;
+    count = ap (λ (p : Parts I P S W). p.count) done.rest;
+    next = ap (λ (p : Parts I P S W). p.publishing.next) done.rest;
+  }
+
+  -- the idle of the block is owed
+  left_by : (parent : List ℕ) (heading : Heading) (idling : Message) (publications : List Publication)
       (old at new : Parts I P S W) → ((a b : P) → world.sink.is_same a b → world.sink.may_refuse b →
-      world.sink.may_refuse a)
-      → IsOpen parent heading idling publications old at
-      → Closes world.sink idling at new ⊎ LeavesOpen world.sink idling at new
-      → (closed : Bool) × Added (block_of heading old.publishing.next publications closed) old at new
-  closes parent heading idling publications old at new back first (inl done) = (
-    true,
-    record {
-      adds = record {
-        number = refl;
-        dated = first.dated;
-        items = grown_behind (world.sink.items old.publishing.sink) (world.sink.items at.publishing.sink)
-            (world.sink.items new.publishing.sink) (owed_items old.owed) _ _ first.items
-            (done.items ∙ ap (λ i. world.sink.items at.publishing.sink ++ item_of i ∷ []) first.idle_is)
-            ∙ ap (λ l. world.sink.items old.publishing.sink ++ (owed_items old.owed ++ l)) (sym (map-append item_of
-            (opened (sealing_of world.stamp old.publishing) heading old.publishing.next publications) _));
-        owed = inl (refl, ap (λ (p : Parts I P S W). p.owed) done.rest ∙ first.owed);
-        side = ap (λ (p : Parts I P S W). p.side) done.rest ∙ first.side;
-        signer = ap (λ (p : Parts I P S W). p.publishing.signer) done.rest ∙ first.signer;
-        meant = ap (λ (p : Parts I P S W). world.stamp.meaning p.publishing.stamp) done.rest ∙ first.meant;
-        same = on _ _ _ first.same done.same;
-      };
-      interp = ap (λ (p : Parts I P S W). p.interp) done.rest;
-      count = ap (λ (p : Parts I P S W). p.count) done.rest;
-      next = ap (λ (p : Parts I P S W). p.publishing.next) done.rest;
-    },
-  )
-  closes parent heading idling publications old at new back first (inr left) = (
-    false,
-    record {
-      adds = record {
-        number = refl;
-        dated = first.dated;
-        items = left.items ∙ first.items ∙ ap (λ l. world.sink.items old.publishing.sink ++ (owed_items old.owed ++ l))
-            (sym (ap (map item_of) (append-nil
-            (opened (sealing_of world.stamp old.publishing) heading old.publishing.next publications))));
-        owed = inr (
-          refl,
-          ap (λ (p : Parts I P S W). p.owed) left.rest ∙ ap (λ i. Some (events.Message i)) first.idle_is,
-          back _ _ first.same left.refused,
-        );
-        side = ap (λ (p : Parts I P S W). p.side) left.rest ∙ first.side;
-        signer = ap (λ (p : Parts I P S W). p.publishing.signer) left.rest ∙ first.signer;
-        meant = ap (λ (p : Parts I P S W). world.stamp.meaning p.publishing.stamp) left.rest ∙ first.meant;
-        same = on _ _ _ first.same left.same;
-      };
-      interp = ap (λ (p : Parts I P S W). p.interp) left.rest;
-      count = ap (λ (p : Parts I P S W). p.count) left.rest;
-      next = ap (λ (p : Parts I P S W). p.publishing.next) left.rest;
-    },
-  )
+      world.sink.may_refuse a) → IsOpen parent heading idling publications old at
+      → LeavesOpen world.sink idling at new
+      → Added (block_of heading old.publishing.next publications false) old at new
+  left_by parent heading idling publications old at new back first left = record {
+    adds = record {
+      number = refl;
+      dated = first.dated;
+      items = left.items ∙ first.items ∙ ap (λ l. world.sink.items old.publishing.sink ++ (owed_items old.owed ++ l))
+          (sym (ap (map item_of) (append-nil
+          (opened (sealing_of world.stamp old.publishing) heading old.publishing.next publications))));
+      owed = inr (
+        refl,
+        ap (λ (p : Parts I P S W). p.owed) left.rest ∙ ap (λ i. Some (events.Message i)) first.idle_is,
+        back _ _ first.same left.refused,
+      );
+      side = ap (λ (p : Parts I P S W). p.side) left.rest ∙ first.side;
+      signer = ap (λ (p : Parts I P S W). p.publishing.signer) left.rest ∙ first.signer;
+      meant = ap (λ (p : Parts I P S W). world.stamp.meaning p.publishing.stamp) left.rest ∙ first.meant;
+      same = on _ _ _ first.same left.same;
+    };
+    interp = ap (λ (p : Parts I P S W). p.interp) left.rest;
+    count = ap (λ (p : Parts I P S W). p.count) left.rest;
+    next = ap (λ (p : Parts I P S W). p.publishing.next) left.rest;
+  }
 
   -- a request that wasn't read wasn't answered
   pub read_whole : (may : Type 0) (heading : Heading) (identities : List (List ℕ)) (msg_type : List ℕ)
@@ -287,96 +292,296 @@ module _ {I P S W Cell : Type 0} (world : World I P S W Cell)
   handled_told may request old new (Err fault) (is, cut) = rw is (inr cut)
 
   module _ (request : Envelope) (heading : Heading) (idling : Message) (old paid : Parts I P S W)
-      (opens : Publishing P S) (at new : Parts I P S W) (back : (a b : P) → world.sink.is_same a b →
-      world.sink.may_refuse b → world.sink.may_refuse a)
-      (few : old.publishing.next ≤ 2 ^ 62) (pays : Pays world.sink old paid)
+      (opens : Publishing P S) (at new : Parts I P S W) (few : old.publishing.next ≤ 2 ^ 62)
+      (pays : Pays world.sink old paid)
       (begins : Opens world.sink world.stamp request.header heading idling paid.publishing opens)
-      (ends : Closes world.sink idling at new ⊎ LeavesOpen world.sink idling at new)
     where
-      -- a request was answered
-      pub handled_ok : (may : Type 0) (handled : Response)
-          → AnswersInBlock world may heading request.identities request.msg_type (message_comes old.side request)
-          (record paid { publishing = opens }) handled at
-          → HandlesOk world may request old handled new
-      handled_ok may handled answers =
+      -- the publications of a request that was answered
+      grown_ok : (may : Type 0) (handled : Response) (answers : AnswersInBlock world may heading request.identities
+          request.msg_type (message_comes old.side request) (record paid { publishing = opens }) handled at)
+          → IsOpen request.header heading idling answers.publications old at
+      grown_ok may handled answers =
+          goes_on request.header heading idling answers.publications old (record paid { publishing = opens }) at
+          answers.at (answers.at.next + ids_of_reply answers.reply)
+          (is_open request.header heading idling old paid opens pays begins)
+          (next_open request.header heading idling old paid opens pays begins) answers.grew answers.rest
+
+      -- the publications of one for which memory was refused meanwhile
+      grown_cut : (may : Type 0) (answers : AnswersNot world may heading (message_comes old.side request)
+          (record paid { publishing = opens }) at) → IsOpen request.header heading idling answers.publications old at
+      grown_cut may answers =
+          goes_on request.header heading idling answers.publications old (record paid { publishing = opens }) at
+          at.publishing at.publishing.next (is_open request.header heading idling old paid opens pays begins)
+          (next_open request.header heading idling old paid opens pays begins) answers.grew answers.rest
+
+      -- a request was answered, and its block was added
+      handled_ok : (may : Type 0) (handled : Response) (closed : Bool) (answers : AnswersInBlock world may heading
+          request.identities request.msg_type (message_comes old.side request) (record paid { publishing = opens })
+          handled at) → Added (block_of heading old.publishing.next answers.publications closed) old at new
+          → (ok : HandlesOk world may request old handled new)
+          × (ok.block ≡ block_of heading old.publishing.next answers.publications closed)
+      handled_ok may handled closed answers added =
           let first = is_open request.header heading idling old paid opens pays begins in
           let number = next_open request.header heading idling old paid opens pays begins in
-          let grown = goes_on request.header heading idling answers.publications old
-          (record paid { publishing = opens }) at answers.at (answers.at.next + ids_of_reply answers.reply) first number
-          answers.grew answers.rest in
-          let (closed, added) = closes request.header heading idling answers.publications old at new back grown ends in
           let behind : answers.at.next ≡ past (block_of heading old.publishing.next answers.publications closed) =
           ap (λ (p : Publishing P S). p.next) answers.grew.rest
-          ∙ ap (λ n. n + length answers.publications) number in
-          record {
-            few = few;
-            course = answers.course;
-            block = block_of heading old.publishing.next answers.publications closed;
-            reply = answers.reply;
-            parent = begins.parent_is;
-            publishes = subst (λ (p : Parts I P S W). Publishes world.language (message_comes old.side request)
-                p.interp p.count answers.course answers.publications) pays.rest answers.publishes;
-            answers = subst (λ (a : Answer I). Answers world.language (message_comes old.side request) old.interp
-                old.count answers.course a)
-                (ap (λ (i : I). record (answer_with handled answers.reply at) { state = i }) (sym added.interp)
-                ∙ ap (λ n. record (answer_with handled answers.reply at) { state = new.interp; count = n })
-                (sym added.count))
-                (subst (λ (p : Parts I P S W). Answers world.language (message_comes old.side request) p.interp p.count
-                answers.course (answer_with handled answers.reply at)) pays.rest answers.answers);
-            ending = answers.ending;
-            replied = answers.replied
-                ∙ ap (λ s. reply_message s heading request.identities answers.at.next request.msg_type answers.reply)
-                (sealing_by opens old.publishing first.signer first.meant)
-                ∙ ap (λ n. reply_message (sealing_of world.stamp old.publishing) heading request.identities n
-                request.msg_type answers.reply) behind;
-            adds = added.adds;
-            next = added.next ∙ ap (λ (p : Parts I P S W). p.publishing.next) answers.rest
-                ∙ ap (λ n. n + ids_of_reply answers.reply) behind;
-            last = let before : opens.next ≤ 2 ^ 63 + 1 = omega (arith, few, number) in
-                let reached = answers.few before in let next = added.next in omega (arith, reached, next);
-          }
+          ∙ ap (λ n. n + length answers.publications) number in (
+            record {
+              few = few;
+              course = answers.course;
+              block = block_of heading old.publishing.next answers.publications closed;
+              reply = answers.reply;
+              parent = begins.parent_is;
+              publishes = subst (λ (p : Parts I P S W). Publishes world.language (message_comes old.side request)
+                  p.interp p.count answers.course answers.publications) pays.rest answers.publishes;
+              answers = subst (λ (a : Answer I). Answers world.language (message_comes old.side request) old.interp
+                  old.count answers.course a)
+                  (ap (λ (i : I). record (answer_with handled answers.reply at) { state = i }) (sym added.interp)
+                  ∙ ap (λ n. record (answer_with handled answers.reply at) { state = new.interp; count = n })
+                  (sym added.count))
+                  (subst (λ (p : Parts I P S W). Answers world.language (message_comes old.side request) p.interp
+                  p.count answers.course (answer_with handled answers.reply at)) pays.rest answers.answers);
+              ending = answers.ending;
+              replied = answers.replied
+                  ∙ ap (λ s. reply_message s heading request.identities answers.at.next request.msg_type answers.reply)
+                  (sealing_by opens old.publishing first.signer first.meant)
+                  ∙ ap (λ n. reply_message (sealing_of world.stamp old.publishing) heading request.identities n
+                  request.msg_type answers.reply) behind;
+              adds = added.adds;
+              next = added.next ∙ ap (λ (p : Parts I P S W). p.publishing.next) answers.rest
+                  ∙ ap (λ n. n + ids_of_reply answers.reply) behind;
+              last = let before : opens.next ≤ 2 ^ 63 + 1 = omega (arith, few, number) in
+                  let reached = answers.few before in let next = added.next in omega (arith, reached, next);
+            },
+            refl,
+          )
 
-      -- memory was refused while a request was answered
-      pub handled_cut : (may : Type 0)
+      -- memory was refused while a request was answered, and its block was added
+      handled_cut : (may : Type 0) (closed : Bool) (answers : AnswersNot world may heading
+          (message_comes old.side request) (record paid { publishing = opens }) at)
+          → Added (block_of heading old.publishing.next answers.publications closed) old at new
+          → (cut : HandlesCut world may request old new)
+          × (cut.block ≡ block_of heading old.publishing.next answers.publications closed)
+      handled_cut may closed answers added =
+          let number = next_open request.header heading idling old paid opens pays begins in (
+            record {
+              few = few;
+              block = block_of heading old.publishing.next answers.publications closed;
+              parent = begins.parent_is;
+              left = rw (added.interp, added.count) (subst (λ (p : Parts I P S W). IsLeft world may (message_comes
+                  old.side request) p at answers.publications) pays.rest
+                  answers.left);
+              adds = added.adds;
+              next = added.next ∙ ap (λ (p : Publishing P S). p.next) answers.grew.rest
+                  ∙ ap (λ n. n + length answers.publications) number;
+              last = let before : opens.next ≤ 2 ^ 63 + 1 = omega (arith, few, number) in
+                  let reached = answers.grew.few before in let next = added.next in omega (arith, reached, next);
+            },
+            refl,
+          )
+
+      -- a request was answered, and its block closed or left open
+      ok_by : (may : Type 0) (handled : Response)
+          → ((a b : P) → world.sink.is_same a b → world.sink.may_refuse b → world.sink.may_refuse a)
+          → AnswersInBlock world may heading request.identities request.msg_type (message_comes old.side request)
+          (record paid { publishing = opens }) handled at
+          → Closes world.sink idling at new ⊎ LeavesOpen world.sink idling at new
+          → HandlesOk world may request old handled new
+      ok_by may handled back answers (inl done) =
+          (handled_ok may handled true answers (closed_by request.header heading idling answers.publications old at new
+          (grown_ok may handled answers) done)).0
+      ok_by may handled back answers (inr left) =
+          (handled_ok may handled false answers (left_by request.header heading idling answers.publications old at new
+          back (grown_ok may handled answers) left)).0
+
+      -- memory was refused meanwhile, and its block closed or left open
+      cut_by : (may : Type 0)
+          → ((a b : P) → world.sink.is_same a b → world.sink.may_refuse b → world.sink.may_refuse a)
           → AnswersNot world may heading (message_comes old.side request) (record paid { publishing = opens }) at
+          → Closes world.sink idling at new ⊎ LeavesOpen world.sink idling at new
           → HandlesCut world may request old new
-      handled_cut may answers =
-          let first = is_open request.header heading idling old paid opens pays begins in
-          let number = next_open request.header heading idling old paid opens pays begins in
-          let grown = goes_on request.header heading idling answers.publications old
-          (record paid { publishing = opens }) at at.publishing at.publishing.next first number answers.grew
-          answers.rest in
-          let (closed, added) = closes request.header heading idling answers.publications old at new back grown ends in
-          record {
-            few = few;
-            block = block_of heading old.publishing.next answers.publications closed;
-            parent = begins.parent_is;
-            left = rw (added.interp, added.count) (subst (λ (p : Parts I P S W). IsLeft world may (message_comes
-                old.side request) p at answers.publications) pays.rest
-                answers.left);
-            adds = added.adds;
-            next = added.next ∙ ap (λ (p : Publishing P S). p.next) answers.grew.rest
-                ∙ ap (λ n. n + length answers.publications) number;
-            last = let before : opens.next ≤ 2 ^ 63 + 1 = omega (arith, few, number) in
-                let reached = answers.grew.few before in let next = added.next in omega (arith, reached, next);
-          }
+      cut_by may back answers (inl done) =
+          (handled_cut may true answers (closed_by request.header heading idling answers.publications old at new
+          (grown_cut may answers) done)).0
+      cut_by may back answers (inr left) =
+          (handled_cut may false answers (left_by request.header heading idling answers.publications old at new back
+          (grown_cut may answers) left)).0
 
       -- a request that was read was answered, or memory was refused meanwhile
-      pub handled_by : (may : Type 0) (does : Does) (result : Result Response EngineFault)
+      handled_by : (may : Type 0) (does : Does) (result : Result Response EngineFault)
+          → ((a b : P) → world.sink.is_same a b → world.sink.may_refuse b → world.sink.may_refuse a)
           → IsRead does (message_comes old.side request)
           → MatchResult result
           (λ handled. AnswersInBlock world may heading request.identities request.msg_type does
           (record paid { publishing = opens }) handled at)
           (λ fault. (fault ≡ Memory) × AnswersNot world may heading does (record paid { publishing = opens }) at)
+          → Closes world.sink idling at new ⊎ LeavesOpen world.sink idling at new
           → HandledOrCut may request old new result
-      handled_by may does (Ok handled) read answers =
-          handled_ok may handled (read_whole may heading request.identities request.msg_type does
-          (message_comes old.side request) (record paid { publishing = opens }) handled at read answers)
-      handled_by may does (Err fault) read (is, answers) = (
+      handled_by may does (Ok handled) back read answers ends =
+          let whole = read_whole may heading request.identities request.msg_type does (message_comes old.side request)
+          (record paid { publishing = opens }) handled at read answers in
+          ok_by may handled back whole ends
+      handled_by may does (Err fault) back read (is, answers) ends = (
         is,
-        handled_cut may (read_cut may heading does (message_comes old.side request)
-            (record paid { publishing = opens }) at read answers),
+        cut_by may back (read_cut may heading does (message_comes old.side request)
+            (record paid { publishing = opens }) at read answers) ends,
       )
+
+      module _ (publisher : P → queue.Publishing (Event W)) (word : List (Entry (Event W)))
+          (number : (publisher at.publishing.sink).number ≡ (publisher old.publishing.sink).number)
+        where
+          -- the idle of the block is behind a word
+          idle_behind : (publications : List Publication) (block : Block)
+              → block ≡ block_of heading old.publishing.next publications true → IsBehind publisher idling word at new
+              → IdleIsBehind world publisher word block old new
+          idle_behind publications block is behind closed =
+              subst (λ (b : Block). IsBehind publisher (idle_of (sealing_of world.stamp old.publishing) b) word old new)
+              (sym is)
+              (subst (λ i. IsBehind publisher i word old new)
+              ((is_open request.header heading idling old paid opens pays begins).idle_is)
+              (subst (λ n. StandsBehind (publisher new.publishing.sink).told (n, item_of idling) word) number behind))
+
+          -- no idle was published
+          no_idle : (publications : List Publication) (block : Block)
+              → block ≡ block_of heading old.publishing.next publications false
+              → IdleIsBehind world publisher word block old new
+          no_idle publications block is closed =
+              absurd (let open_one = ap (λ (b : Block). b.closed) is in let e = closed in cc)
+
+          -- a request was answered, and its idle is behind a word, or its block left open
+          last_ok : (may : Type 0) (handled : Response)
+              → ((a b : P) → world.sink.is_same a b → world.sink.may_refuse b → world.sink.may_refuse a)
+              → AnswersInBlock world may heading request.identities request.msg_type (message_comes old.side request)
+              (record paid { publishing = opens }) handled at
+              → ClosesBehind publisher world.sink idling word at new ⊎ LeavesOpen world.sink idling at new
+              → HandlesLast world publisher may request word old handled new
+          last_ok may handled back answers (inl ends) =
+              let (ok, is) = handled_ok may handled true answers (closed_by request.header heading idling
+              answers.publications old at new (grown_ok may handled answers) ends.closes) in
+              record { handles = ok; behind = idle_behind answers.publications ok.block is ends.behind }
+          last_ok may handled back answers (inr left) =
+              let (ok, is) = handled_ok may handled false answers (left_by request.header heading idling
+              answers.publications old at new back (grown_ok may handled answers) left) in
+              record { handles = ok; behind = no_idle answers.publications ok.block is }
+
+          -- memory was refused meanwhile, and its idle is behind a word, or its block left open
+          last_cut : (may : Type 0)
+              → ((a b : P) → world.sink.is_same a b → world.sink.may_refuse b → world.sink.may_refuse a)
+              → AnswersNot world may heading (message_comes old.side request) (record paid { publishing = opens }) at
+              → ClosesBehind publisher world.sink idling word at new ⊎ LeavesOpen world.sink idling at new
+              → CutLast world publisher may request word old new
+          last_cut may back answers (inl ends) =
+              let (cut, is) = handled_cut may true answers (closed_by request.header heading idling
+              answers.publications old at new (grown_cut may answers) ends.closes) in
+              record { cut = cut; behind = idle_behind answers.publications cut.block is ends.behind }
+          last_cut may back answers (inr left) =
+              let (cut, is) = handled_cut may false answers (left_by request.header heading idling
+              answers.publications old at new back (grown_cut may answers) left) in
+              record { cut = cut; behind = no_idle answers.publications cut.block is }
+
+          -- a request that was read was answered, or memory was refused meanwhile, its idle behind a word
+          last_by : (may : Type 0) (does : Does) (result : Result Response EngineFault)
+              → ((a b : P) → world.sink.is_same a b → world.sink.may_refuse b → world.sink.may_refuse a)
+              → IsRead does (message_comes old.side request)
+              → MatchResult result
+              (λ handled. AnswersInBlock world may heading request.identities request.msg_type does
+              (record paid { publishing = opens }) handled at)
+              (λ fault. (fault ≡ Memory) × AnswersNot world may heading does (record paid { publishing = opens }) at)
+              → ClosesBehind publisher world.sink idling word at new ⊎ LeavesOpen world.sink idling at new
+              → MatchResult result
+              (λ handled. HandlesLast world publisher may request word old handled new)
+              (λ fault. (fault ≡ Memory) × CutLast world publisher may request word old new)
+          last_by may does (Ok handled) back read answers ends =
+              let whole = read_whole may heading request.identities request.msg_type does
+              (message_comes old.side request) (record paid { publishing = opens }) handled at read answers in
+              last_ok may handled back whole ends
+          last_by may does (Err fault) back read (is, answers) ends = (
+            is,
+            last_cut may back (read_cut may heading does (message_comes old.side request)
+                (record paid { publishing = opens }) at read answers) ends,
+          )
+
+  -- a request that was begun was handled, or cut, as its block was closed or is left open
+  pub begun_told : (may : Type 0) (asked : Asked) (old at new : Parts I P S W) (begun : Begun)
+      → ((a b : P) → world.sink.is_same a b → world.sink.may_refuse b → world.sink.may_refuse a)
+      → IsRead asked.does (message_comes old.side asked.request) → Begins world may asked old begun at
+      → Closes world.sink begun.block.idle at new ⊎ LeavesOpen world.sink begun.block.idle at new
+      → HandledOrCut may asked.request old new begun.answered
+  begun_told may asked old at new begun back read begins ends =
+      handled_by asked.request begun.block.heading begun.block.idle old begins.paid begins.opens at new begins.few
+      begins.pays begins.begins may asked.does begun.answered back read begins.answers ends
+
+  -- what is told of a request of which nothing was published
+  pub not_begun : (may : Type 0) (request : Envelope) (old new : Parts I P S W) (fault : EngineFault)
+      → BeginsNot world request old fault new → HandlesErr world may request old fault new
+  not_begun may request old new (OwedIdle back) none = none
+  not_begun may request old new Memory none = inl none
+  not_begun may request old new Worn none = none
+
+  -- a request that was answered was read, where it was begun
+  pub begun_read : (may : Type 0) (asked : Asked) (old at : Parts I P S W) (begun : Begun)
+      → IsRead asked.does (message_comes old.side asked.request) → Begins world may asked old begun at
+      → OnOk begun.answered (asked.does ≡ message_comes old.side asked.request)
+  begun_read may asked old at begun read begins =
+      was_read may begun.block.heading asked.request.identities asked.request.msg_type asked.does
+      (message_comes old.side asked.request) (record begins.paid { publishing = begins.opens }) at begun.answered read
+      begins.answers
+
+  -- while a request is answered the sink stays the same
+  same_answered : (may : Type 0) (heading : Heading) (identities : List (List ℕ)) (msg_type : List ℕ) (does : Does)
+      (old new : Parts I P S W) (result : Result Response EngineFault) → MatchResult result
+      (λ handled. AnswersInBlock world may heading identities msg_type does old handled new)
+      (λ fault. (fault ≡ Memory) × AnswersNot world may heading does old new)
+      → world.sink.is_same old.publishing.sink new.publishing.sink
+  same_answered may heading identities msg_type does old new (Ok handled) answers =
+      subst (λ (p : Parts I P S W). world.sink.is_same old.publishing.sink p.publishing.sink) (sym answers.rest)
+      answers.grew.same
+  same_answered may heading identities msg_type does old new (Err fault) (is, answers) = answers.grew.same
+
+  -- and so it does while one is begun
+  pub same_begun : (may : Type 0) (asked : Asked) (old at : Parts I P S W) (begun : Begun)
+      → Begins world may asked old begun at → world.sink.is_same old.publishing.sink at.publishing.sink
+  same_begun may asked old at begun begins =
+      on _ _ _ (on _ _ _ begins.pays.same begins.begins.same)
+      (same_answered may begun.block.heading asked.request.identities asked.request.msg_type asked.does
+      (record begins.paid { publishing = begins.opens }) at begun.answered begins.answers)
+
+  -- what is told of a request whose idle goes behind a word
+  abbrev pub ToldLast : (P → queue.Publishing (Event W)) → List (Entry (Event W)) → Type 0 → Envelope
+      → Parts I P S W → Parts I P S W → Result Response EngineFault → Type 0
+  ToldLast publisher word may request old new result = MatchResult result
+      (λ handled. HandlesLast world publisher may request word old handled new)
+      (λ fault. HandlesLastErr world publisher may request word old fault new)
+
+  -- what such a request comes to
+  pub last_told : (publisher : P → queue.Publishing (Event W)) (word : List (Entry (Event W))) (may : Type 0)
+      (request : Envelope) (old new : Parts I P S W) (result : Result Response EngineFault)
+      → MatchResult result (λ handled. HandlesLast world publisher may request word old handled new)
+      (λ fault. (fault ≡ Memory) × CutLast world publisher may request word old new)
+      → ToldLast publisher word may request old new result
+  last_told publisher word may request old new (Ok handled) handles = handles
+  last_told publisher word may request old new (Err fault) (is, cut) = rw is (inr cut)
+
+  -- a request that was begun, and whose idle went behind a word, or is left open
+  pub begun_last : (publisher : P → queue.Publishing (Event W)) (word : List (Entry (Event W))) (may : Type 0)
+      (asked : Asked) (old at new : Parts I P S W) (begun : Begun)
+      → ((a b : P) → world.sink.is_same a b → world.sink.may_refuse b → world.sink.may_refuse a)
+      → (publisher at.publishing.sink).number ≡ (publisher old.publishing.sink).number
+      → IsRead asked.does (message_comes old.side asked.request) → Begins world may asked old begun at
+      → ClosesBehind publisher world.sink begun.block.idle word at new ⊎ LeavesOpen world.sink begun.block.idle at new
+      → MatchResult begun.answered (λ handled. HandlesLast world publisher may asked.request word old handled new)
+      (λ fault. (fault ≡ Memory) × CutLast world publisher may asked.request word old new)
+  begun_last publisher word may asked old at new begun back number read begins ends =
+      last_by asked.request begun.block.heading begun.block.idle old begins.paid begins.opens at new begins.few
+      begins.pays begins.begins publisher word number may asked.does begun.answered back read begins.answers ends
+
+  -- what is told of such a request of which nothing was published
+  pub not_begun_last : (publisher : P → queue.Publishing (Event W)) (word : List (Entry (Event W))) (may : Type 0)
+      (request : Envelope) (old new : Parts I P S W) (fault : EngineFault)
+      → BeginsNot world request old fault new → HandlesLastErr world publisher may request word old fault new
+  not_begun_last publisher word may request old new (OwedIdle back) none = none
+  not_begun_last publisher word may request old new Memory none = inl none
+  not_begun_last publisher word may request old new Worn none = none
 
   -- a request was answered, and its reply was made
   pub answers_whole : (may : Type 0) (heading : Heading) (identities : List (List ℕ)) (msg_type : List ℕ)
@@ -490,3 +695,15 @@ module _ {I P S W Cell : Type 0} (world : World I P S W Cell)
       → HandledOrCut may request old new result → new.count ≤ new.publishing.next
   counted_by may request old new (Ok handled) fewer handles = handled_count may request old new handled fewer handles
   counted_by may request old new (Err fault) fewer (is, cut) = cut_count may request old new fewer cut
+
+  -- a request whose idle goes behind a word counts at most once, too
+  pub last_counted : (publisher : P → queue.Publishing (Event W)) (word : List (Entry (Event W))) (may : Type 0)
+      (request : Envelope) (old new : Parts I P S W) (result : Result Response EngineFault)
+      → old.count ≤ old.publishing.next
+      → MatchResult result (λ handled. HandlesLast world publisher may request word old handled new)
+      (λ fault. (fault ≡ Memory) × CutLast world publisher may request word old new)
+      → new.count ≤ new.publishing.next
+  last_counted publisher word may request old new (Ok handled) fewer last =
+      handled_count may request old new handled fewer last.handles
+  last_counted publisher word may request old new (Err fault) fewer (is, last) =
+      cut_count may request old new fewer last.cut

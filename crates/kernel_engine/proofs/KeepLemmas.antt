@@ -7,6 +7,8 @@ use Rattle.std.proofs.lemmas.List.{append-nil, map-append}
 use Rattle.interp_core.specs.Interpreter.{Meaning}
 use Rattle.iopub_event.specs.declared.event.Event.{Event}
 use Rattle.iopub_event.specs.declared.event.Event.TheVariants as events
+use Rattle.iopub_queue.specs.Entries.{Entry}
+use Rattle.iopub_queue.specs.Values as queue
 use Rattle.jmsg_envelope.specs.declared.envelope.Envelope.{Envelope}
 use Rattle.interp_core.specs.declared.fault.InterpFault.TheVariants.{OutOfMemory}
 use Rattle.jmsg_types.specs.declared.publication.Publication.{Publication}
@@ -25,6 +27,7 @@ use Rattle.kernel_engine.specs.Growth.{item_of, sealing_of}
 use Rattle.kernel_engine.specs.Handles.{Adds, HandlesCut, HandlesErr, HandlesNot, HandlesOk, IsLeft, Pays}
 use Rattle.kernel_engine.specs.Handles.{PaysNot, owed_items}
 use Rattle.kernel_engine.specs.Publications.{Publishes, grown, last_of}
+use Rattle.kernel_engine.specs.Last.{HandlesLast, HandlesLastErr}
 use Rattle.kernel_engine.specs.WellBlocked.{AreClosed, AreCuts, Began, Block, IsCut, KeepsBlocks, Owes}
 use Rattle.kernel_engine.specs.WellBlocked.{Rise, first_number, front_of, heading_of, idle_of, messages_of, past}
 use Rattle.kernel_engine.specs.WellBlocked.{said_behind, where_published}
@@ -384,6 +387,22 @@ module _ {I P S W Cell : Type 0} (world : World I P S W Cell)
       → KeepsBlocks world new
   keeps_handled may request old new (Ok handled) keeps ok = keeps_ok may request old new handled keeps ok
   keeps_handled may request old new (Err fault) keeps err = keeps_err may request old new fault keeps err
+
+  -- a request whose idle goes behind a word was handled, or it was refused
+  pub keeps_last : (publisher : P → queue.Publishing (Event W)) (word : List (Entry (Event W))) (may : Type 0)
+      (request : Envelope) (old new : Parts I P S W) (result : Result Response EngineFault) → KeepsBlocks world old
+      → MatchResult result
+      (λ handled. HandlesLast world publisher may request word old handled new)
+      (λ fault. HandlesLastErr world publisher may request word old fault new)
+      → KeepsBlocks world new
+  keeps_last publisher word may request old new (Ok handled) keeps ok =
+      keeps_ok may request old new handled keeps ok.handles
+  keeps_last publisher word may request old new (Err (OwedIdle back)) keeps err = keeps_unpaid old new keeps err.owes
+  keeps_last publisher word may request old new (Err Memory) keeps (inl none) = keeps_not old new keeps none
+  keeps_last publisher word may request old new (Err Memory) keeps (inr last) =
+      keeps_cut may request old new keeps last.cut
+  keeps_last publisher word may request old new (Err Worn) keeps (worn, same) =
+      subst (λ (p : Parts I P S W). KeepsBlocks world p) (sym same) keeps
 
   -- an owed idle was tried once more
   pub keeps_closed : (old new : Parts I P S W) (done : Bool)

@@ -47,11 +47,12 @@ module _ {I P S W : Type 0} (sink : Sink P (Event W)) where
     pub rest : new ≡ record old { publishing = record old.publishing { sink = new.publishing.sink } }
     pub same : sink.is_same old.publishing.sink new.publishing.sink
 
-  -- an idle that was owed is published, and none is owed then
+  -- an idle that was owed is published, and none is owed then; if none was owed nothing changes
   pub record Pays (old new : Parts I P S W) : Type 0 where
     pub items : sink.items new.publishing.sink ≡ sink.items old.publishing.sink ++ owed_items old.owed
     pub rest : new ≡ record old { publishing = record old.publishing { sink = new.publishing.sink }; owed = None }
     pub same : sink.is_same old.publishing.sink new.publishing.sink
+    pub settled : old.owed ≡ None → new ≡ old
 
   -- an idle stays owed, since the sink refused it
   pub record PaysNot (old new : Parts I P S W) : Type 0 where

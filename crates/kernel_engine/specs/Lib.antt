@@ -11,6 +11,8 @@ pub mod Opens
 pub mod Fault
 pub mod WellBlocked
 pub mod Handles
+pub mod Begins
+pub mod Last
 pub mod Starts
 pub mod Within
 pub mod Laws

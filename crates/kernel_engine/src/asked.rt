@@ -47,7 +47,7 @@ impl Asked {
     }
 
     /// The request alone.
-    pub(crate) fn into_request(self) -> Envelope
+    pub fn into_request(self) -> Envelope
         ensures { result ≡ self.request }
     {
         let Asked { request, does } = self;

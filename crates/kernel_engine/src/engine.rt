@@ -4,6 +4,7 @@ ghost use Rattle.std.specs.Prelude.{◌≡◌, ◌⊎◌, [], None, MatchResult}
 ghost use Rattle.kernel_engine.specs.Comes.{IsRead, message_comes};
 ghost use Rattle.kernel_engine.specs.declared.response.Response.{Response};
 ghost use Rattle.kernel_engine.specs.Handles.{HandlesErr, HandlesOk, Pays, PaysNot};
+ghost use Rattle.kernel_engine.specs.Last.{HandlesLast, HandlesLastErr};
 ghost use Rattle.kernel_engine.specs.Orders.{handled_of};
 ghost use Rattle.kernel_engine.specs.Takes.{Asks, Finishes, Misses, Takes};
 ghost use Rattle.kernel_engine.specs.Starts.{SaysNothing, SaysStarting, StartsNot};
@@ -19,7 +20,7 @@ use crate::side::Side;
 use crate::stop::Stop;
 use interp_core::Interpreter;
 use iopub_event::Event;
-use iopub_queue::Publish;
+use iopub_queue::{Publish, PublishAfter, Word};
 use jmsg_envelope::{Envelope, EnvelopeFault, Signer, Stamp, open_envelope};
 use listed::Frames;
 use std::alloc::Global;
@@ -192,5 +193,40 @@ where
         let mut parts = self.parts;
         parts.pay();
         EngineEnd::new(parts)
+    }
+}
+
+impl<I: Interpreter, P, S: Stamp, W: Drop> Engine<I, P, S, W>
+where
+    P: PublishAfter<Item = Event<W>>,
+{
+    /// Handles a request as `handle` does. In the view of the sink's publisher the idle that closes its block stands
+    /// behind all that the word tells of, so what the word tells of is taken before it, in every schedule. If no idle is
+    /// published the word is dropped.
+    ///
+    /// # Errors
+    ///
+    /// As `handle`.
+    pub fn handle_last<T: Stop>(
+        &mut self,
+        alloc: Global,
+        word: Word<Event<W>>,
+        request: Envelope,
+        stop: &T,
+    ) -> Result<Handled, EngineFault>
+        requires queue { word.queue ≡ (P.publisher self.old.publishing.sink).queue }
+        ensures { let world = world_of I.meaning P.sink S.stamp in
+            let may = T.may_ask stop.now in
+            MatchResult result
+            (λ handled. (response : Response) × (handled ≡ handled_of response)
+            × HandlesLast world P.publisher may request word.list self.old response self.new)
+            (λ fault. HandlesLastErr world P.publisher may request word.list self.old fault self.new) }
+    {
+        let does = self.parts.read(alloc, &request);
+        let asked = Asked { request, does };
+        match self.parts.finish_last(alloc, word, asked, stop) {
+            Ok(handled) => Ok(Handled::of(handled)),
+            Err(fault) => Err(fault),
+        }
     }
 }

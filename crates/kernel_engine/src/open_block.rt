@@ -1,6 +1,8 @@
 //! A block that is open.
 
+use crate::fault::EngineFault;
 use crate::heading::Heading;
+use crate::response::Response;
 use listed::Frames;
 
 /// A block that is open: what its messages share, the message that closes it, and whether its cell is silent.
@@ -12,4 +14,13 @@ pub struct OpenBlock {
     pub idle: Frames,
     /// Whether nothing of its cell is published.
     pub silent: bool,
+}
+
+/// A request whose block is open.
+#[derive(Drop)]
+pub(crate) struct Begun {
+    /// The block.
+    pub(crate) block: OpenBlock,
+    /// What it was answered, or that memory was refused.
+    pub(crate) answered: Result<Response, EngineFault>,
 }

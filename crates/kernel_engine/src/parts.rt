@@ -1,17 +1,19 @@
 //! The parts of an engine, and the steps by which it handles a request.
 
-ghost use Rattle.std.specs.Prelude.{◌≡◌, ◌⊎◌, ◌≤◌, ◌<◌, ◌^◌, None, OnOk, MatchBool, MatchResult};
+ghost use Rattle.std.specs.Prelude.{◌≡◌, ◌⊎◌, ◌≤◌, ◌<◌, ◌^◌, None, OnErr, OnOk, MatchBool, MatchResult};
 ghost use Rattle.kernel_engine.specs.declared.fault.EngineFault.TheVariants.{Memory};
+ghost use Rattle.kernel_engine.specs.Begins.{Begins, BeginsNot};
 ghost use Rattle.kernel_engine.specs.Comes.{IsRead, is_silent, message_comes};
 ghost use Rattle.kernel_engine.specs.Handles.{AnswersInBlock, AnswersNot, Closes, HandlesErr};
 ghost use Rattle.kernel_engine.specs.Handles.{HandlesOk, LeavesOpen, Pays, PaysNot};
+ghost use Rattle.kernel_engine.specs.Last.{ClosesBehind, HandlesLast, HandlesLastErr};
 ghost use Rattle.kernel_engine.specs.Starts.{StartsFirst, StartsLater, StartsRefused};
 ghost use Rattle.kernel_engine.specs.World.{world_of};
 
 use crate::asked::Asked;
 use crate::does::Does;
 use crate::fault::EngineFault;
-use crate::open_block::OpenBlock;
+use crate::open_block::{Begun, OpenBlock};
 use crate::pending::Pending;
 use crate::publishing::Publishing;
 use crate::respond::read_does;
@@ -20,7 +22,7 @@ use crate::side::Side;
 use crate::stop::Stop;
 use interp_core::Interpreter;
 use iopub_event::Event;
-use iopub_queue::Publish;
+use iopub_queue::{Publish, PublishAfter, Word};
 use jmsg_envelope::{Envelope, Stamp};
 use jmsg_types::MessageType;
 use std::alloc::{AllocError, Global};
@@ -157,6 +159,45 @@ where
         }
     }
 
+    /// Begins a request that was read: publishes the idle that is owed, opens the block, and answers the request in it.
+    ///
+    /// # Errors
+    ///
+    /// `Worn` if 2^62 ids were given, `OwedIdle` if an idle stays owed: then nothing changes. `Memory` if memory was
+    /// refused, or the sink refused: then nothing was published of the request.
+    fn begin<T: Stop>(
+        &mut self,
+        alloc: Global,
+        asked: Asked,
+        stop: &T,
+    ) -> Result<Begun, EngineFault>
+        requires few { self.old.count ≤ self.old.publishing.next }
+        ensures begun { let world = world_of I.meaning P.sink S.stamp in
+            let may = T.may_ask stop.now in
+            MatchResult result
+            (λ begun. Begins world may asked self.old begun self.new)
+            (λ fault. BeginsNot world asked.request self.old fault self.new) }
+        ensures owed { OnOk result (self.new.owed ≡ None) }
+        ensures counted { OnErr result (self.new.count ≤ self.new.publishing.next) }
+    {
+        let is_worn = self.publishing.next > LAST_BEGIN;
+        if is_worn {
+            drop(asked);
+            return Err(EngineFault::Worn);
+        }
+        if !self.pay() {
+            return Err(EngineFault::OwedIdle(asked.into_request()));
+        }
+        let (header, pending) = asked.into_pending();
+        let silent = pending.does.is_silent();
+        let Ok(block) = self.publishing.open(alloc, header, silent) else {
+            drop(pending);
+            return Err(EngineFault::Memory);
+        };
+        let answered = self.answer(alloc, &block, pending, stop);
+        Ok(Begun { block, answered })
+    }
+
     /// Handles a request that was read: publishes the idle that is owed, opens the block, answers the request in it,
     /// and closes it.
     ///
@@ -180,21 +221,71 @@ where
         ensures counted { self.new.count ≤ self.new.publishing.next }
         ensures read { OnOk result (asked.does ≡ message_comes self.old.side asked.request) }
     {
-        if self.publishing.next > LAST_BEGIN {
-            drop(asked);
-            return Err(EngineFault::Worn);
+        match self.begin(alloc, asked, stop) {
+            Ok(Begun { block, answered }) => {
+                self.close_block(block);
+                answered
+            }
+            Err(fault) => Err(fault),
         }
-        if !self.pay() {
-            return Err(EngineFault::OwedIdle(asked.into_request()));
+    }
+}
+
+impl<I: Interpreter, P, S: Stamp, W: Drop> Parts<I, P, S, W>
+where
+    P: PublishAfter<Item = Event<W>>,
+{
+    /// Publishes the idle of a block behind all that the word tells of, or owes it.
+    fn close_behind(&mut self, word: Word<Event<W>>, block: OpenBlock)
+        requires owed { self.old.owed ≡ None }
+        requires queue { word.queue ≡ (P.publisher self.old.publishing.sink).queue }
+        ensures { ClosesBehind P.publisher P.sink block.idle word.list self.old self.new
+            ⊎ LeavesOpen P.sink block.idle self.old self.new }
+    {
+        let OpenBlock {
+            heading,
+            idle,
+            silent: _,
+        } = block;
+        drop(heading);
+        let closing = Event::Message(idle);
+        if let Err(back) = self.publishing.sink.publish_after(word, closing) {
+            self.owed = Some(back.item);
         }
-        let (header, pending) = asked.into_pending();
-        let silent = pending.does.is_silent();
-        let Ok(block) = self.publishing.open(alloc, header, silent) else {
-            drop(pending);
-            return Err(EngineFault::Memory);
-        };
-        let handled = self.answer(alloc, &block, pending, stop);
-        self.close_block(block);
-        handled
+    }
+
+    /// Handles a request that was read as `finish` does, its idle behind all that the word tells of. If no idle is
+    /// published the word is dropped.
+    ///
+    /// # Errors
+    ///
+    /// As `finish`.
+    pub(crate) fn finish_last<T: Stop>(
+        &mut self,
+        alloc: Global,
+        word: Word<Event<W>>,
+        asked: Asked,
+        stop: &T,
+    ) -> Result<Response, EngineFault>
+        requires read { IsRead asked.does (message_comes self.old.side asked.request) }
+        requires few { self.old.count ≤ self.old.publishing.next }
+        requires queue { word.queue ≡ (P.publisher self.old.publishing.sink).queue }
+        ensures handled { let world = world_of I.meaning P.sink S.stamp in
+            let may = T.may_ask stop.now in
+            MatchResult result
+            (λ handled. HandlesLast world P.publisher may asked.request word.list self.old handled self.new)
+            (λ fault. HandlesLastErr world P.publisher may asked.request word.list self.old fault self.new) }
+        ensures counted { self.new.count ≤ self.new.publishing.next }
+    {
+        match self.begin(alloc, asked, stop) {
+            Ok(Begun { block, answered }) => {
+                self.close_behind(word, block);
+                answered
+            }
+            Err(fault) => {
+                drop(word);
+                Err(fault)
+            }
+        }
     }
 }

@@ -26,5 +26,5 @@ mod subscriber;
 
 pub use fault::{Port, ServeFault};
 pub use parent::Until;
-pub use serving::{Served, serve};
+pub use serving::{Interpreters, Served, serve};
 pub use stamp::{KernelStamp, can_be_read, is_utc_date};

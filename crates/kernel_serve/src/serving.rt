@@ -12,13 +12,13 @@ use crate::server::Server;
 use crate::service::Service;
 use crate::stamp::KernelStamp;
 use crate::subscriber::Writer;
-use arith_shell::ShellArith;
 use conn_file::Connection;
 use crossbeam_channel::{Sender, unbounded};
+use interp_core::Interpreter;
 use iopub_event::Event;
-use jmsg_envelope::{Signer, Stamp};
+use jmsg_envelope::Signer;
 use kernel_limits::limits::QUEUE;
-use kernel_workers::{Flags, Inbox, Job, KernelEnd, KernelFault, Note, Parts, run_kernel};
+use kernel_workers::{Flags, Inbox, Job, KernelEnd, Note, Parts, run_kernel};
 use std::alloc::{AllocError, Global};
 use std::net::{Net, TcpListener, TcpStream};
 use std::random::RandomSource;
@@ -27,7 +27,6 @@ use std::sync::{Arc, Wait};
 use std::thread::Threads;
 use std::time::Clock;
 use uuid::Uuid;
-use zmtp_wire::Outlet;
 
 /// How many octets the text of a session's id has.
 const ID_LENGTH: usize = 36;
@@ -41,24 +40,45 @@ pub struct Served {
     pub key: Snapshot<Vec<u8>>,
 }
 
-/// What a kernel of shell arithmetic runs on.
-type KernelParts<R> = Parts<ShellArith, KernelStamp<R>, Writer<R>>;
+/// The interpreters that a kernel runs on, each with cells and a state of its own.
+#[derive(Drop)]
+pub struct Interpreters<I> {
+    /// That of shell, which runs the cells.
+    pub shell: I,
+    /// That of control.
+    pub control: I,
+}
+
+/// What a kernel is made of.
+#[derive(Drop)]
+struct Core<I> {
+    /// The key that its messages are signed with; empty if they aren't.
+    key: Vec<u8>,
+    /// What runs the cells of shell and of control.
+    interpreters: Interpreters<I>,
+}
+
+/// What a kernel of a language runs on.
+type KernelParts<I, R> = Parts<I, KernelStamp<R>, Writer<R>>;
 
 /// Runs a kernel on the ports of a connection file until its end: binds them, accepts whoever connects, and ends every
-/// connection and every thread before it returns. A parent that changed ends it as a shutdown on control does, without
-/// a reply.
+/// connection and every thread before it returns. A parent that changed ends it as a note in control's inbox
+/// does.
 ///
 /// # Errors
 ///
 /// `CannotBind` with the first port that can't be bound, in the order shell, iopub, control, heartbeat; `NoThread`,
 /// `NoRandomness` or `OutOfMemory` where the system gives none.
-pub fn serve<R>(
+pub fn serve<I, R>(
     rt: R,
     alloc: Global,
     connection: Connection,
+    interpreters: Interpreters<I>,
     until: Until,
 ) -> Result<Served, ServeFault>
 where
+    I: Interpreter + Drop + Send + 'static,
+    I::Cell: Drop + Send + 'static,
     R: Net<Listener = TcpListener, Stream = TcpStream>
         + Threads
         + Wait
@@ -78,9 +98,13 @@ where
     let bound = bind_ports(&rt, &connection);
     let key = key_of(connection);
     match bound {
-        Ok(ports) => serve_on(rt, alloc, ports, key, until),
+        Ok(ports) => {
+            let core = Core { key, interpreters };
+            serve_on(rt, alloc, ports, core, until)
+        }
         Err(fault) => {
             drop(key);
+            drop(interpreters);
             Err(fault)
         }
     }
@@ -102,19 +126,21 @@ fn key_of(connection: Connection) -> Vec<u8>
     key.into_vec()
 }
 
-/// Runs a kernel with this key on ports that are bound, until its end.
+/// Runs a kernel on ports that are bound, until its end.
 ///
 /// # Errors
 ///
 /// `CannotBind` where the system doesn't say where a port listens; `NoThread`, `NoRandomness` or `OutOfMemory`.
-fn serve_on<R>(
+fn serve_on<I, R>(
     rt: R,
     alloc: Global,
     ports: Ports,
-    key: Vec<u8>,
+    core: Core<I>,
     until: Until,
 ) -> Result<Served, ServeFault>
 where
+    I: Interpreter + Drop + Send + 'static,
+    I::Cell: Drop + Send + 'static,
     R: Net<Listener = TcpListener, Stream = TcpStream>
         + Threads
         + Wait
@@ -126,9 +152,9 @@ where
         + Drop
         + 'static,
     ensures complete { IfOk result (λ served. served.complete ≡ true) }
-    ensures key { IfOk result (λ served. served.key.value.items ≡ key.items) }
+    ensures key { IfOk result (λ served. served.key.value.items ≡ core.key.items) }
 {
-    match stage_of(rt, alloc, key) {
+    match stage_of(rt, alloc, core) {
         Ok(stage) => serve_stage(rt, alloc, ports, stage, until),
         Err(fault) => {
             drop(ports);
@@ -137,19 +163,21 @@ where
     }
 }
 
-/// Runs a kernel on ports that are bound, until its end.
+/// Runs a kernel that is ready on ports that are bound, until its end.
 ///
 /// # Errors
 ///
 /// As `serve_on`, but for `NoRandomness`.
-fn serve_stage<R>(
+fn serve_stage<I, R>(
     rt: R,
     alloc: Global,
     ports: Ports,
-    stage: Stage<R>,
+    stage: Stage<I, R>,
     until: Until,
 ) -> Result<Served, ServeFault>
 where
+    I: Interpreter + Drop + Send + 'static,
+    I::Cell: Drop + Send + 'static,
     R: Net<Listener = TcpListener, Stream = TcpStream>
         + Threads
         + Wait
@@ -187,13 +215,15 @@ where
 /// # Errors
 ///
 /// `NoThread` and `OutOfMemory`.
-fn run_until<R>(
+fn run_until<I, R>(
     rt: R,
     alloc: Global,
-    parts: KernelParts<R>,
+    parts: KernelParts<I, R>,
     until: Until,
 ) -> Result<Served, ServeFault>
 where
+    I: Interpreter + Drop + Send + 'static,
+    I::Cell: Drop + Send + 'static,
     R: Threads + Wait + Clock + Copy + Send + Sync + Drop + 'static,
     ensures complete { IfOk result (λ served. served.complete ≡ true) }
     ensures key { IfOk result (λ served. served.key.value.items ≡ parts.key.items) }
@@ -217,8 +247,10 @@ where
 /// # Errors
 ///
 /// `NoThread` and `OutOfMemory`.
-fn run<R>(rt: R, alloc: Global, parts: KernelParts<R>) -> Result<Served, ServeFault>
+fn run<I, R>(rt: R, alloc: Global, parts: KernelParts<I, R>) -> Result<Served, ServeFault>
 where
+    I: Interpreter + Drop + Send + 'static,
+    I::Cell: Drop + Send + 'static,
     R: Threads + Wait + Clock + Copy + Send + Sync + Drop + 'static,
     ensures complete { IfOk result (λ served. served.complete ≡ true) }
     ensures key { IfOk result (λ served. served.key.value.items ≡ parts.key.items) }
@@ -229,68 +261,52 @@ where
         restart: _,
         subscribers,
         no_room: _,
-    } = run_arith(rt, alloc, parts)?;
+    } = run_kernel(rt, alloc, parts)?;
     drop(subscribers);
     Ok(Served { complete, key })
 }
 
-/// Runs a kernel of shell arithmetic, with whatever stamps and writers.
-///
-/// # Errors
-///
-/// As `run_kernel`.
-fn run_arith<S, W, R>(
-    rt: R,
-    alloc: Global,
-    parts: Parts<ShellArith, S, W>,
-) -> Result<KernelEnd<W>, KernelFault>
-where
-    S: Stamp + Drop + Send + 'static,
-    W: Outlet + Drop + Send + 'static,
-    R: Threads + Wait + Copy + Send + Sync + Drop + 'static,
-    ensures complete { IfOk result (λ end. end.complete ≡ true) }
-{
-    run_kernel(rt, alloc, parts)
-}
-
 /// What a kernel runs on, and what the threads round it share.
 #[derive(Drop)]
-struct Stage<R: Wait + Clock + Drop> {
+struct Stage<I, R: Wait + Clock + Drop> {
     /// What the kernel runs on.
-    parts: KernelParts<R>,
+    parts: KernelParts<I, R>,
     /// What requests are signed with.
     signer: Arc<Signer, Global>,
     /// What all share.
     server: Arc<Server, Global>,
 }
 
-impl<R: Wait + Clock + Drop> Stage<R> {
+impl<I, R: Wait + Clock + Drop> Stage<I, R> {
     /// What the ports are served with.
     fn round(&self) -> Round<'_, R> {
         Round {
-            parts: &self.parts,
+            shell: &self.parts.shell_in.to,
+            control: &self.parts.control_in.to,
+            subscriptions: &self.parts.subscriptions_in.to,
             signer: &self.signer,
             server: &self.server,
         }
     }
 }
 
-/// What a kernel with this key runs on, and what the threads round it share.
+/// What a kernel of this core runs on, and what the threads round it share, each with the core's key.
 ///
 /// # Errors
 ///
 /// `NoRandomness` where the system gives no random octets, `OutOfMemory`.
-fn stage_of<R>(rt: R, alloc: Global, key: Vec<u8>) -> Result<Stage<R>, ServeFault>
+fn stage_of<I, R>(rt: R, alloc: Global, core: Core<I>) -> Result<Stage<I, R>, ServeFault>
 where
+    I: Drop,
     R: RandomSource + Wait + Clock + Copy + Drop,
-    ensures key { IfOk result (λ stage. stage.parts.key.items ≡ key.items) }
-    ensures signer { IfOk result (λ stage. stage.signer.value ≡ key.items) }
+    ensures key { IfOk result (λ stage. stage.parts.key.items ≡ core.key.items) }
+    ensures signer { IfOk result (λ stage. stage.signer.value ≡ core.key.items) }
 {
-    let Some((flags, signer, server)) = shares_of(&rt, alloc, &key) else {
-        drop(key);
+    let Some((flags, signer, server)) = shares_of(&rt, alloc, &core.key) else {
+        drop(core);
         return Err(ServeFault::OutOfMemory);
     };
-    match parts_of(rt, alloc, key, flags) {
+    match parts_of(rt, alloc, core, flags) {
         Ok(parts) => Ok(Stage {
             parts,
             signer,
@@ -338,44 +354,48 @@ fn server_of<R: Clock>(rt: &R, alloc: Global) -> Option<(Flags, Arc<Server, Glob
     }
 }
 
-/// What the kernel runs on: an interpreter for shell and one for control, and a session of its own.
+/// What the kernel runs on, in a session of its own.
 ///
 /// # Errors
 ///
 /// `NoRandomness` where the system gives no random octets, `OutOfMemory`.
-fn parts_of<R>(
+fn parts_of<I, R>(
     rt: R,
     alloc: Global,
-    key: Vec<u8>,
+    core: Core<I>,
     flags: Flags,
-) -> Result<KernelParts<R>, ServeFault>
+) -> Result<KernelParts<I, R>, ServeFault>
 where
+    I: Drop,
     R: RandomSource + Wait + Clock + Copy + Drop,
-    ensures key { IfOk result (λ parts. parts.key.items ≡ key.items) }
+    ensures key { IfOk result (λ parts. parts.key.items ≡ core.key.items) }
 {
     let (shell, control) = match new_stamps(rt, alloc) {
         Ok(stamps) => stamps,
         Err(fault) => {
-            drop(key);
+            drop(core);
             drop(flags);
             return Err(fault);
         }
     };
     match inboxes(alloc) {
-        Ok((shell_in, control_in, subscriptions_in)) => Ok(Parts {
-            shell: (ShellArith::new(alloc), shell),
-            control: (ShellArith::new(alloc), control),
-            key,
-            capacity: QUEUE,
-            shell_in,
-            control_in,
-            flags,
-            subscriptions_in,
-        }),
+        Ok((shell_in, control_in, subscriptions_in)) => {
+            let Core { key, interpreters } = core;
+            Ok(Parts {
+                shell: (interpreters.shell, shell),
+                control: (interpreters.control, control),
+                key,
+                capacity: QUEUE,
+                shell_in,
+                control_in,
+                flags,
+                subscriptions_in,
+            })
+        }
         Err(AllocError) => {
             drop(shell);
             drop(control);
-            drop(key);
+            drop(core);
             drop(flags);
             Err(ServeFault::OutOfMemory)
         }
@@ -466,8 +486,12 @@ fn inbox<T: Drop>(alloc: Global) -> Result<Inbox<T>, AllocError> {
 /// What the ports of a kernel are served with.
 #[derive(Drop)]
 struct Round<'s, R: Wait + Clock + Drop> {
-    /// What the kernel runs on.
-    parts: &'s KernelParts<R>,
+    /// The requests on shell.
+    shell: &'s Sender<Note<Job>>,
+    /// The requests on control.
+    control: &'s Sender<Note<Job>>,
+    /// What subscribers come, ask for and leave by.
+    subscriptions: &'s Sender<Note<Event<Writer<R>>>>,
     /// What requests are signed with.
     signer: &'s Arc<Signer, Global>,
     /// What all share.
@@ -550,19 +574,10 @@ where
     ///
     /// Where memory is refused, or something has too many owners.
     fn service_of(&self, alloc: Global, port: Port) -> Result<Service<R>, AllocError> {
-        let parts = self.parts;
         match port {
-            Port::Shell => Ok(Service::Requests(channel_of(
-                alloc,
-                &parts.shell_in.to,
-                self.signer,
-            )?)),
-            Port::Iopub => Ok(Service::Subscriptions(parts.subscriptions_in.to.clone()?)),
-            Port::Control => Ok(Service::Requests(channel_of(
-                alloc,
-                &parts.control_in.to,
-                self.signer,
-            )?)),
+            Port::Shell => Ok(Service::Requests(channel_of(alloc, self.shell, self.signer)?)),
+            Port::Iopub => Ok(Service::Subscriptions(self.subscriptions.clone()?)),
+            Port::Control => Ok(Service::Requests(channel_of(alloc, self.control, self.signer)?)),
             Port::Heartbeat => Ok(Service::Heartbeat),
         }
     }

@@ -14,11 +14,9 @@ use Rattle.zmtp_connection.specs.declared.end.Ending.{Ending}
 use Rattle.zmtp_connection.specs.declared.end.Ending.TheVariants.{Connection, Host}
 use Rattle.zmtp_connection.specs.declared.fault.ConnectionFault.TheVariants.{Write}
 use Rattle.zmtp_connection.specs.Ending.{of_connection}
-use Rattle.interp_core.specs.Interpreter.{Meaning}
 use Rattle.iopub_event.specs.declared.event.Event.{Event}
 use Rattle.iopub_event.specs.declared.event.Event.TheVariants as events
 use Rattle.jmsg_envelope.specs.Stamp.{StampMeaning}
-use Rattle.iopub_queue.specs.Sink.{Sink}
 use Rattle.jmsg_envelope.specs.Stamp.{Stamping}
 use Rattle.kernel_engine.specs.declared.response.Response.{Response}
 use Rattle.kernel_engine.specs.declared.parts.Parts.{Parts}
@@ -284,18 +282,17 @@ module _ {I P S W Cell : Type 0} (world : World I P S W Cell) (may : Type 0) whe
     stays = ap (setting_of world.stamp) same;
   }
 
-  -- a session that ended with what was read
-  told_out : (old new : Parts I P S W) (octets written : List ℕ) (ending : Ending SessionEnd)
-      (served : IsServed false (WorksOne world may) Router old octets written new ending) (end : ConnectionEnd)
-      → ending ≡ Connection end → RunsOut served.converses.rest end → served.replies ≡ served.converses.replies
-      → served.converses.now ≡ record { server = new; dropped = false }
+  -- a session at the end of which the engine is as it was once all whole traffic was treated
+  told_treated : (old new : Parts I P S W) (octets written : List ℕ) (ending : Ending SessionEnd)
+      (served : IsServed false (WorksOne world may) Router old octets written new ending)
+      (treated : IsTreated old served.converses.traffic served.converses.replies new)
+      → ((end : ConnectionEnd) × (ending ≡ Connection end) × RunsOut served.converses.rest end
+      × (served.replies ≡ served.converses.replies) × (tells new treated.messages [] ≡ tells new treated.messages []))
+      ⊎ IsLast (Performs world.language may (setting_of world.stamp old)) (tells new treated.messages [])
+      served.converses.rest served.converses.replies served.replies (tells new treated.messages []) ending
       → TellsSession world may old octets written new ending
-  told_out old new octets written ending served end ends runs wrote is =
+  told_treated old new octets written ending served treated ends =
       let talk = served.converses in
-      let became : talk.now.server ≡ new = ap (λ (s : Serving (Parts I P S W)). s.server) is in
-      let treated = subst (λ e. IsTreated old talk.traffic talk.replies e) became
-      (treated_all (begins old) talk.now talk.traffic talk.replies talk.answered
-      (ap (λ (s : Serving (Parts I P S W)). s.dropped) is)) in
       record {
         runs = treated.runs ++ [];
         published = treated.messages;
@@ -313,13 +310,27 @@ module _ {I P S W Cell : Type 0} (world : World I P S W Cell) (may : Type 0) whe
             now = tells new treated.messages [];
             replies = talk.replies;
             answered = treated.all [] [];
-            ends = inl (end, ends, runs, wrote, refl);
+            ends = ends;
           };
           all = served.all;
         });
         listed = treated.listed;
         stays = treated.stays;
       }
+
+  -- a session that ended with what was read
+  told_out : (old new : Parts I P S W) (octets written : List ℕ) (ending : Ending SessionEnd)
+      (served : IsServed false (WorksOne world may) Router old octets written new ending) (end : ConnectionEnd)
+      → ending ≡ Connection end → RunsOut served.converses.rest end → served.replies ≡ served.converses.replies
+      → served.converses.now ≡ record { server = new; dropped = false }
+      → TellsSession world may old octets written new ending
+  told_out old new octets written ending served end ends runs wrote is =
+      let talk = served.converses in
+      let became : talk.now.server ≡ new = ap (λ (s : Serving (Parts I P S W)). s.server) is in
+      let treated = subst (λ e. IsTreated old talk.traffic talk.replies e) became
+      (treated_all (begins old) talk.now talk.traffic talk.replies talk.answered
+      (ap (λ (s : Serving (Parts I P S W)). s.dropped) is)) in
+      told_treated old new octets written ending served treated (inl (end, ends, runs, wrote, refl))
 
   -- a session that ended at one message, which was done as a request
   told_at : (old new : Parts I P S W) (octets written : List ℕ) (ending : Ending SessionEnd)
@@ -402,40 +413,17 @@ module _ {I P S W Cell : Type 0} (world : World I P S W Cell) (may : Type 0) whe
       let treated = subst (λ e. IsTreated old talk.traffic talk.replies e) (sym same)
       (treated_all (begins old) talk.now talk.traffic talk.replies talk.answered kept) in
       let now = standing_of new treated.messages [] in
-      record {
-        runs = treated.runs ++ [];
-        published = treated.messages;
-        session = inr (record {
-          opening = served.opening;
-          peer = served.peer;
-          behind = served.behind;
-          replies = served.replies;
-          is_open = served.is_open;
-          converses = record {
-            traffic = talk.traffic;
-            rest = talk.rest;
-            read = talk.read;
-            calm = talk.calm;
-            now = tells new treated.messages [];
-            replies = talk.replies;
-            answered = treated.all [] [];
-            ends = inr (record {
-              last = last.last;
-              comes = last.comes;
-              harmless = last.harmless;
-              reply = last.reply;
-              answered = Ok Done;
-              step = subst (λ t. Treats (Performs world.language may (setting_of world.stamp old)) now t last.reply now
-                  (Ok Done)) (sym named) (pong, refl, refl);
-              mark = refl;
-              how = inr (is, breaks);
-            });
-          };
-          all = served.all;
-        });
-        listed = treated.listed;
-        stays = treated.stays;
-      }
+      told_treated old new octets written ending served treated (inr (record {
+        last = last.last;
+        comes = last.comes;
+        harmless = last.harmless;
+        reply = last.reply;
+        answered = Ok Done;
+        step = subst (λ t. Treats (Performs world.language may (setting_of world.stamp old)) now t last.reply now
+            (Ok Done)) (sym named) (pong, refl, refl);
+        mark = refl;
+        how = inr (is, breaks);
+      }))
 
   -- a session that ended where the reply to one traffic couldn't be written
   told_cut : (old new : Parts I P S W) (octets written : List ℕ) (ending : Ending SessionEnd)

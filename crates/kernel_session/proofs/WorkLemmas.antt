@@ -1,14 +1,7 @@
 -- A worker's reply, and a worker at its peer.
-use Rattle.std.proofs.Common.{◌≡◌, ◌≢◌, ◌⊎◌, inl, inr, ℕ, ◌<◌, List, length, Option, Some, None}
-use Rattle.std.proofs.Common.{IfSome, sym, subst, arith, length-append, Bool, Result, Ok, Err}
-use Rattle.interp_core.specs.Interpreter.{Meaning}
-use Rattle.iopub_event.specs.declared.event.Event.{Event}
+use Rattle.std.proofs.Common.{◌≡◌, inl, inr, ℕ, ◌<◌, List, length, Option, Some, None}
+use Rattle.std.proofs.Common.{IfSome, sym, subst, arith, length-append, Result, Ok, Err}
 use Rattle.jmsg_envelope.specs.declared.envelope.Envelope.{Envelope}
-use Rattle.jmsg_envelope.specs.declared.fault.EnvelopeFault.{EnvelopeFault}
-use Rattle.jmsg_envelope.specs.declared.fault.EnvelopeFault.TheVariants.{OutOfMemory}
-use Rattle.jmsg_envelope.specs.Envelope.{IsNoEnvelope}
-use Rattle.iopub_queue.specs.Sink.{Sink}
-use Rattle.jmsg_envelope.specs.Stamp.{Stamping}
 use Rattle.jmsg_types.specs.declared.reply.Reply.{Reply}
 use Rattle.kernel_engine.specs.declared.response.Response.{Response}
 use Rattle.kernel_engine.specs.declared.heading.Heading.{Heading}

@@ -1,20 +1,24 @@
 -- What stays of an engine that took a message.
-use Rattle.std.proofs.Common.{◌≡◌, inl, inr, ℕ, List, ap, refl}
+use Rattle.std.proofs.Common.{◌≡◌, inl, inr, ℕ, List, ap, refl, subst, is_some, false}
 use Rattle.iopub_event.specs.declared.event.Event.{Event}
 use Rattle.iopub_queue.specs.Values.{Publishing as Publisher}
 use Rattle.interp_core.specs.Interpreter.{Meaning}
 use Rattle.jmsg_envelope.specs.Stamp.{Stamping}
 use Rattle.jmsg_envelope.specs.declared.envelope.Envelope.{Envelope}
+use Rattle.kernel_engine.specs.declared.asked.Asked.{Asked}
 use Rattle.kernel_engine.specs.declared.asked.Done.{Done}
 use Rattle.kernel_engine.specs.declared.asked.Done.TheVariants.{Ignored, Lost, Handled, Refused}
+use Rattle.kernel_engine.specs.declared.does.Does.{Does}
 use Rattle.kernel_engine.specs.declared.fault.EngineFault.{EngineFault}
 use Rattle.kernel_engine.specs.declared.fault.EngineFault.TheVariants.{OwedIdle, Memory, Worn}
 use Rattle.kernel_engine.specs.declared.parts.Parts.{Parts}
 use Rattle.kernel_engine.specs.Handles.{Adds, HandlesErr}
 use Rattle.kernel_engine.specs.WellBlocked.{Block}
-use Rattle.kernel_engine.specs.Takes.{Takes}
+use Rattle.kernel_engine.specs.Orders.{ends, order_of}
+use Rattle.kernel_engine.specs.Takes.{Asks, Finishes, Takes}
 use Rattle.kernel_engine.specs.World.{World, world_of}
 use Rattle.iopub_queue.specs.Sink.{publisher_sink}
+use Rattle.kernel_workers.specs.Jobs.{EndsNothing}
 use Rattle.kernel_workers.specs.Staying.{IsSameEngine}
 
 module _ {I S W Cell : Type 0} (m : Meaning I Cell) (stamps : Stamping S) (may : Type 0) where
@@ -26,7 +30,7 @@ module _ {I S W Cell : Type 0} (m : Meaning I Cell) (stamps : Stamping S) (may :
   stays old new same = rw (same) (record { side = refl; queue = refl; number = refl; signer = refl; meant = refl })
 
   -- a block was added
-  added : (block : Block) (old new : Parts I (Publisher (Event W)) S W) → Adds world block old new
+  pub added : (block : Block) (old new : Parts I (Publisher (Event W)) S W) → Adds world block old new
       → IsSameEngine stamps old new
   added block old new adds = record {
     side = adds.side;
@@ -37,7 +41,7 @@ module _ {I S W Cell : Type 0} (m : Meaning I Cell) (stamps : Stamping S) (may :
   }
 
   -- a request was refused
-  refused_same : (request : Envelope) (old new : Parts I (Publisher (Event W)) S W) (fault : EngineFault)
+  pub refused_same : (request : Envelope) (old new : Parts I (Publisher (Event W)) S W) (fault : EngineFault)
       → HandlesErr world may request old fault new → IsSameEngine stamps old new
   refused_same request old new (OwedIdle back) hands = record {
     side = ap (λ (p : Parts I (Publisher (Event W)) S W). p.side) hands.owes.asked.rest;
@@ -63,3 +67,16 @@ module _ {I S W Cell : Type 0} (m : Meaning I Cell) (stamps : Stamping S) (may :
   taken_same frames old new Lost same = stays old new same
   taken_same frames old new (Handled handled) (request, opened, ok) = added ok.block old new ok.adds
   taken_same frames old new (Refused fault) (request, opened, why) = refused_same request old new fault why
+
+  -- what came of a request that doesn't ask for the kernel's end
+  pub ends_nothing : (frames : List (List ℕ)) (asked : Asked) (old new : Parts I (Publisher (Event W)) S W) (done : Done)
+      → Asks old.publishing.signer old.side frames asked → is_some (ends (order_of asked.does)) ≡ false
+      → Finishes world may asked old done new → EndsNothing old.publishing.signer old.side frames done
+  ends_nothing frames asked old new Ignored asks none never = tt
+  ends_nothing frames asked old new Lost asks none never = tt
+  ends_nothing frames asked old new (Handled handled) asks none (read, ok) = (
+    asked.request,
+    asks.opened,
+    subst (λ (does : Does). is_some (ends (order_of does)) ≡ false) read none,
+  )
+  ends_nothing frames asked old new (Refused fault) asks none why = (asked, asks, none)

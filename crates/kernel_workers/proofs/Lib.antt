@@ -1,4 +1,5 @@
-mod RelayingLemmas
+pub mod RelayingLemmas
 mod EndingLemmas
 pub mod RunningLemmas
-mod JobLemmas
+pub mod JobLemmas
+mod ShutdownLemmas

@@ -6,13 +6,9 @@ use Rattle.iopub_queue.specs.Values.{Taking}
 use Rattle.iopub_relay.specs.declared.relay.Pumped.{Pumped}
 use Rattle.iopub_relay.specs.declared.relay.Pumped.TheVariants as pumped
 use Rattle.iopub_relay.specs.Relay.{Relaying, Pumps}
+use Rattle.kernel_workers.specs.Staying.{IsSameQueue}
 
 module _ {W : Type 0} where
-  -- a relay takes from the queue that it took from
-  pub record IsSameQueue (old new : Relaying W) : Type 0 where
-    pub queue : new.taker.queue ≡ old.taker.queue
-    pub count : new.taker.count ≡ old.taker.count
-
   by_taker : (old new : Relaying W) (taker : Taking (Event W)) → new.taker ≡ taker
       → taker.queue ≡ old.taker.queue → taker.count ≡ old.taker.count → IsSameQueue old new
   by_taker old new taker is queue count = record {

@@ -7,13 +7,19 @@ use Rattle.kernel_engine.specs.declared.asked.Done.TheVariants as came
 use Rattle.kernel_engine.specs.declared.does.Order.{Order}
 use Rattle.kernel_engine.specs.declared.does.Order.TheVariants.{GoOn, Interrupt, End}
 use Rattle.kernel_workers.specs.declared.ended.Cause.{Cause}
-use Rattle.kernel_workers.specs.declared.ended.Cause.TheVariants.{Told, Shutdown, Worn}
+use Rattle.kernel_workers.specs.declared.ended.Cause.TheVariants.{Told, Shutdown, Asked, Worn}
 
--- whether the kernel is to begin anew, if a request for a shutdown is the cause
+-- whether the kernel is to begin anew, if a request for a shutdown was handled
 abbrev pub restart_of : Cause → Option Bool
 restart_of Told = None
 restart_of (Shutdown restart) = Some restart
+restart_of (Asked asking) = None
 restart_of Worn = None
+
+-- what a request for a shutdown says of whether the kernel is to begin anew: nothing if it was refused
+abbrev pub word_of : Option EngineFault → Bool → Option Bool
+word_of None restart = Some restart
+word_of (Some fault) restart = None
 
 -- the cause that an order is, if it ends the worker
 abbrev pub cause_of_order : Order → Option Cause

@@ -20,6 +20,16 @@ pub record IsOpened {T : Type 0} (shell control subscriptions : Publishing T) (t
   pub subscriptions_are : subscriptions ≡ newcomer taker.queue 2
   pub taker_is : taker ≡ beginner taker.queue 3
 
+-- three publishers and the taker are of one queue: 0, 1 and 2
+pub record AreOfOne {T : Type 0} (shell control subscriptions : Publishing T) (taker : Taking T) : Type 0 where
+  pub shell_queue : shell.queue ≡ taker.queue
+  pub control_queue : control.queue ≡ taker.queue
+  pub subscriptions_queue : subscriptions.queue ≡ taker.queue
+  pub shell_is : shell.number ≡ 0
+  pub control_is : control.number ≡ 1
+  pub subscriptions_are : subscriptions.number ≡ 2
+  pub count : taker.count ≡ 3
+
 -- an engine of a channel that has published nothing: with this interpreter and stamp, this key and this publisher
 abbrev pub beginning : {I S W : Type 0} → Side → I × S → List ℕ → Publishing (Event W)
     → Engine I (Publishing (Event W)) S W

@@ -1,6 +1,7 @@
--- What of an engine no request changes.
+-- What of an engine no request changes, and what of a relay no pump does.
 use Rattle.std.specs.Prelude.{◌≡◌}
 use Rattle.iopub_queue.specs.Values.{Publishing as Publisher}
+use Rattle.iopub_relay.specs.Relay.{Relaying}
 use Rattle.jmsg_envelope.specs.Stamp.{Stamping}
 use Rattle.kernel_engine.specs.declared.parts.Parts.{Parts}
 
@@ -13,3 +14,8 @@ pub record IsSameEngine {I S T W : Type 0} (stamps : Stamping S) (old new : Part
   pub number : new.publishing.sink.number ≡ old.publishing.sink.number
   pub signer : new.publishing.signer ≡ old.publishing.signer
   pub meant : stamps.meaning new.publishing.stamp ≡ stamps.meaning old.publishing.stamp
+
+-- a relay takes from the queue that it took from
+pub record IsSameQueue {W : Type 0} (old new : Relaying W) : Type 0 where
+  pub queue : new.taker.queue ≡ old.taker.queue
+  pub count : new.taker.count ≡ old.taker.count

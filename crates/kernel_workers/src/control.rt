@@ -1,25 +1,24 @@
 //! Control's worker.
 
-ghost use Rattle.std.specs.Prelude.{◌≡◌, IfSome};
+ghost use Rattle.std.specs.Prelude.{◌≡◌, ◌⊎◌, IfSome};
 ghost use Rattle.iopub_queue.specs.Sink.{publisher_sink};
 ghost use Rattle.kernel_engine.specs.World.{world_of};
-ghost use Rattle.kernel_workers.specs.Ending.{EndsBlocked};
-ghost use Rattle.kernel_workers.specs.Jobs.{TakesJob};
+ghost use Rattle.kernel_workers.specs.Jobs.{HoldsJob, TakesJobIf};
 ghost use Rattle.kernel_workers.specs.Staying.{IsSameEngine};
 
-use crate::ended::{Cause, Ended};
+use crate::ended::{Asking, Cause, Ended};
 use crate::flags::{Flags, Never};
 use crate::inbox::{Note, tell};
 use crate::job::{Job, ReplyTo};
-use crate::promises::ClosesBlocked;
-use crate::request::{close, conclude};
+use crate::promises::KeepsEngine;
+use crate::request::conclude;
 use crate::waking::Waking;
 use crate::working::{Answering, work};
-use crossbeam_channel::{Receiver, Sender, TryRecvError, unbounded};
+use crossbeam_channel::{Receiver, Sender};
 use interp_core::Interpreter;
 use iopub_event::Event;
 use jmsg_envelope::Stamp;
-use kernel_engine::{Asked, Engine, Unread};
+use kernel_engine::{Engine, Unread};
 use listed::Frames;
 use std::alloc::{AllocError, Global};
 use std::snapshot::Snapshot;
@@ -34,10 +33,8 @@ pub struct ControlWorker<I: Interpreter, S: Stamp, W, R: Wait> {
     pub engine: Engine<I, Waking<Event<W>, R>, S, W>,
     /// Its inbox.
     pub inbox: Receiver<Note<Job>>,
-    /// By which it stops shell's worker, which it ends before itself.
+    /// By which it stops shell's worker, which it ends with itself.
     pub shell: ShellEnd,
-    /// The inbox of subscriptions, which it ends last.
-    pub subscriptions: Sender<Note<Event<W>>>,
 }
 
 impl<I, S, W, R> ControlWorker<I, S, W, R>
@@ -48,26 +45,25 @@ where
     W: Drop,
     R: Wait + Drop,
 {
-    /// Does the jobs of its inbox one after the other. It goes on until it is told to end, a request asks for the end,
-    /// all ids were given, or nobody is left who could tell it anything. Shell is ended before a shutdown is handled,
-    /// and in any case before control closes; that of subscriptions is ended last.
-    pub fn run(self, rt: R, alloc: Global) -> Ended<W>
-        ensures { EndsBlocked I.meaning S.stamp self.engine result.closed }
+    /// Does the jobs of its inbox one after the other. It goes on until it is told to end, a request asks for a
+    /// shutdown, which it leaves for later, all ids were given, or nobody is left who could tell it anything. Then shell
+    /// is told to end.
+    pub fn run(self, rt: R, alloc: Global) -> Ended<I, S, W, R>
+        ensures { IsSameEngine S.stamp self.engine result.engine }
     {
         let ControlWorker {
             mut engine,
             inbox,
             shell,
-            subscriptions,
         } = self;
-        let cause = work(&rt, alloc, &mut engine, &inbox, &shell.flags, &shell);
+        let cause = work(&rt, alloc, &mut engine, &inbox, &shell);
         shell.end(&rt);
-        let closed = close(engine);
-        tell(&rt, &subscriptions, Note::End);
-        drop(inbox);
         drop(shell);
-        drop(subscriptions);
-        Ended { closed, cause }
+        Ended {
+            engine,
+            cause,
+            inbox,
+        }
     }
 }
 
@@ -84,10 +80,10 @@ where
         self,
         rt: R,
         alloc: Global,
-    ) -> Option<PromisedHandle<Ended<W>, ClosesBlocked<I, S, W, R>>>
+    ) -> Option<PromisedHandle<Ended<I, S, W, R>, KeepsEngine<I, S, W, R>>>
         ensures { IfSome result (λ handle. handle.promise.engine.value ≡ self.engine) }
     {
-        let promise = ClosesBlocked {
+        let promise = KeepsEngine {
             engine: Snapshot::of(&self.engine),
         };
         match thread::spawn_with(&rt, promise, move || self.run(rt, alloc)) {
@@ -107,77 +103,35 @@ pub struct ShellEnd {
     flags: Flags,
     /// The inbox of shell.
     inbox: Sender<Note<Job>>,
-    /// On which no message comes. Its sender is dropped once shell's worker has closed.
-    ended: Receiver<()>,
 }
 
 impl ShellEnd {
-    /// By which the worker is ended that has these flags and this inbox; then the flags for that worker, and what it
-    /// drops once it has closed.
+    /// By which the worker is ended that has these flags and this inbox; then the flags for that worker.
     ///
     /// # Errors
     ///
     /// If memory is refused.
-    pub fn new(
-        alloc: Global,
-        flags: &Flags,
-        inbox: &Sender<Note<Job>>,
-    ) -> Result<(ShellEnd, Flags, Sender<()>), AllocError> {
+    pub fn new(flags: &Flags, inbox: &Sender<Note<Job>>) -> Result<(ShellEnd, Flags), AllocError> {
         let (flags, of_shell) = flags.twice()?;
-        let Ok((dropped, ended)) = unbounded(alloc) else {
-            drop(flags);
-            drop(of_shell);
-            return Err(AllocError);
-        };
         match inbox.clone() {
-            Ok(inbox) => Ok((
-                ShellEnd {
-                    flags,
-                    inbox,
-                    ended,
-                },
-                of_shell,
-                dropped,
-            )),
+            Ok(inbox) => Ok((ShellEnd { flags, inbox }, of_shell)),
             Err(AllocError) => {
                 drop(flags);
                 drop(of_shell);
-                drop(dropped);
-                drop(ended);
                 Err(AllocError)
             }
         }
     }
 
-    /// Ends shell's worker, unless it has ended, and waits until it closed. The flag is raised before the note is put
-    /// in, so that shell does no job that waits before the note.
+    /// Has shell's worker end, unless it has. The flag is raised before the note is put in, so that shell does no job
+    /// that waits before the note.
     fn end<R: Wait>(&self, rt: &R) {
-        if self.has_ended(rt) {
-            return;
-        }
         self.flags.end();
         tell(rt, &self.inbox, Note::End);
-        let _ = self.ended.recv(rt);
     }
 
-    /// Whether shell's worker has closed.
-    fn has_ended<R: Wait>(&self, rt: &R) -> bool {
-        matches!(self.ended.try_recv(rt), Err(TryRecvError::Disconnected))
-    }
-
-    /// Does what is due before a request is handled: ends shell if it asks for the kernel's end, and interrupts the
-    /// cell that runs if it asks for that.
-    fn heed<R: Wait>(&self, rt: &R, asked: &Asked) {
-        if asked.ends() {
-            self.end(rt);
-        }
-        if asked.interrupts() {
-            self.flags.interrupt();
-        }
-    }
-
-    /// Takes the frames of a message, and sends the reply. If they ask for a shutdown, shell is ended first. If they
-    /// ask for an interrupt, the flag is raised before busy is published, which may have to wait for the relay.
+    /// Takes the frames of a message, and sends the reply. A request for a shutdown is left for later. If it asks for an
+    /// interrupt, the flag is raised before busy is published, which may have to wait for the relay.
     fn take<I, S, W, R>(
         &self,
         rt: &R,
@@ -191,7 +145,8 @@ impl ShellEnd {
         S: Stamp,
         W: Drop,
         R: Wait,
-        ensures does { TakesJob (world_of I.meaning publisher_sink S.stamp) ⊥ frames engine.old result engine.new }
+        ensures does { HoldsJob frames engine.old result engine.new
+            ⊎ TakesJobIf (world_of I.meaning publisher_sink S.stamp) Unit ⊥ frames engine.old result engine.new }
         ensures same { IsSameEngine S.stamp engine.old engine.new }
     {
         let asked = match engine.read(alloc, frames) {
@@ -201,18 +156,22 @@ impl ShellEnd {
                 return None;
             }
         };
-        self.heed(rt, &asked);
+        if asked.ends() {
+            let request = asked.into_request();
+            return Some(Cause::Asked(Asking { request, to }));
+        }
+        if asked.interrupts() {
+            self.flags.interrupt();
+        }
         let done = engine.finish(alloc, asked, &Never);
         conclude(rt, done, to)
     }
 }
 
-/// Control leaves no message undone, and its own cells are never interrupted. Once it asked for shell's end it ends,
-/// also if no memory was left to handle the shutdown.
+/// Control leaves no message undone that it is given but a request for a shutdown, with which it ends, and its own cells
+/// are never interrupted.
 impl Answering for ShellEnd {
-    ghost may_leave = { ⊥ };
-
-    ghost may_ask = { ⊥ };
+    ghost may = { record { may_leave = ⊥; may_hold = Unit; may_ask = ⊥ } };
 
     fn answer<I, S, W, R>(
         &self,

@@ -3,40 +3,60 @@
 ghost use Rattle.std.specs.Prelude.{◌≡◌};
 ghost use Rattle.kernel_workers.specs.Causes.{restart_of};
 
+use crate::inbox::Note;
+use crate::job::{Job, ReplyTo};
+use crate::waking::Waking;
+use crossbeam_channel::Receiver;
+use interp_core::Interpreter;
 use iopub_event::Event;
-use iopub_queue::Closed;
+use jmsg_envelope::{Envelope, Stamp};
+use kernel_engine::Engine;
+use std::sync::Wait;
 
 /// What a worker of shell or control leaves.
 #[derive(Drop)]
-pub struct Ended<W> {
-    /// The closing token of its publisher.
-    pub closed: Closed<Event<W>>,
+pub struct Ended<I: Interpreter, S: Stamp, W, R: Wait> {
+    /// What handled its requests. Its publisher is open.
+    pub engine: Engine<I, Waking<Event<W>, R>, S, W>,
     /// Why it ended.
     pub cause: Cause,
+    /// Its inbox. Once that is dropped, who puts jobs into it sees that nobody does them.
+    pub inbox: Receiver<Note<Job>>,
 }
 
 /// Why a worker ends.
-#[derive(Clone, Copy, Debug, PartialEq, Eq)]
+#[derive(Drop)]
 pub enum Cause {
     /// It was told to, or nobody is left who could tell it anything.
     Told,
-    /// A request for a shutdown was handled.
+    /// A request for a shutdown was handled, on shell.
     Shutdown {
         /// Whether the kernel is to begin anew.
         restart: bool,
     },
+    /// A request for a shutdown came on control, and is still to be handled.
+    Asked(Asking),
     /// All ids were given.
     Worn,
 }
 
+/// A request for a shutdown that is still to be handled.
+#[derive(Drop)]
+pub struct Asking {
+    /// The request.
+    pub request: Envelope,
+    /// Where its reply goes.
+    pub to: ReplyTo,
+}
+
 impl Cause {
-    /// Whether the kernel is to begin anew, if a request for a shutdown is the cause.
-    pub(crate) fn restart(self) -> Option<bool>
-        ensures { result ≡ restart_of self }
+    /// Whether the kernel is to begin anew, if a request for a shutdown was handled.
+    pub(crate) fn restart(&self) -> Option<bool>
+        ensures { result ≡ restart_of self.now }
     {
         match self {
-            Cause::Shutdown { restart } => Some(restart),
-            Cause::Told | Cause::Worn => None,
+            Cause::Shutdown { restart } => Some(*restart),
+            Cause::Told | Cause::Asked(_) | Cause::Worn => None,
         }
     }
 }

@@ -13,7 +13,7 @@ pub enum KernelFault {
     /// The queue can't be opened, or no memory was left.
     #[error("the queue can't be opened, or no memory was left")]
     Queue(OpenFault),
-    /// A worker's thread can't be made.
+    /// A thread can't be made: of a worker, or for the shutdown, where it is also for want of memory.
     #[error("no thread can be made")]
     NoThread,
 }

@@ -35,6 +35,21 @@ pub(crate) fn tell<T: Drop, R: Wait>(rt: &R, to: &Sender<Note<T>>, note: Note<T>
     unreachable!()
 }
 
+/// Tells a worker to end: whether it is gone, since it has dropped its inbox.
+pub(crate) fn is_gone<T: Drop, R: Wait>(rt: &R, to: &Sender<Note<T>>) -> bool {
+    match to.send(rt, Note::End) {
+        Ok(()) => false,
+        Err(SendError::Disconnected(note)) => {
+            drop(note);
+            true
+        }
+        Err(SendError::OutOfMemory(note)) => {
+            drop(note);
+            false
+        }
+    }
+}
+
 /// Tells a worker something, unless memory is refused: then it gives that back.
 fn try_to_tell<T: Drop, R: Wait>(rt: &R, to: &Sender<Note<T>>, note: Note<T>) -> Option<Note<T>> {
     match to.send(rt, note) {

@@ -1,11 +1,13 @@
 //! A running kernel: its workers, which are shell, control, subscriptions and the relay, each in a thread of its own.
-//! What each of the first three leaves is the closing token of its publisher, with a list that is as its promise says,
+//! Shell and control leave their engines, and subscriptions the closing token of its publisher, each as its promise says,
 //! also after a join; so the kernel's end can say what was published, and what each subscriber got.
 #![tactic(auto)]
 
 mod control;
 mod credit;
+mod draining;
 mod ended;
+mod ending;
 mod fault;
 mod flags;
 mod inbox;
@@ -16,21 +18,23 @@ mod relaying;
 mod request;
 mod running;
 mod shell;
+mod shutdown;
 mod subscriptions;
 mod waking;
 mod working;
 
 pub use control::{ControlWorker, ShellEnd};
 pub use credit::{Account, Credit};
-pub use ended::{Cause, Ended};
+pub use ended::{Asking, Cause, Ended};
 pub use fault::KernelFault;
 pub use flags::Flags;
 pub use inbox::{Inbox, Note};
 pub use job::{Job, ReplyMessage, ReplyTo};
 pub use parts::Parts;
-pub use promises::{ClosesBlocked, ClosesSilent, ServesOn};
+pub use promises::{ClosesSilent, KeepsEngine, ServesOn};
 pub use relaying::{RelayEnd, RelayWorker};
 pub use running::{KernelEnd, run_kernel};
 pub use shell::ShellWorker;
+pub use shutdown::{Shutdown, ShutdownEnd, shutdown_order};
 pub use subscriptions::SubscriptionsWorker;
 pub use waking::Waking;

@@ -13,18 +13,17 @@ use std::sync::Wait;
 use std::thread::Promise;
 use zmtp_wire::Outlet;
 
-/// The promise of a worker of shell or control: it leaves the closing token of its engine's publisher, whose list is
-/// well blocked.
+/// The promise of a worker of shell or control: its engine is the one that it was given, whatever was published.
 #[derive(Drop)]
-pub struct ClosesBlocked<I: Interpreter, S: Stamp, W, R: Wait> {
+pub struct KeepsEngine<I: Interpreter, S: Stamp, W, R: Wait> {
     /// Its engine, as it was given.
     pub engine: Snapshot<Engine<I, Waking<Event<W>, R>, S, W>>,
 }
 
-impl<I: Interpreter, S: Stamp, W, R: Wait> Promise<Ended<W>> for ClosesBlocked<I, S, W, R> {
-    ghost use Rattle.kernel_workers.specs.Ending.{EndsBlocked};
+impl<I: Interpreter, S: Stamp, W, R: Wait> Promise<Ended<I, S, W, R>> for KeepsEngine<I, S, W, R> {
+    ghost use Rattle.kernel_workers.specs.Staying.{IsSameEngine};
 
-    ghost kept_by = { λ promise ended. EndsBlocked I.meaning S.stamp promise.engine.value ended.closed };
+    ghost kept_by = { λ promise ended. IsSameEngine S.stamp promise.engine.value ended.engine };
 }
 
 /// The promise of the worker of subscriptions: it leaves the closing token of its publisher, whose list has no message

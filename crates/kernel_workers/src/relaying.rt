@@ -24,7 +24,7 @@ pub struct RelayWorker<W: Outlet, R> {
     relay: Relay<W, R>,
     /// The inbox of subscriptions, by which a subscriber leaves for whose topic there was no memory.
     subscriptions: Sender<Note<Event<W>>>,
-    /// Whether it is to end once it finds nothing.
+    /// Whether it is to end.
     ending: Arc<AtomicBool, Global>,
     /// What it sleeps on.
     parker: Parker,
@@ -33,7 +33,7 @@ pub struct RelayWorker<W: Outlet, R> {
 /// By which the relay's worker is told to end.
 #[derive(Drop)]
 pub struct RelayEnd {
-    /// Whether it is to end once it finds nothing.
+    /// Whether it is to end.
     ending: Arc<AtomicBool, Global>,
     /// Wakes it.
     relay: Unparker,
@@ -110,7 +110,7 @@ impl<W: Outlet + Drop, R: Drop> RelayWorker<W, R> {
 }
 
 impl RelayEnd {
-    /// Tells the relay's worker to end once it finds nothing.
+    /// Tells the relay's worker to end. What it hasn't taken then stays in the queue.
     pub fn end(self) {
         self.ending.store(true, Ordering::SeqCst);
         self.relay.unpark();
@@ -118,9 +118,9 @@ impl RelayEnd {
 }
 
 impl<W: Outlet + Drop, R: Wait + Drop> RelayWorker<W, R> {
-    /// Takes what is published and serves it, until the closes of all publishers were taken, or it is told to end and
-    /// finds nothing. If it finds nothing it backs off, and once that is completed it sleeps until a publisher wakes
-    /// it. Each wakes it after what it published, and one that did so before it slept keeps it awake.
+    /// Takes what is published and serves it, until the closes of all publishers were taken, or it is told to end. If it
+    /// finds nothing it backs off, and once that is completed it sleeps until a publisher wakes it. Each wakes it after
+    /// what it published, and one that did so before it slept keeps it awake.
     pub fn run(self, rt: R) -> Relay<W, R>
         ensures queue { result.taker.queue ≡ self.relay.taker.queue }
         ensures count { result.taker.count ≡ self.relay.taker.count }
@@ -161,7 +161,7 @@ where
     }
 }
 
-/// Takes what is published and serves it, until the relay's worker is to end.
+/// Takes what is published and serves it, until the relay's worker is to end, or all is complete.
 fn pump_all<W: Outlet + Drop, R: Wait>(
     rt: &R,
     relay: &mut Relay<W, R>,
@@ -174,6 +174,9 @@ fn pump_all<W: Outlet + Drop, R: Wait>(
 {
     let backoff = Backoff::new();
     for _ in rt.forever() {
+        if ending.load(Ordering::SeqCst) {
+            return;
+        }
         match relay.pump() {
             Pumped::Did | Pumped::Closed(_) | Pumped::NoRoom(_) => backoff.reset(),
             Pumped::NoTopic(id) => {
@@ -181,12 +184,7 @@ fn pump_all<W: Outlet + Drop, R: Wait>(
                 backoff.reset();
             }
             Pumped::Complete => return,
-            Pumped::Empty => {
-                if ending.load(Ordering::SeqCst) {
-                    return;
-                }
-                rest(rt, parker, &backoff);
-            }
+            Pumped::Empty => rest(rt, parker, &backoff),
         }
     }
     unreachable!()

@@ -1,8 +1,9 @@
 //! One request of shell or control: looked at, handled, and replied to.
 
-ghost use Rattle.std.specs.Prelude.{◌≡◌};
+ghost use Rattle.std.specs.Prelude.{◌≡◌, None};
+ghost use Rattle.iopub_queue.specs.Entries.{StandsBehind, of};
 ghost use Rattle.kernel_workers.specs.Causes.{cause_of, cause_of_fault, cause_of_order};
-ghost use Rattle.kernel_workers.specs.Ending.{EndsBlocked};
+ghost use Rattle.kernel_workers.specs.Ending.{EndsBlocked, closed_list};
 
 use crate::ended::Cause;
 use crate::job::ReplyTo;
@@ -64,7 +65,11 @@ where
     S: Stamp + Drop,
     W: Drop,
     R: Wait + Drop,
-    ensures { EndsBlocked I.meaning S.stamp engine result }
+    ensures blocked { EndsBlocked I.meaning S.stamp engine result }
+    ensures list { result.published ≡ closed_list engine }
+    ensures own { of result.number result.told ≡ result.published }
+    ensures behind { engine.owed ≡ None
+        → StandsBehind result.told (engine.publishing.sink.number, None) engine.publishing.sink.told }
 {
     let parts = engine.close().into_parts();
     let publishing = parts.publishing;

@@ -2,20 +2,18 @@
 
 ghost use Rattle.std.specs.Prelude.{◌≡◌, ◌≤◌, [], IfErr, IfOk, IfSome, OnOk, vec_capacity};
 ghost use Rattle.iopub_queue.specs.Calls.{IsCapacity};
-ghost use Rattle.iopub_queue.specs.Entries.{EndsWithClose};
-ghost use Rattle.kernel_workers.specs.Causes.{restart_of};
-ghost use Rattle.kernel_workers.specs.Ending.{EndsBlocked, EndsSilent};
-ghost use Rattle.kernel_workers.specs.Running.{EndsWell, FailsBy, TookAll, restart_by};
-ghost use Rattle.kernel_workers.specs.Starting.{IsOpened, IsSetUp};
+ghost use Rattle.kernel_workers.specs.Running.{EndsBy, EndsWell, FailsBy, IsFaultAtEnd};
+ghost use Rattle.kernel_workers.specs.Starting.{AreOfOne, IsOpened, IsSetUp};
 
 use crate::control::{ControlWorker, ShellEnd};
 use crate::ended::Ended;
+use crate::ending::{Left, Serving, end_by};
 use crate::fault::KernelFault;
 use crate::flags::Flags;
 use crate::inbox::{Note, tell};
 use crate::job::Job;
 use crate::parts::Parts;
-use crate::promises::{ClosesBlocked, ClosesSilent, ServesOn};
+use crate::promises::{ClosesSilent, KeepsEngine, ServesOn};
 use crate::relaying::{RelayEnd, RelayWorker};
 use crate::shell::ShellWorker;
 use crate::subscriptions::SubscriptionsWorker;
@@ -50,12 +48,14 @@ pub struct KernelEnd<W> {
 /// inbox of control or of shell: four workers, each in a thread of its own. Shell and control handle the requests of
 /// their inboxes. The worker of subscriptions publishes that subscribers come, ask for topics or a PONG, give topics up
 /// and leave. The relay serves all that is published. The workers hold senders of the inboxes themselves, so dropping
-/// all others ends nothing.
+/// all others ends nothing. If control is asked for a shutdown the kernel ends by `shutdown_order`, and the reply is
+/// sent behind all that was published.
 ///
 /// # Errors
 ///
 /// `Queue` if the capacity isn't from 1 to 65,536, which is judged first, or memory is refused, also for what is left
-/// in the end; `NoThread` if a thread can't be made. The parts are dropped then.
+/// in the end; `NoThread` if a thread can't be made, also the one of the shutdown, or there is no memory for what that
+/// shares. The parts are dropped then.
 pub fn run_kernel<I, S, W, R>(
     rt: R,
     alloc: Global,
@@ -71,10 +71,7 @@ where
     ensures refused { IfErr result (FailsBy parts.capacity) }
 {
     match begin(rt, alloc, parts) {
-        Ok((running, tokens)) => {
-            let (left, relay) = join(&rt, running);
-            settle(&rt, relay, left, tokens)
-        }
+        Ok((running, tokens)) => end(rt, alloc, running, tokens),
         Err(fault) => Err(fault),
     }
 }
@@ -170,8 +167,6 @@ struct Shared {
     shell_end: ShellEnd,
     /// What shell is stopped by.
     flags: Flags,
-    /// What shell drops once it has closed.
-    ended: Sender<()>,
     /// The inbox of control, for shell.
     to_control: Sender<Note<Job>>,
 }
@@ -342,9 +337,9 @@ fn room_for_three<T: Drop>(alloc: Global) -> Result<Vec<T>, AllocError>
 fn share<I, S, W>(alloc: Global, parts: &Parts<I, S, W>) -> Result<Shared, AllocError>
     ensures { IfOk result (λ shared. shared.key.items ≡ parts.now.key.items) }
 {
-    let (shell_end, flags, ended) = ShellEnd::new(alloc, &parts.flags, &parts.shell_in.to)?;
+    let (shell_end, flags) = ShellEnd::new(&parts.flags, &parts.shell_in.to)?;
     let Ok(to_control) = parts.control_in.to.clone() else {
-        drop((shell_end, flags, ended));
+        drop((shell_end, flags));
         return Err(AllocError);
     };
     match parts.key.as_slice().to_vec(alloc) {
@@ -352,17 +347,16 @@ fn share<I, S, W>(alloc: Global, parts: &Parts<I, S, W>) -> Result<Shared, Alloc
             key,
             shell_end,
             flags,
-            ended,
             to_control,
         }),
         Err(_) => {
-            drop((shell_end, flags, ended, to_control));
+            drop((shell_end, flags, to_control));
             Err(AllocError)
         }
     }
 }
 
-/// What there is of each worker that publishes: the worker itself, its thread, or what it left.
+/// What there is of each worker that publishes: the worker itself, or its thread.
 #[derive(Drop)]
 struct Publishers<Shell, Control, Subscriptions> {
     /// Of shell's.
@@ -380,7 +374,7 @@ type PublishingWorkers<I, S, W, R> = Publishers<
     SubscriptionsWorker<W, R>,
 >;
 
-/// The workers of a kernel before they run, and what ends those that do: control ends shell.
+/// The workers of a kernel before they run, and what ends those that do: control ends shell, too.
 #[derive(Drop)]
 struct Workers<I: Interpreter, S: Stamp, W: Outlet, R: Wait> {
     /// Those that publish.
@@ -389,6 +383,8 @@ struct Workers<I: Interpreter, S: Stamp, W: Outlet, R: Wait> {
     relay: RelayWorker<W, R>,
     /// The inbox of control.
     to_control: Sender<Note<Job>>,
+    /// The inbox of subscriptions.
+    to_subscriptions: Sender<Note<Event<W>>>,
     /// By which the relay's worker is told to end.
     relay_end: RelayEnd,
 }
@@ -432,7 +428,6 @@ where
             ),
             inbox: shell_in.from,
             flags: shared.flags,
-            ended: shared.ended,
             control: shared.to_control,
         },
         control: ControlWorker {
@@ -445,7 +440,6 @@ where
             ),
             inbox: control_in.from,
             shell: shared.shell_end,
-            subscriptions: subscriptions_in.to,
         },
         subscriptions: SubscriptionsWorker {
             sink: queue.subscriptions,
@@ -456,12 +450,13 @@ where
         publishers,
         relay: queue.relay,
         to_control: control_in.to,
+        to_subscriptions: subscriptions_in.to,
         relay_end: queue.relay_end,
     }
 }
 
 /// The thread of a worker of shell or control.
-type ChannelThread<I, S, W, R> = PromisedHandle<Ended<W>, ClosesBlocked<I, S, W, R>>;
+type ChannelThread<I, S, W, R> = PromisedHandle<Ended<I, S, W, R>, KeepsEngine<I, S, W, R>>;
 
 /// The threads of the workers that publish.
 type PublishingThreads<I, S, W, R> = Publishers<
@@ -470,10 +465,12 @@ type PublishingThreads<I, S, W, R> = Publishers<
     PromisedHandle<Closed<Event<W>>, ClosesSilent<W, R>>,
 >;
 
-/// The workers of a kernel in their threads, and what ends that of the relay: control ends shell and subscriptions.
+/// The workers of a kernel in their threads, and what ends those of subscriptions and of the relay.
 struct Running<I: Interpreter, S: Stamp, W: Outlet, R: Wait> {
     /// Those that publish.
     publishers: PublishingThreads<I, S, W, R>,
+    /// The inbox of subscriptions.
+    to_subscriptions: Sender<Note<Event<W>>>,
     /// The relay's.
     relay: PromisedHandle<Relay<W, R>, ServesOn<W, R>>,
     /// By which the relay's worker is told to end.
@@ -506,19 +503,22 @@ where
         publishers,
         relay,
         to_control,
+        to_subscriptions,
         relay_end,
     } = workers;
     let Some(relay) = relay.spawn(rt) else {
-        drop((publishers, to_control, relay_end));
+        drop((publishers, to_control, to_subscriptions, relay_end));
         return None;
     };
     match start_publishing(rt, alloc, publishers, to_control) {
         Some(publishers) => Some(Running {
             publishers,
+            to_subscriptions,
             relay,
             relay_end,
         }),
         None => {
+            drop(to_subscriptions);
             end_relay(&rt, relay_end, relay);
             None
         }
@@ -648,97 +648,60 @@ where
     drop(worker.join(rt));
 }
 
-/// What the workers that publish left.
-type Left<W> = Publishers<Ended<W>, Ended<W>, Closed<Event<W>>>;
-
-/// Joins the workers of a kernel, and tells the relay's to end once the others did: what they left, and the relay.
-fn join<I, S, W, R>(rt: &R, running: Running<I, S, W, R>) -> (Left<W>, Relay<W, R>)
-where
-    I: Interpreter,
-    S: Stamp,
-    W: Outlet,
-    R: Threads + Wait,
-    ensures shell { EndsBlocked I.meaning S.stamp running.publishers.shell.promise.engine.value result.0.shell.closed }
-    ensures control { EndsBlocked I.meaning S.stamp running.publishers.control.promise.engine.value
-        result.0.control.closed }
-    ensures subscriptions { EndsSilent running.publishers.subscriptions.promise.sink.value result.0.subscriptions }
-    ensures queue { result.1.taker.queue ≡ running.relay.promise.relay.value.taker.queue }
-    ensures count { result.1.taker.count ≡ running.relay.promise.relay.value.taker.count }
-{
-    let Running {
-        publishers,
-        relay,
-        relay_end,
-    } = running;
-    let left = Publishers {
-        shell: publishers.shell.join(rt),
-        control: publishers.control.join(rt),
-        subscriptions: publishers.subscriptions.join(rt),
-    };
-    relay_end.end();
-    (left, relay.join(rt))
-}
-
-/// Settles with the publishers of a kernel, which all have closed, and gives what is left of its relay.
+/// Joins the workers of shell and control, and ends the kernel: in order if control was asked for a shutdown.
 ///
 /// # Errors
 ///
-/// `OutOfMemory` if memory is refused for what is left.
-fn settle<W: Outlet + Drop, R: Wait + Drop>(
-    rt: &R,
-    mut relay: Relay<W, R>,
-    left: Left<W>,
+/// `Queue` if memory is refused for what is left; `NoThread` if a thread can't be made for the shutdown, or there is no
+/// memory for what that shares.
+fn end<I, S, W, R>(
+    rt: R,
+    alloc: Global,
+    running: Running<I, S, W, R>,
     tokens: Vec<Closed<Event<W>>>,
 ) -> Result<KernelEnd<W>, KernelFault>
-    requires count { relay.taker.count ≡ 3 }
-    requires shell { (left.shell.closed.queue ≡ relay.taker.queue) × (left.shell.closed.number ≡ 0) }
-    requires control { (left.control.closed.queue ≡ relay.taker.queue) × (left.control.closed.number ≡ 1) }
-    requires subscriptions { (left.subscriptions.queue ≡ relay.taker.queue) × (left.subscriptions.number ≡ 2) }
-    requires closed { EndsWithClose left.shell.closed.published × EndsWithClose left.control.closed.published
-        × EndsWithClose left.subscriptions.published }
-    requires tokens { tokens.items ≡ [] }
+where
+    I: Interpreter + Drop,
+    I::Cell: Drop,
+    S: Stamp + Drop,
+    W: Outlet + Drop + Send + 'static,
+    R: Threads + Wait + Copy + Send + Sync + Drop + 'static,
+    requires one { AreOfOne running.publishers.shell.promise.engine.value.publishing.sink
+        running.publishers.control.promise.engine.value.publishing.sink
+        running.publishers.subscriptions.promise.sink.value running.relay.promise.relay.value.taker }
+    requires none { tokens.items ≡ [] }
     requires room { 3 ≤ vec_capacity tokens }
-    ensures took { IfOk result
-        (TookAll W.outflow left.shell.closed.published left.control.closed.published left.subscriptions.published) }
-    ensures restart { IfOk result
-        (λ ended. ended.restart ≡ restart_by (restart_of left.control.cause) (restart_of left.shell.cause)) }
-    ensures refused { IfErr result (λ fault. fault ≡ KernelFault.Queue OpenFault.OutOfMemory) }
+    ensures ends { IfOk result (EndsBy I.meaning S.stamp W.outflow running.publishers.shell.promise.engine.value
+        running.publishers.control.promise.engine.value) }
+    ensures refused { IfErr result IsFaultAtEnd }
 {
-    let Publishers {
+    let Running {
+        publishers,
+        to_subscriptions,
+        relay,
+        relay_end,
+    } = running;
+    let Ended {
+        engine: shell,
+        cause: of_shell,
+        inbox,
+    } = publishers.shell.join(&rt);
+    drop(inbox);
+    let Ended {
+        engine: control,
+        cause: of_control,
+        inbox,
+    } = publishers.control.join(&rt);
+    let left = Left {
         shell,
         control,
-        subscriptions,
-    } = left;
-    let restart = restarts(control.cause.restart(), shell.cause.restart());
-    let mut tokens = tokens;
-    tokens.push_reserved(shell.closed);
-    tokens.push_reserved(control.closed);
-    tokens.push_reserved(subscriptions);
-    let complete = relay.conclude(rt, tokens);
-    let no_room = relay.no_room();
-    match relay.finish() {
-        Ok(subscribers) => Ok(KernelEnd {
-            complete,
-            restart,
-            subscribers,
-            no_room,
-        }),
-        Err(relay) => {
-            drop(relay);
-            Err(KernelFault::Queue(OpenFault::OutOfMemory))
-        }
-    }
-}
-
-/// Whether a kernel is to begin anew: control's word counts before shell's.
-fn restarts(control: Option<bool>, shell: Option<bool>) -> bool
-    ensures { result ≡ restart_by control shell }
-{
-    match control {
-        Some(restart) => restart,
-        None => match shell {
-            Some(restart) => restart,
-            None => false,
-        },
-    }
+        subscriptions: publishers.subscriptions,
+        to_subscriptions,
+        tokens,
+    };
+    let serving = Serving { relay, relay_end };
+    let ended = end_by(rt, alloc, left, serving, of_control, of_shell);
+    // Who asked for a shutdown is heard until it was replied.
+    drop(inbox);
+    ended
 }

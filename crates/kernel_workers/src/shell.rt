@@ -3,7 +3,6 @@
 ghost use Rattle.std.specs.Prelude.{◌≡◌, IfSome};
 ghost use Rattle.iopub_queue.specs.Sink.{publisher_sink};
 ghost use Rattle.kernel_engine.specs.World.{world_of};
-ghost use Rattle.kernel_workers.specs.Ending.{EndsBlocked};
 ghost use Rattle.kernel_workers.specs.Jobs.{TakesJob};
 ghost use Rattle.kernel_workers.specs.Staying.{IsSameEngine};
 
@@ -11,8 +10,8 @@ use crate::ended::{Cause, Ended};
 use crate::flags::Flags;
 use crate::inbox::{Note, tell};
 use crate::job::{Job, ReplyTo};
-use crate::promises::ClosesBlocked;
-use crate::request::{close, conclude};
+use crate::promises::KeepsEngine;
+use crate::request::conclude;
 use crate::waking::Waking;
 use crate::working::{Answering, work};
 use crossbeam_channel::{Receiver, Sender};
@@ -27,7 +26,7 @@ use std::sync::Wait;
 use std::thread;
 use std::thread::{PromisedHandle, Threads};
 
-/// Shell's worker: what it owns, what it hears, and whom it tells that it ended.
+/// Shell's worker: what it owns, what it hears, and whom it tells that it ends.
 #[derive(Drop)]
 pub struct ShellWorker<I: Interpreter, S: Stamp, W, R: Wait> {
     /// What handles its requests.
@@ -36,8 +35,6 @@ pub struct ShellWorker<I: Interpreter, S: Stamp, W, R: Wait> {
     pub inbox: Receiver<Note<Job>>,
     /// What control stops it by.
     pub flags: Flags,
-    /// By whose drop control learns that it closed. No message goes through it.
-    pub ended: Sender<()>,
     /// The inbox of control, which it ends unless control asked for its end.
     pub control: Sender<Note<Job>>,
 }
@@ -52,31 +49,30 @@ where
 {
     /// Publishes that the kernel starts, and does the jobs of its inbox one after the other. It goes on until it is
     /// told to end, a request asks for the end, all ids were given, or nobody is left who could tell it anything. Then
-    /// it closes, and tells control.
-    pub fn run(self, rt: R, alloc: Global) -> Ended<W>
-        ensures { EndsBlocked I.meaning S.stamp self.engine result.closed }
+    /// others see that the kernel is to end, and control is told to, unless it was control that asked for the end.
+    pub fn run(self, rt: R, alloc: Global) -> Ended<I, S, W, R>
+        ensures { IsSameEngine S.stamp self.engine result.engine }
     {
         let ShellWorker {
             mut engine,
             inbox,
             flags,
-            ended,
             control,
         } = self;
         start(alloc, &mut engine);
-        let cause = work(&rt, alloc, &mut engine, &inbox, &flags, &flags);
-        // Others see that the kernel is to end before the close is published, which may have to wait for the relay.
+        let cause = work(&rt, alloc, &mut engine, &inbox, &flags);
         let is_told = flags.is_ending();
         flags.end();
-        let closed = close(engine);
-        drop(inbox);
-        drop(ended);
         drop(flags);
         if !is_told {
             tell(&rt, &control, Note::End);
         }
         drop(control);
-        Ended { closed, cause }
+        Ended {
+            engine,
+            cause,
+            inbox,
+        }
     }
 }
 
@@ -94,10 +90,10 @@ where
         self,
         rt: R,
         alloc: Global,
-    ) -> Option<PromisedHandle<Ended<W>, ClosesBlocked<I, S, W, R>>>
+    ) -> Option<PromisedHandle<Ended<I, S, W, R>, KeepsEngine<I, S, W, R>>>
         ensures { IfSome result (λ handle. handle.promise.engine.value ≡ self.engine) }
     {
-        let promise = ClosesBlocked {
+        let promise = KeepsEngine {
             engine: Snapshot::of(&self.engine),
         };
         match thread::spawn_with(&rt, promise, move || self.run(rt, alloc)) {
@@ -125,9 +121,7 @@ where
 /// Shell leaves a message undone that it begins once its end was asked for. A cell that runs is interrupted by the
 /// flags.
 impl Answering for Flags {
-    ghost may_leave = { Unit };
-
-    ghost may_ask = { Unit };
+    ghost may = { record { may_leave = Unit; may_hold = ⊥; may_ask = Unit } };
 
     fn answer<I, S, W, R>(
         &self,

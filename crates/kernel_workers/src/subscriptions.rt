@@ -25,7 +25,8 @@ pub struct SubscriptionsWorker<W, R> {
 
 impl<W: Drop, R: Wait + Drop> SubscriptionsWorker<W, R> {
     /// Publishes what its subscribers come, ask for and leave by, and drops each message. Once it is told to end, or
-    /// nobody is left who could tell it anything, it closes, and what comes after that is dropped.
+    /// nobody is left who could tell it anything, it closes. What comes after that is dropped with its inbox, behind the
+    /// close.
     pub fn run(self, rt: R) -> Closed<Event<W>>
         requires { self.sink.published ≡ [] }
         ensures { EndsSilent self.sink result }
@@ -37,8 +38,9 @@ impl<W: Drop, R: Wait + Drop> SubscriptionsWorker<W, R> {
                 Ok(Note::End) | Err(_) => break,
             }
         }
+        let closed = sink.close();
         drop(inbox);
-        sink.close()
+        closed
     }
 }
 

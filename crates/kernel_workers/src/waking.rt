@@ -1,10 +1,11 @@
 //! A sink that wakes the relay.
 
-ghost use Rattle.std.specs.Prelude.{◌≡◌, None};
+ghost use Rattle.std.specs.Prelude.{◌≡◌, ◌++◌, ◌∷◌, [], Some, None, IfErr, OnErr, OnOk};
 ghost use Rattle.iopub_queue.specs.Calls.{Adds};
+ghost use Rattle.iopub_queue.specs.Entries.{StandsBehind};
 
 use crossbeam_utils::sync::Unparker;
-use iopub_queue::{Closed, Publish, Publisher, Refused};
+use iopub_queue::{Closed, Publish, PublishAfter, Publisher, Refused, Word};
 use std::marker::Model;
 use std::sync::Wait;
 
@@ -69,4 +70,24 @@ impl<T, R: Wait> Publish for Waking<T, R> {
       same_on = λ a b c ab bc. (bc.0 ∙ ab.0, bc.1 ∙ ab.1);
       same_may_refuse = λ _ _ _. (λ none. none, λ none. none);
     } };
+}
+
+impl<T, R: Wait> PublishAfter for Waking<T, R> {
+    ghost publisher = { λ waking. waking };
+
+    fn publish_after(&mut self, word: Word<T>, item: T) -> Result<(), Refused<T>>
+        requires queue { word.queue ≡ self.old.queue }
+        ensures published { OnOk result (self.new.published ≡ self.old.published ++ Some item ∷ []) }
+        ensures unpublished { OnErr result (self.new.published ≡ self.old.published) }
+        ensures returned { IfErr result (λ refused. refused.item ≡ item) }
+        ensures allowed { OnErr result ⊥ }
+        ensures same { (self.new.queue ≡ self.old.queue) × (self.new.number ≡ self.old.number) }
+        ensures behind { OnOk result (StandsBehind self.new.told (self.old.number, Some item) word.list) }
+    {
+        let published = self.publisher.publish_after(word, item);
+        self.relay.unpark();
+        published
+    }
+
+    ghost stays = { λ one other same. same };
 }

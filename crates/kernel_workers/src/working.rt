@@ -2,11 +2,10 @@
 
 ghost use Rattle.iopub_queue.specs.Sink.{publisher_sink};
 ghost use Rattle.kernel_engine.specs.World.{world_of};
-ghost use Rattle.kernel_workers.specs.Jobs.{DoesJob};
+ghost use Rattle.kernel_workers.specs.Jobs.{DoesJob, Doing};
 ghost use Rattle.kernel_workers.specs.Staying.{IsSameEngine};
 
 use crate::ended::Cause;
-use crate::flags::Flags;
 use crate::inbox::Note;
 use crate::job::{Job, ReplyTo};
 use crate::waking::Waking;
@@ -21,11 +20,8 @@ use std::sync::Wait;
 
 /// How a worker answers the messages of its inbox: what differs between shell and control.
 pub(crate) trait Answering {
-    /// Whether a message may be left undone.
-    ghost may_leave: { Type 0 };
-
-    /// Whether a cell may be interrupted.
-    ghost may_ask: { Type 0 };
+    /// Whether a message may be left undone, a request for a shutdown left for later, and a cell interrupted.
+    ghost may: { Doing };
 
     /// Takes the frames of a message, and sends the reply; answers why the worker ends, if it does.
     fn answer<I, S, W, R>(
@@ -41,8 +37,7 @@ pub(crate) trait Answering {
         S: Stamp,
         W: Drop,
         R: Wait,
-        ensures does { DoesJob (world_of I.meaning publisher_sink S.stamp) may_leave may_ask frames engine.old result
-            engine.new }
+        ensures does { DoesJob (world_of I.meaning publisher_sink S.stamp) may frames engine.old result engine.new }
         ensures same { IsSameEngine S.stamp engine.old engine.new };
 }
 
@@ -52,7 +47,6 @@ pub(crate) fn work<I, S, W, R, A>(
     alloc: Global,
     engine: &mut Engine<I, Waking<Event<W>, R>, S, W>,
     inbox: &Receiver<Note<Job>>,
-    flags: &Flags,
     answering: &A,
 ) -> Cause
 where
@@ -64,7 +58,7 @@ where
     ensures { IsSameEngine S.stamp engine.old engine.new }
 {
     for _ in rt.forever() {
-        if let Some(cause) = take_turn(rt, alloc, engine, inbox, flags, answering) {
+        if let Some(cause) = take_turn(rt, alloc, engine, inbox, answering) {
             return cause;
         }
     }
@@ -77,7 +71,6 @@ fn take_turn<I, S, W, R, A>(
     alloc: Global,
     engine: &mut Engine<I, Waking<Event<W>, R>, S, W>,
     inbox: &Receiver<Note<Job>>,
-    flags: &Flags,
     answering: &A,
 ) -> Option<Cause>
 where
@@ -88,18 +81,14 @@ where
     A: Answering,
     ensures { IsSameEngine S.stamp engine.old engine.new }
 {
-    match next_job(rt, inbox, flags) {
+    match next_job(rt, inbox) {
         Some(job) => do_job(rt, alloc, engine, job, answering),
         None => Some(Cause::Told),
     }
 }
 
-/// The next job of an inbox. None once the worker is to end, control asked for shell's end, or nobody is left who could
-/// tell it anything.
-fn next_job<R: Wait>(rt: &R, inbox: &Receiver<Note<Job>>, flags: &Flags) -> Option<Job> {
-    if flags.is_ending() {
-        return None;
-    }
+/// The next job of an inbox. None once the worker is told to end, or nobody is left who could tell it anything.
+fn next_job<R: Wait>(rt: &R, inbox: &Receiver<Note<Job>>) -> Option<Job> {
     match inbox.recv(rt) {
         Ok(Note::Item(job)) => Some(job),
         Ok(Note::End) | Err(_) => None,
@@ -120,8 +109,7 @@ where
     W: Drop,
     R: Wait,
     A: Answering,
-    ensures does { DoesJob (world_of I.meaning publisher_sink S.stamp) A.may_leave A.may_ask job.frames engine.old
-        result engine.new }
+    ensures does { DoesJob (world_of I.meaning publisher_sink S.stamp) A.may job.frames engine.old result engine.new }
     ensures same { IsSameEngine S.stamp engine.old engine.new }
 {
     let Job { frames, to } = job;

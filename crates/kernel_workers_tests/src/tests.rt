@@ -6,6 +6,7 @@ mod credit;
 mod long;
 mod running;
 mod shell;
+mod shutdown;
 mod subscriptions;
 
 ghost use Rattle.std.specs.Prelude.{◌≡◌, [], IfOk};
@@ -17,7 +18,7 @@ use iopub_event::Event;
 use iopub_queue::{Taken, Taker, open_queue};
 use jmsg_envelope::{Signer, Stamp};
 use kernel_engine::{Engine, Side};
-use kernel_workers::{Job, Note, ReplyMessage, ReplyTo, Waking};
+use kernel_workers::{Cause, Ended, Job, Note, ReplyMessage, ReplyTo, Waking};
 use listed::Frames;
 use std::alloc::{AllocError, Global};
 use std::process::Abort;
@@ -113,6 +114,20 @@ fn arith_engine<R: Wait>(alloc: Global, side: Side, sink: Waking<Event<()>, R>) 
 {
     let signer = Signer::new(Vec::new(alloc));
     Engine::new(side, ShellArith::new(alloc), sink, OneDate, signer)
+}
+
+/// Closes the publisher of an engine that a worker left, and says why that one ended.
+fn close_after<R: Wait + Drop>(ended: Ended<ShellArith, OneDate, (), R>) -> Cause {
+    let Ended {
+        engine,
+        cause,
+        inbox,
+    } = ended;
+    let parts = engine.close().into_parts();
+    let publishing = parts.publishing;
+    let _ = publishing.sink.close();
+    drop(inbox);
+    cause
 }
 
 /// What was taken, each as a text: its publisher's number, and its frames or what else it is.

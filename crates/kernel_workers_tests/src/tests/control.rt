@@ -1,9 +1,7 @@
-//! Control beside shell and subscriptions: it interrupts a cell, and ends all.
-
-ghost use Rattle.std.specs.Prelude.{◌≡◌};
+//! Control beside shell: it interrupts a cell, and ends shell with itself if it is asked for a shutdown.
 
 use super::*;
-use kernel_workers::{Cause, ControlWorker, Flags, ShellEnd, ShellWorker, SubscriptionsWorker};
+use kernel_workers::{Cause, ControlWorker, Ended, Flags, ShellEnd, ShellWorker};
 use std::thread;
 
 /// The steps of the cell that is interrupted.
@@ -15,81 +13,66 @@ pub(crate) const INTERRUPTED: &str = concat!(
     r#""status":"error","traceback":["Interrupted: interrupted"]}"#,
 );
 
-/// Three workers who know one another, and the inboxes of shell and control.
+/// The workers of shell and control, who know one another, and their inboxes.
 #[derive(Drop)]
-pub(crate) struct Trio<R: Wait> {
+pub(crate) struct Pair<R: Wait> {
     /// Shell's.
     pub(crate) shell: ShellWorker<ShellArith, OneDate, (), R>,
     /// Control's.
     pub(crate) control: ControlWorker<ShellArith, OneDate, (), R>,
-    /// That of subscriptions.
-    pub(crate) subscriptions: SubscriptionsWorker<(), R>,
     /// Where requests to shell are put.
     pub(crate) to_shell: Sender<Note<Job>>,
     /// Where requests to control are put.
     pub(crate) to_control: Sender<Note<Job>>,
 }
 
-/// By which three workers know one another.
+/// By which two workers know one another.
 #[derive(Drop)]
 pub(crate) struct Lines {
     /// Where requests to shell are put, and its inbox.
     pub(crate) shell: (Sender<Note<Job>>, Receiver<Note<Job>>),
     /// Where requests to control are put, twice, and its inbox.
     pub(crate) control: (Sender<Note<Job>>, Sender<Note<Job>>, Receiver<Note<Job>>),
-    /// Where what subscribers ask for is put, and its inbox.
-    subscriptions: (Sender<Note<Event<()>>>, Receiver<Note<Event<()>>>),
-    /// By which control ends shell, the flags of shell, and what shell drops once it has closed.
-    end: (ShellEnd, Flags, Sender<()>),
+    /// By which control ends shell, and the flags of shell.
+    end: (ShellEnd, Flags),
 }
 
 impl Lines {
-    /// The lines of three workers.
+    /// The lines of two workers.
     pub(crate) fn lay(alloc: Global) -> Result<Lines, Fail> {
         let shell = unbounded(alloc)?;
-        let end = ShellEnd::new(alloc, &Flags::new(alloc)?, &shell.0)?;
+        let end = ShellEnd::new(&Flags::new(alloc)?, &shell.0)?;
         let (to_control, inbox) = unbounded(alloc)?;
         let control = (to_control.clone()?, to_control, inbox);
-        let subscriptions = unbounded(alloc)?;
         Ok(Lines {
             shell,
             control,
-            subscriptions,
             end,
         })
     }
 }
 
-/// Three workers who know one another by these lines, with these engines, and this publisher of subscriptions.
-pub(crate) fn trio_of<R: Wait + Drop>(
+/// Two workers who know one another by these lines, with these engines.
+pub(crate) fn pair_of<R: Wait + Drop>(
     lines: Lines,
     shell: ArithEngine<R>,
     control: ArithEngine<R>,
-    sink: Waking<Event<()>, R>,
-) -> Trio<R>
-    ensures { result.subscriptions.sink ≡ sink }
-{
+) -> Pair<R> {
     let (to_shell, shell_inbox) = lines.shell;
     let (to_control, control_of_shell, control_inbox) = lines.control;
-    let (to_subscriptions, inbox) = lines.subscriptions;
-    let (shell_end, flags, ended) = lines.end;
-    let shell = ShellWorker {
-        engine: shell,
-        inbox: shell_inbox,
-        flags,
-        ended,
-        control: control_of_shell,
-    };
-    let control = ControlWorker {
-        engine: control,
-        inbox: control_inbox,
-        shell: shell_end,
-        subscriptions: to_subscriptions,
-    };
-    Trio {
-        shell,
-        control,
-        subscriptions: SubscriptionsWorker { sink, inbox },
+    let (shell_end, flags) = lines.end;
+    Pair {
+        shell: ShellWorker {
+            engine: shell,
+            inbox: shell_inbox,
+            flags,
+            control: control_of_shell,
+        },
+        control: ControlWorker {
+            engine: control,
+            inbox: control_inbox,
+            shell: shell_end,
+        },
         to_shell,
         to_control,
     }
@@ -125,14 +108,14 @@ fn take_until<R: Wait>(
     unreachable!()
 }
 
-/// Has a long cell run on shell, interrupts it by control once it has an output, and then has control end all.
+/// Has a long cell run on shell, interrupts it by control once it has an output, and then asks control for a shutdown:
+/// where the reply to that goes.
 fn converse<R: Wait + Abort>(
     rt: &R,
     alloc: Global,
     (to_shell, to_control): (&Sender<Note<Job>>, &Sender<Note<Job>>),
     taker: &mut Taker<Event<()>, R>,
-    parker: &Parker,
-) -> Result<Seen, Fail> {
+) -> Result<Receiver<ReplyMessage>, Fail> {
     let mut seen = Vec::new(alloc);
     let (replies, from_shell) = unbounded(alloc)?;
     let cell = long_cell(alloc)?;
@@ -158,38 +141,47 @@ fn converse<R: Wait + Abort>(
     let text = take_until(rt, alloc, taker, &mut seen, &from_shell)?;
     assert!(rt; text.ends_with(INTERRUPTED), "{text}");
     ask(rt, alloc, to_control, &replies, ("shutdown_request", "{}"))?;
-    take_all(rt, alloc, taker, parker, &mut seen)?;
-    let due = ("shutdown_reply", 6, r#"{"restart":false,"status":"ok"}"#);
-    expect_reply(rt, alloc, &from_control, due, "shutdown_request")?;
-    Ok(seen)
+    Ok(from_control)
+}
+
+/// Whether a worker ended for a request for a shutdown that it left.
+fn is_shutdown(cause: &Cause) -> bool {
+    match cause {
+        Cause::Asked(asking) => asking.request.msg_type.as_str() == "shutdown_request",
+        Cause::Told | Cause::Shutdown { .. } | Cause::Worn => false,
+    }
 }
 
 #[test]
-fn control_interrupts_a_cell_and_ends_all_in_order(rt: HostRuntime) -> Result<(), Fail> {
+fn control_interrupts_a_cell_and_leaves_a_shutdown_for_later(rt: HostRuntime) -> Result<(), Fail> {
     let alloc = rt.alloc();
     let lines = Lines::lay(alloc)?;
     let Queue {
         shell,
         control,
-        subscriptions,
+        subscriptions: _,
         mut taker,
-        parker,
+        parker: _,
     } = Queue::open(&rt, alloc, 2)?;
     let shell = arith_engine(alloc, Side::Shell, shell);
     let control = arith_engine(alloc, Side::Control, control);
-    let trio = trio_of(lines, shell, control, subscriptions);
-    let shell = trio.shell.spawn(rt, alloc).expect(&rt, "a thread");
-    let control = trio.control.spawn(rt, alloc).expect(&rt, "a thread");
-    let subscriptions = trio.subscriptions.spawn(rt).expect(&rt, "a thread");
-    let peers = (&trio.to_shell, &trio.to_control);
-    let seen = converse(&rt, alloc, peers, &mut taker, &parker)?;
-    assert_eq!(rt; shell.join(&rt).cause, Cause::Told);
-    assert_eq!(rt; control.join(&rt).cause, Cause::Shutdown { restart: false });
-    let _ = subscriptions.join(&rt);
-    let due = ["0 closed", "1 status", "1 status", "1 closed", "2 closed"];
-    assert!(rt; seen.len() > due.len());
-    for (text, due) in seen.iter().rev().zip(due.iter().rev()) {
-        assert!(rt; text.starts_with(due), "{text}");
-    }
+    let pair = pair_of(lines, shell, control);
+    let shell = pair.shell.spawn(rt, alloc).expect(&rt, "a thread");
+    let control = pair.control.spawn(rt, alloc).expect(&rt, "a thread");
+    let peers = (&pair.to_shell, &pair.to_control);
+    let from_control = converse(&rt, alloc, peers, &mut taker)?;
+    let Ended {
+        engine: _,
+        cause,
+        inbox: _,
+    } = shell.join(&rt);
+    assert!(rt; matches!(cause, Cause::Told));
+    let Ended {
+        engine: _,
+        cause,
+        inbox: _,
+    } = control.join(&rt);
+    assert!(rt; is_shutdown(&cause));
+    assert!(rt; from_control.try_recv(&rt).is_err());
     Ok(())
 }

@@ -2,7 +2,7 @@
 //! dropped.
 
 use super::*;
-use crate::tests::control::{Lines, trio_of};
+use crate::tests::control::{Lines, pair_of};
 use crate::tests::shell::{ASKED, SHUTDOWN};
 use kernel_workers::{Account, Credit};
 use std::sync::Arc;
@@ -70,17 +70,6 @@ fn expect_three_replies<R: Wait + Abort>(rt: &R, from: &Receiver<ReplyMessage>, 
     assert!(rt; from.try_recv(rt).is_err());
 }
 
-/// Waits until so many jobs of an account are left.
-fn await_jobs<R: Wait>(rt: &R, account: &Account, jobs: usize) {
-    for _ in rt.forever() {
-        if account.jobs() == jobs {
-            return;
-        }
-        thread::yield_now();
-    }
-    unreachable!()
-}
-
 /// An account that has nothing in work, and what its reader sleeps on.
 fn open_account(alloc: Global) -> Result<(Parker, Arc<Account, Global>), Fail> {
     let reader = Parker::new(alloc)?;
@@ -121,17 +110,16 @@ fn what_a_job_and_its_reply_have_of_an_account_is_given_back(rt: HostRuntime) ->
     } = Queue::open(&rt, alloc, 4)?;
     let shell = arith_engine(alloc, Side::Shell, shell);
     let control = arith_engine(alloc, Side::Control, control);
-    let trio = trio_of(lines, shell, control, subscriptions);
-    let control = trio.control.spawn(rt, alloc).expect(&rt, "a thread");
-    // Once shell has ended, control begins nothing any more.
-    await_jobs(&rt, &account, 3);
-    let shell = trio.shell.spawn(rt, alloc).expect(&rt, "a thread");
-    let subscriptions = trio.subscriptions.spawn(rt).expect(&rt, "a thread");
+    let _ = subscriptions.close();
+    let pair = pair_of(lines, shell, control);
+    let worker = pair.control;
+    let control = thread::spawn(&rt, move || close_after(worker.run(rt, alloc)))?;
+    let worker = pair.shell;
+    let shell = thread::spawn(&rt, move || close_after(worker.run(rt, alloc)))?;
     let mut seen = Vec::new(alloc);
     take_all(&rt, alloc, &mut taker, &parker, &mut seen)?;
     let _ = shell.join(&rt);
     let _ = control.join(&rt);
-    let _ = subscriptions.join(&rt);
     expect_three_replies(&rt, &from, &account);
     reader.park(&rt);
     Ok(())

@@ -28,9 +28,9 @@ const STREAM: &[u8] = b"stream";
 
 /// Keeps the octets that it is given, and raises a flag at a piece in which the type of an output stands.
 #[derive(Drop)]
-struct Keeper {
+pub(super) struct Keeper {
     /// What it was given.
-    octets: Vec<u8>,
+    pub(super) octets: Vec<u8>,
     /// Whether an output came.
     has_output: Arc<AtomicBool, Global>,
 }
@@ -49,6 +49,14 @@ impl Outlet for Keeper {
             Err(_) => Err(WriteFailed),
         }
     }
+}
+
+/// One that was given nothing.
+pub(super) fn empty_keeper(alloc: Global) -> Result<Keeper, Fail> {
+    Ok(Keeper {
+        octets: Vec::new(alloc),
+        has_output: Arc::new(alloc, AtomicBool::new(false))?,
+    })
 }
 
 /// By whom a kernel is spoken to, and what is heard of it.
@@ -267,6 +275,21 @@ fn control_ends_a_kernel_that_begins_anew(rt: HostRuntime) -> Result<(), Fail> {
     expect_numbered(&rt, alloc, &client.from_control, (0, SHUTDOWN), due)?;
     assert!(rt; client.from_control.try_recv(&rt).is_err());
     expect_end(&rt, &ended, true, 3);
+    Ok(())
+}
+
+#[test]
+fn word_of_control_counts_if_both_are_asked_for_a_shutdown(rt: HostRuntime) -> Result<(), Fail> {
+    let alloc = rt.alloc();
+    let (parts, client) = kernel_of(&rt, alloc, 1, two_ariths(alloc))?;
+    let shell = (&client.to_shell, &client.shell_replies);
+    ask_numbered(&rt, alloc, shell, 0, (SHUTDOWN, r#"{"restart":true}"#))?;
+    let control = (&client.to_control, &client.control_replies);
+    ask_numbered(&rt, alloc, control, 1, (SHUTDOWN, r#"{"restart":false}"#))?;
+    let ended = run_kernel(rt, alloc, parts)?;
+    let due = ("shutdown_reply", 3, r#"{"restart":false,"status":"ok"}"#);
+    expect_numbered(&rt, alloc, &client.from_control, (1, SHUTDOWN), due)?;
+    expect_end(&rt, &ended, false, 5);
     Ok(())
 }
 

@@ -2,6 +2,7 @@
 
 use super::*;
 use kernel_workers::{Cause, Flags, ShellWorker};
+use std::thread;
 
 /// What the kernel says of itself.
 pub(crate) const INFO: &str = concat!(
@@ -53,8 +54,6 @@ struct Outside {
     to: Sender<Note<Job>>,
     /// The inbox of control.
     control: Receiver<Note<Job>>,
-    /// On which no message comes, but the drop of its sender once shell has closed.
-    ended: Receiver<()>,
     /// Where replies go.
     replies: Sender<ReplyMessage>,
     /// Where they come out.
@@ -69,19 +68,16 @@ fn worker_of<R: Wait + Drop>(
     let flags = Flags::new(alloc)?;
     let (to, inbox) = unbounded(alloc)?;
     let (control, control_in) = unbounded(alloc)?;
-    let (dropped, ended) = unbounded(alloc)?;
     let (replies, from) = unbounded(alloc)?;
     let worker = ShellWorker {
         engine,
         inbox,
         flags,
-        ended: dropped,
         control,
     };
     let outside = Outside {
         to,
         control: control_in,
-        ended,
         replies,
         from,
     };
@@ -101,14 +97,13 @@ fn ask_all<R: Wait>(rt: &R, alloc: Global, outside: &Outside) -> Result<(), Fail
     ask(rt, alloc, to, replies, (SHUTDOWN, r#"{"restart":true}"#))
 }
 
-/// Expects the reply to each of these, and that shell tells its end: by the drop of a sender, and one note to control.
+/// Expects the reply to each of these, and that shell tells its end, by one note to control.
 fn expect_replies<R: Wait + Abort>(rt: &R, alloc: Global, outside: &Outside) -> Result<(), Fail> {
     let from = &outside.from;
     expect_reply(rt, alloc, from, ("kernel_info_reply", 4, INFO), ASKED)?;
     expect_reply(rt, alloc, from, ("kernel_info_reply", 7, INFO), ASKED)?;
     let due = r#"{"restart":true,"status":"ok"}"#;
     expect_reply(rt, alloc, from, ("shutdown_reply", 10, due), SHUTDOWN)?;
-    assert!(rt; outside.ended.recv(rt).is_err());
     assert!(rt; matches!(outside.control.recv(rt), Ok(Note::End)));
     assert!(rt; outside.control.recv(rt).is_err());
     Ok(())
@@ -142,8 +137,8 @@ fn shell_replies_until_a_client_ends_it(rt: HostRuntime) -> Result<(), Fail> {
     let _ = control.close();
     let _ = subscriptions.close();
     let (worker, outside) = worker_of(alloc, arith_engine(alloc, Side::Shell, shell))?;
-    let shell = worker.spawn(rt, alloc).expect(&rt, "a thread");
+    let shell = thread::spawn(&rt, move || close_after(worker.run(rt, alloc)))?;
     converse(&rt, alloc, &outside, &mut taker, &parker)?;
-    assert_eq!(rt; shell.join(&rt).cause, Cause::Shutdown { restart: true });
+    assert!(rt; matches!(shell.join(&rt), Cause::Shutdown { restart: true }));
     Ok(())
 }

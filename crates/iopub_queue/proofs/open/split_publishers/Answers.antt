@@ -1,4 +1,4 @@
-use Rattle.std.proofs.Common.{◌≡◌, rules}
+use Rattle.std.proofs.Common.{rules}
 use Rattle.crossbeam_queue.specs.Passes.{IsPassOf}
 use Rattle.std.specs.Arc.{arc_value}
 use Rattle.iopub_queue.proofs.Opening.{opened_more}

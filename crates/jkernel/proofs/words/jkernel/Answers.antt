@@ -1,7 +1,7 @@
 use Rattle.std.proofs.Common.{rules, ◌≡◌, true, codes, ap, ap₂, ◌∙◌}
 use Rattle.std.proofs.lemmas.Result.{IfOk-weaker}
 use Rattle.clap.specs.Words.{App, app_of, new_app, with_subcommand}
-use Rattle.clap.specs.Simple.{on_top}
+use Rattle.clap.specs.Simple.{app_of_fields, on_top}
 use Rattle.jkernel.specs.Words.{replay_command, serve_command}
 use Rattle.jkernel.proofs.words.jkernel.Goals as goal
 
@@ -11,7 +11,8 @@ bare = on_top (λ top. record top { no_binary_name = true; has_version = true })
 
 pub returns : goal.returns
 returns c =
-    let top : app_of c.after_help-command.result ≡ bare = search rules in
+    let plain : app_of c.after_help-command.result ≡ bare = search rules in
+    let top : app_of c.in_ok-named.named ≡ bare = ap app_of_fields c.in_ok-named.ensures.0 ∙ plain in
     let one : app_of c.in_ok-replaying.replaying ≡ with_subcommand bare replay_command.top =
     c.in_ok-replaying.ensures ∙ ap (λ a. with_subcommand a replay_command.top) top in
     let two : app_of c.in_ok-serving.serving

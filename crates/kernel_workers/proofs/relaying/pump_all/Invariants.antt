@@ -1,4 +1,4 @@
-use Rattle.kernel_workers.proofs.RelayingLemmas.{IsSameQueue}
+use Rattle.kernel_workers.specs.Staying.{IsSameQueue}
 use Rattle.kernel_workers.proofs.relaying.pump_all.Given as goal
 
 abbrev pub invariant-loop : goal.invariant-loop

@@ -1,0 +1,445 @@
+//! The end of a running kernel, once the workers of shell and of control have ended.
+
+ghost use Rattle.std.specs.Prelude.{◌≡◌, ◌≤◌, [], None, IfErr, IfOk, IfSome, vec_capacity};
+ghost use Rattle.iopub_queue.specs.Entries.{EndsWithClose};
+ghost use Rattle.kernel_workers.specs.Causes.{restart_of, word_of};
+ghost use Rattle.kernel_workers.specs.Ending.{EndsSilent};
+ghost use Rattle.kernel_workers.specs.Running.{EndsBy, EndsFor, IsFaultAtEnd, IsLast, ShutsDown, TellsOf, TookAll, restart_by};
+ghost use Rattle.kernel_workers.specs.Shutdown.{EndsInOrder};
+ghost use Rattle.kernel_workers.specs.Starting.{AreOfOne};
+
+use crate::ended::{Asking, Cause};
+use crate::fault::KernelFault;
+use crate::inbox::{Note, is_gone, tell};
+use crate::job::ReplyTo;
+use crate::promises::{ClosesSilent, ServesOn};
+use crate::relaying::RelayEnd;
+use crate::request::close;
+use crate::running::KernelEnd;
+use crate::shutdown::{Shutdown, ShutdownEnd, shutdown_order};
+use crate::waking::Waking;
+use crossbeam_channel::Sender;
+use interp_core::Interpreter;
+use iopub_event::Event;
+use iopub_queue::{Closed, OpenFault};
+use iopub_relay::{Pumped, Relay};
+use jmsg_envelope::{Envelope, Stamp};
+use kernel_engine::{Engine, EngineFault};
+use std::alloc::Global;
+use std::sync::Wait;
+use std::thread;
+use std::thread::{PromisedHandle, Threads};
+use zmtp_wire::Outlet;
+
+/// What is left of a kernel once the workers of shell and of control have ended, but for the relay.
+pub(crate) struct Left<I: Interpreter, S: Stamp, W, R: Wait> {
+    /// What handled the requests of shell.
+    pub(crate) shell: Engine<I, Waking<Event<W>, R>, S, W>,
+    /// What handled the requests of control.
+    pub(crate) control: Engine<I, Waking<Event<W>, R>, S, W>,
+    /// The thread of the worker of subscriptions.
+    pub(crate) subscriptions: PromisedHandle<Closed<Event<W>>, ClosesSilent<W, R>>,
+    /// The inbox of that worker.
+    pub(crate) to_subscriptions: Sender<Note<Event<W>>>,
+    /// Room for three tokens.
+    pub(crate) tokens: Vec<Closed<Event<W>>>,
+}
+
+/// The relay's worker, and what ends it.
+pub(crate) struct Serving<W: Outlet, R> {
+    /// The worker's thread.
+    pub(crate) relay: PromisedHandle<Relay<W, R>, ServesOn<W, R>>,
+    /// By which it is told to end.
+    pub(crate) relay_end: RelayEnd,
+}
+
+impl<W: Outlet, R: Threads> Serving<W, R> {
+    /// Ends the relay's worker, and gives the relay.
+    fn end(self, rt: &R) -> Relay<W, R>
+        ensures queue { result.taker.queue ≡ self.relay.promise.relay.value.taker.queue }
+        ensures count { result.taker.count ≡ self.relay.promise.relay.value.taker.count }
+    {
+        let Serving { relay, relay_end } = self;
+        relay_end.end();
+        relay.join(rt)
+    }
+}
+
+/// Ends a kernel whose control wasn't asked for a shutdown: closes shell, control and subscriptions, one after the
+/// other, and settles with them.
+///
+/// # Errors
+///
+/// `OutOfMemory` if memory is refused for what is left.
+fn close_all<I, S, W, R>(
+    rt: &R,
+    left: Left<I, S, W, R>,
+    serving: Serving<W, R>,
+    of_shell: Cause,
+) -> Result<KernelEnd<W>, KernelFault>
+where
+    I: Interpreter + Drop,
+    I::Cell: Drop,
+    S: Stamp + Drop,
+    W: Outlet + Drop,
+    R: Threads + Wait + Drop,
+    requires one { AreOfOne left.shell.publishing.sink left.control.publishing.sink
+        left.subscriptions.promise.sink.value serving.relay.promise.relay.value.taker }
+    requires none { left.tokens.items ≡ [] }
+    requires room { 3 ≤ vec_capacity left.tokens }
+    ensures ends { IfOk result (EndsBy I.meaning S.stamp W.outflow left.shell left.control) }
+    ensures restart { IfOk result (λ ended. ended.restart ≡ restart_by None (restart_of of_shell)) }
+    ensures refused { IfErr result IsFaultAtEnd }
+{
+    let restart = restarts(None, of_shell.restart());
+    drop(of_shell);
+    let Left {
+        shell,
+        control,
+        subscriptions,
+        to_subscriptions,
+        tokens,
+    } = left;
+    let shell = close(shell);
+    let control = close(control);
+    let closes = Closes {
+        shell,
+        control,
+        subscriptions: end_subscriptions(rt, subscriptions, &to_subscriptions),
+    };
+    drop(to_subscriptions);
+    settle(rt, serving.end(rt), closes, tokens, restart)
+}
+
+/// Tells the worker of subscriptions to end, and joins it.
+fn end_subscriptions<W: Drop, R: Threads + Wait>(
+    rt: &R,
+    subscriptions: PromisedHandle<Closed<Event<W>>, ClosesSilent<W, R>>,
+    to_subscriptions: &Sender<Note<Event<W>>>,
+) -> Closed<Event<W>>
+    ensures { EndsSilent subscriptions.promise.sink.value result }
+{
+    tell(rt, to_subscriptions, Note::End);
+    subscriptions.join(rt)
+}
+
+/// The closing tokens of a kernel's publishers.
+#[derive(Drop)]
+struct Closes<W> {
+    /// Of shell's.
+    shell: Closed<Event<W>>,
+    /// Of control's.
+    control: Closed<Event<W>>,
+    /// Of that of subscriptions.
+    subscriptions: Closed<Event<W>>,
+}
+
+/// Settles with the publishers of a kernel, which all have closed, and gives what is left of its relay.
+///
+/// # Errors
+///
+/// `OutOfMemory` if memory is refused for what is left.
+fn settle<W: Outlet + Drop, R: Wait + Drop>(
+    rt: &R,
+    mut relay: Relay<W, R>,
+    closes: Closes<W>,
+    mut tokens: Vec<Closed<Event<W>>>,
+    restart: bool,
+) -> Result<KernelEnd<W>, KernelFault>
+    requires one { AreOfOne closes.shell closes.control closes.subscriptions relay.taker }
+    requires closed { EndsWithClose closes.shell.published × EndsWithClose closes.control.published
+        × EndsWithClose closes.subscriptions.published }
+    requires tokens { tokens.items ≡ [] }
+    requires room { 3 ≤ vec_capacity tokens }
+    ensures took { IfOk result
+        (TookAll W.outflow closes.shell.published closes.control.published closes.subscriptions.published) }
+    ensures restart { IfOk result (λ ended. ended.restart ≡ restart) }
+    ensures refused { IfErr result IsFaultAtEnd }
+{
+    let Closes {
+        shell,
+        control,
+        subscriptions,
+    } = closes;
+    tokens.push_reserved(shell);
+    tokens.push_reserved(control);
+    tokens.push_reserved(subscriptions);
+    let complete = relay.conclude(rt, tokens);
+    left_of(relay, complete, restart)
+}
+
+/// What is left of a relay.
+///
+/// # Errors
+///
+/// `OutOfMemory` if memory is refused for that.
+fn left_of<W: Outlet + Drop, R: Drop>(
+    relay: Relay<W, R>,
+    complete: bool,
+    restart: bool,
+) -> Result<KernelEnd<W>, KernelFault>
+    ensures left { IfOk result (TellsOf W.outflow relay complete restart) }
+    ensures refused { IfErr result IsFaultAtEnd }
+{
+    let no_room = relay.no_room();
+    match relay.finish() {
+        Ok(subscribers) => Ok(KernelEnd {
+            complete,
+            restart,
+            subscribers,
+            no_room,
+        }),
+        Err(relay) => {
+            drop(relay);
+            Err(KernelFault::Queue(OpenFault::OutOfMemory))
+        }
+    }
+}
+
+/// Whether a kernel is to begin anew: control's word counts before shell's.
+fn restarts(control: Option<bool>, shell: Option<bool>) -> bool
+    ensures { result ≡ restart_by control shell }
+{
+    match control {
+        Some(restart) => restart,
+        None => match shell {
+            Some(restart) => restart,
+            None => false,
+        },
+    }
+}
+
+/// Ends a kernel whose workers of shell and control ended for these causes: in order if control was asked for a
+/// shutdown.
+///
+/// # Errors
+///
+/// `OutOfMemory` if memory is refused for what is left; `NoThread` as `shut_down`.
+pub(crate) fn end_by<I, S, W, R>(
+    rt: R,
+    alloc: Global,
+    left: Left<I, S, W, R>,
+    serving: Serving<W, R>,
+    of_control: Cause,
+    of_shell: Cause,
+) -> Result<KernelEnd<W>, KernelFault>
+where
+    I: Interpreter + Drop,
+    I::Cell: Drop,
+    S: Stamp + Drop,
+    W: Outlet + Drop + Send + 'static,
+    R: Threads + Wait + Copy + Send + Sync + Drop + 'static,
+    requires one { AreOfOne left.shell.publishing.sink left.control.publishing.sink
+        left.subscriptions.promise.sink.value serving.relay.promise.relay.value.taker }
+    requires none { left.tokens.items ≡ [] }
+    requires room { 3 ≤ vec_capacity left.tokens }
+    ensures ends { IfOk result (EndsBy I.meaning S.stamp W.outflow left.shell left.control) }
+    ensures cause { IfOk result (EndsFor R I.meaning S.stamp W.outflow left.shell left.control
+        left.subscriptions.promise.sink.value (restart_of of_shell) of_control) }
+    ensures refused { IfErr result IsFaultAtEnd }
+{
+    match of_control {
+        Cause::Asked(asking) => shut_down(rt, alloc, left, serving.end(&rt), asking, of_shell),
+        of_control => {
+            drop(of_control);
+            close_all(&rt, left, serving, of_shell)
+        }
+    }
+}
+
+/// Ends a kernel whose control was asked for a shutdown: in order, and sends the reply behind all that was published.
+///
+/// # Errors
+///
+/// `OutOfMemory` if memory is refused for what is left; `NoThread` if no thread can be made for the relay, or no memory
+/// is left for what the two share. Then shell and control are dropped as they are, and subscriptions is ended.
+fn shut_down<I, S, W, R>(
+    rt: R,
+    alloc: Global,
+    left: Left<I, S, W, R>,
+    relay: Relay<W, R>,
+    asking: Asking,
+    of_shell: Cause,
+) -> Result<KernelEnd<W>, KernelFault>
+where
+    I: Interpreter + Drop,
+    I::Cell: Drop,
+    S: Stamp + Drop,
+    W: Outlet + Drop + Send + 'static,
+    R: Threads + Wait + Copy + Send + Sync + Drop + 'static,
+    requires one { AreOfOne left.shell.publishing.sink left.control.publishing.sink
+        left.subscriptions.promise.sink.value relay.taker }
+    requires none { left.tokens.items ≡ [] }
+    requires room { 3 ≤ vec_capacity left.tokens }
+    ensures ends { IfOk result (ShutsDown R I.meaning S.stamp W.outflow left.shell left.control asking.request relay
+        left.subscriptions.promise.sink.value (restart_of of_shell)) }
+    ensures refused { IfErr result IsFaultAtEnd }
+{
+    let Asking { request, to } = asking;
+    match end_in_order(rt, alloc, left, relay, request) {
+        Some(end) => conclude(&rt, end, to, of_shell),
+        None => {
+            drop(to);
+            drop(of_shell);
+            Err(KernelFault::NoThread)
+        }
+    }
+}
+
+/// Sends the reply to the request for a shutdown, if it has one, and gives what is left of the relay.
+///
+/// # Errors
+///
+/// `OutOfMemory` if memory is refused for that.
+fn conclude<W: Outlet + Drop, R: Wait + Drop>(
+    rt: &R,
+    end: ShutdownEnd<W, R>,
+    to: ReplyTo,
+    of_shell: Cause,
+) -> Result<KernelEnd<W>, KernelFault>
+    ensures left { IfOk result (TellsOf W.outflow end.relay end.complete
+        (restart_by (word_of end.fault end.restart) (restart_of of_shell))) }
+    ensures refused { IfErr result IsFaultAtEnd }
+{
+    let ShutdownEnd {
+        relay,
+        reply,
+        restart,
+        complete,
+        fault,
+    } = end;
+    to.send(rt, reply);
+    let restart = restarts(word_of(fault, restart), of_shell.restart());
+    drop(of_shell);
+    left_of(relay, complete, restart)
+}
+
+/// What a request for a shutdown says of the kernel's new begin: nothing if it was refused.
+fn word_of(fault: Option<EngineFault>, restart: bool) -> Option<bool>
+    ensures { result ≡ word_of fault restart }
+{
+    match fault {
+        Some(fault) => {
+            drop(fault);
+            None
+        }
+        None => Some(restart),
+    }
+}
+
+/// Shuts a kernel down in order. None if that can't be begun: then shell and control are dropped as they are, and
+/// subscriptions is ended.
+fn end_in_order<I, S, W, R>(
+    rt: R,
+    alloc: Global,
+    left: Left<I, S, W, R>,
+    relay: Relay<W, R>,
+    request: Envelope,
+) -> Option<ShutdownEnd<W, R>>
+where
+    I: Interpreter + Drop,
+    I::Cell: Drop,
+    S: Stamp + Drop,
+    W: Outlet + Drop + Send + 'static,
+    R: Threads + Wait + Copy + Send + Sync + Drop + 'static,
+    requires one { AreOfOne left.shell.publishing.sink left.control.publishing.sink
+        left.subscriptions.promise.sink.value relay.taker }
+    requires none { left.tokens.items ≡ [] }
+    requires room { 3 ≤ vec_capacity left.tokens }
+    ensures { IfSome result (EndsInOrder I.meaning S.stamp left.shell left.control request relay
+        (IsLast left.subscriptions.promise.sink.value)) }
+{
+    let Left {
+        shell,
+        control,
+        subscriptions,
+        to_subscriptions,
+        tokens,
+    } = left;
+    let to = &to_subscriptions;
+    let rest = move || -> Vec<Closed<Event<W>>>
+        requires none { tokens.items ≡ [] }
+        requires room { 3 ≤ vec_capacity tokens }
+    { last_token(&rt, subscriptions, to, tokens) };
+    let shutdown = Shutdown {
+        shell,
+        control,
+        request,
+        rest,
+        relay,
+    };
+    match shutdown_order(rt, alloc, shutdown) {
+        Ok(end) => Some(end),
+        Err(unbegun) => {
+            give_up(&rt, unbegun, to);
+            None
+        }
+    }
+}
+
+/// The token of subscriptions, which ends, in a list that has room for two more.
+fn last_token<W: Drop, R: Threads + Wait>(
+    rt: &R,
+    subscriptions: PromisedHandle<Closed<Event<W>>, ClosesSilent<W, R>>,
+    to_subscriptions: &Sender<Note<Event<W>>>,
+    mut tokens: Vec<Closed<Event<W>>>,
+) -> Vec<Closed<Event<W>>>
+    requires none { tokens.items ≡ [] }
+    requires room { 3 ≤ vec_capacity tokens }
+    ensures { IsLast subscriptions.promise.sink.value result }
+{
+    tokens.push_reserved(end_subscriptions(rt, subscriptions, to_subscriptions));
+    tokens
+}
+
+/// Ends subscriptions, whose token `rest` gives, while the relay serves what it publishes. All else is dropped as it is.
+fn give_up<I, S, W, R, F>(
+    rt: &R,
+    unbegun: Shutdown<I, S, W, R, F>,
+    to_subscriptions: &Sender<Note<Event<W>>>,
+)
+where
+    I: Interpreter + Drop,
+    I::Cell: Drop,
+    S: Stamp + Drop,
+    W: Outlet + Drop,
+    R: Wait + Drop,
+    F: FnOnce() -> Vec<Closed<Event<W>>>,
+    requires runs { F.pre unbegun.rest }
+{
+    let Shutdown {
+        shell,
+        control,
+        request,
+        rest,
+        mut relay,
+    } = unbegun;
+    drop(shell);
+    drop(control);
+    drop(request);
+    pump_until_closed(rt, &mut relay, to_subscriptions);
+    drop(rest());
+    drop(relay);
+}
+
+/// Takes what is published and serves it, until subscriptions, which is told to end, has closed.
+fn pump_until_closed<W: Outlet + Drop, R: Wait>(
+    rt: &R,
+    relay: &mut Relay<W, R>,
+    to_subscriptions: &Sender<Note<Event<W>>>,
+) {
+    for _ in rt.forever() {
+        match relay.pump() {
+            Pumped::Complete => return,
+            Pumped::Empty => {
+                // It drops its inbox behind its close.
+                if is_gone(rt, to_subscriptions) {
+                    return;
+                }
+                thread::yield_now();
+            }
+            Pumped::Did | Pumped::Closed(_) | Pumped::NoTopic(_) | Pumped::NoRoom(_) => {}
+        }
+    }
+    unreachable!()
+}
