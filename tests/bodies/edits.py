@@ -25,6 +25,8 @@ class WrongBody:
         # What came of it, once it was tried, and its key.
         self.outcome = self.key = None
         self.pairs, self.bad = [], None
+        # The crate and the name of the test that has to fail with it, where no contract can refuse it.
+        self.test = None
         self.functions = set()
         file = old = None
         with open(path, encoding="utf-8") as lines:
@@ -33,6 +35,8 @@ class WrongBody:
                 text = text.removeprefix(" ")
                 if found and word == "file":
                     file = text.strip()
+                elif found and word == "test":
+                    self.test = tuple(text.split())
                 elif found and word == "old":
                     old = text
                 elif found and word == "new" and file and old:

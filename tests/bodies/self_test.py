@@ -10,7 +10,25 @@ import tempfile
 from concurrent.futures import ThreadPoolExecutor
 
 FILES = {
-    "crates.txt": "base_sample:\nsample: base_sample\n",
+    "HANDLES": "Handles allowed: Threads, Wait, Net.\n",
+    "crates.txt": "base_sample:\nsample: base_sample\nsample_tests: sample\n",
+    "crates/sample_tests/src/lib.rt": """//! Tests of the sample.
+#![tactic(auto)]
+
+#[cfg(test)]
+mod tests;
+""",
+    "crates/sample_tests/src/tests.rt": """//! What the sample comes to.
+
+use sample::twice;
+use std::test::Fail;
+
+#[test]
+fn twice_three_is_six(rt: HostRuntime) -> Result<(), Fail> {
+    assert_eq!(rt; twice(3), 6);
+    Ok(())
+}
+""",
     "crates/base_sample/specs/Lib.antt": "pub mod Bound\n",
     "crates/base_sample/specs/Bound.antt": """use Rattle.std.specs.Prelude.{ℕ}
 
@@ -166,6 +184,22 @@ KINDS = {
         ("sample", "file: src/lib.rt", "old: m + m + m", "new: (m + m) + m"), "sample/harmless_with_a_proof_file: FAILED: not refused: ",
     ),
     "harmless": (("sample", "file: src/lib.rt", "old: cap(n) + 1", "new: 1 + cap(n)"), "sample/harmless: FAILED: not refused: "),
+    "seen_by_a_test": (
+        ("sample", "test: sample_tests tests::twice_three_is_six", "file: src/lib.rt", "old: k + k", "new: k + k + 1"),
+        "sample/seen_by_a_test: refused by its test: sample_tests tests::twice_three_is_six",
+    ),
+    "unseen_by_a_test": (
+        ("sample", "test: sample_tests tests::twice_three_is_six", "file: src/lib.rt", "old:     5 * n", "new:     4 * n"),
+        "sample/unseen_by_a_test: FAILED: not refused: sample_tests tests::twice_three_is_six passes with it",
+    ),
+    "no_code_for_a_test": (
+        ("sample", "test: sample_tests tests::twice_three_is_six", "file: src/lib.rt", "old: k + k", "new: k + thrive"),
+        "sample/no_code_for_a_test: FAILED: bad edit: its test was not run: ",
+    ),
+    "by_no_test": (
+        ("sample", "test: sample_tests tests::twice_four", "file: src/lib.rt", "old: k + k", "new: k"),
+        "sample/by_no_test: FAILED: bad edit: its line 'test:' names no crate with a test of this name",
+    ),
     "no_code": (("sample", "file: src/lib.rt", "old: 2 * twice(n)", "new: 2 * thrive(n)"), "sample/no_code: FAILED: bad edit: it did not reach the prover"),
     "nowhere": (("base_sample", "file: src/lib.rt", "old: nothing.of.this()", "new: 0"), "base_sample/nowhere: FAILED: bad edit: an old text stands 0 times"),
     "definition": (
@@ -255,9 +289,9 @@ def self_test(script, jobs):
         for name, (_, start) in KINDS.items():
             expect(f"of {name} it should say '{start}'", any(it.startswith(start) for it in lines), lines)
         lines = said_of(script, top, "--edits")
-        for name in ("nowhere", "definition"):
+        for name in ("nowhere", "definition", "by_no_test"):
             expect(f"of {name} it should say so at once, too", any(it.startswith(KINDS[name][1]) for it in lines), lines)
-        expect("all others can be applied", f"{len(KINDS) - 2} passed, 2 failed" in lines, lines)
+        expect("all others can be applied", f"{len(KINDS) - 3} passed, 3 failed" in lines, lines)
         put_edits(top, KEPT)
         lines = said_of(script, top, "--edits")
         expect("each can be applied", f"{len(KEPT)} passed, 0 failed" in lines, lines)

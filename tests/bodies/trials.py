@@ -27,12 +27,17 @@ class Outcome(Enum):
     """What came of a wrong body."""
 
     OWN = "refused at its own function"
+    TEST = "refused by its test"
     ELSEWHERE = "refused, but not at its own function"
     NAMES = "refused only because a proof names what it took away"
     PROVED = "not refused"
     BAD = "bad edit"
     UNTRIED = "not tried"
     LEFT = "left, since the time was up"
+
+
+# How a wrong body has to be refused.
+REFUSED = (Outcome.OWN, Outcome.TEST)
 
 
 class Told:
@@ -44,7 +49,7 @@ class Told:
         self.lock = threading.Lock()
 
     def __call__(self, body, outcome, why):
-        is_well = outcome in (Outcome.OWN, Outcome.LEFT)
+        is_well = outcome in (*REFUSED, Outcome.LEFT)
         body.outcome = outcome
         with self.lock:
             self.failed += [] if is_well else [body.name]
@@ -66,7 +71,7 @@ class Told:
         if self.failed:
             print(f"FAILED: {' '.join(self.failed)}")
         # One of which nothing was told would be a fault of this script.
-        passed = self.known + self.outcomes.count(Outcome.OWN)
+        passed = self.known + sum(map(self.outcomes.count, REFUSED))
         failed = self.count - passed - len(self.left)
         print(f"{passed} passed, {failed} failed")
         return 1 if failed else 0

@@ -3,3 +3,4 @@ pub mod KnownReads
 pub mod WordsLemmas
 pub mod ReplayLemmas
 pub mod TextOnce
+mod OrderLemmas

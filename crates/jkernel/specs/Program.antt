@@ -90,6 +90,10 @@ RefusesWords words = MatchResult words (λ read. AreWrong (map string_bytes read
 abbrev pub OrdersServe : GivenWords → Type 0
 OrdersServe words = WordsSay words (λ read. (file : List ℕ) × IsOrder read (Serve file))
 
+-- the words order a replay
+abbrev pub OrdersReplay : GivenWords → Type 0
+OrdersReplay words = WordsSay words (λ read. (key : List ℕ) × IsOrder read (Replay key))
+
 -- status 6: the words order a replay, and its input spells no octets
 abbrev pub RefusesInput : GivenWords → Option (List ℕ) → Type 0
-RefusesInput words input = WordsSay words (λ read. (key : List ℕ) × IsOrder read (Replay key)) × IsNotHex input
+RefusesInput words input = OrdersReplay words × IsNotHex input

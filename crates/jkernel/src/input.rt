@@ -1,6 +1,6 @@
 //! Reading what a peer sends: all of an input, and the octets that its hexadecimal text spells.
 
-ghost use Rattle.std.specs.Prelude.{◌≡◌, ◌↔◌, ◌%◌, [], length, IsTrue, IfOk, IfSome, IsErrOf, OnOk};
+ghost use Rattle.std.specs.Prelude.{◌≡◌, ◌↔◌, ◌%◌, ◌++◌, [], length, IsTrue, IfOk, IfSome, IsErrOf, OnOk};
 ghost use Rattle.std.specs.List.{AllPass};
 ghost use Rattle.hex.specs.Hex.{is_hex_digit};
 ghost use Rattle.jkernel.specs.Lines.{hex_octets, is_white_space, without_white_space};
@@ -14,6 +14,9 @@ const READS: u32 = 1_000_000_000;
 /// How many octets one read asks for.
 const PIECE: usize = 65_536;
 
+/// The most octets of one input.
+const MOST_OCTETS: usize = 268_435_456;
+
 /// Why a text gave no octets.
 #[derive(Clone, Copy, Debug, PartialEq, Eq)]
 pub(crate) enum HexFault {
@@ -23,8 +26,8 @@ pub(crate) enum HexFault {
     OutOfMemory,
 }
 
-/// All that the reader has left. A read that is interrupted is made again. It fails where a read
-/// fails, and after a billion reads that don't find the end; what it had read is lost then.
+/// All that the reader has left. A read that is interrupted is made again. It fails if a read fails, or if the end
+/// isn't found in 256 MiB, or in a billion reads; what it had read is lost then.
 pub(crate) fn read_all<R: Read>(alloc: Global, reader: &mut R) -> io::Result<Vec<u8>>
     ensures all { IfOk result (λ octets. IfSome (R.remaining reader.old)
         (λ text. octets.items ≡ text)) }
@@ -36,7 +39,7 @@ pub(crate) fn read_all<R: Read>(alloc: Global, reader: &mut R) -> io::Result<Vec
     'reads: for _ in 0..READS {
         match reader.read(&mut piece) {
             Ok(0) => return Ok(octets),
-            Ok(count) => octets.extend_from_slice(&piece[..count])?,
+            Ok(count) => append(&mut octets, &piece[..count])?,
             Err(error) => {
                 if error.kind() != ErrorKind::Interrupted {
                     return Err(error);
@@ -45,6 +48,21 @@ pub(crate) fn read_all<R: Read>(alloc: Global, reader: &mut R) -> io::Result<Vec
         }
     }
     Err(io::Error::other("input has no end"))
+}
+
+/// Adds a piece to what was read.
+///
+/// # Errors
+///
+/// If memory is refused, or an input has more octets than may be.
+fn append(octets: &mut Vec<u8>, piece: &[u8]) -> io::Result<()>
+    ensures { OnOk result (octets.new.items ≡ octets.old.items ++ piece.now) }
+{
+    if octets.len() > MOST_OCTETS {
+        return Err(io::Error::other("input is too long"));
+    }
+    octets.extend_from_slice(piece)?;
+    Ok(())
 }
 
 /// Whether an octet is ASCII white space.

@@ -4,8 +4,8 @@ ghost use Rattle.std.specs.Prelude.{◌≡◌, ◌++◌, ◌⊎◌, Ok, IfOk, If
 ghost use Rattle.conn_file.specs.Connection.{connection_of};
 ghost use Rattle.std.specs.Io.KnownBytes.{Appends};
 ghost use Rattle.std.specs.declared.io.ErrorKind.TheVariants.{InvalidData};
-ghost use Rattle.jkernel.specs.Program.{DoesOrder, EndsServing, IsDone, IsReplay, IsServe, JudgesFile, OrdersServe};
-ghost use Rattle.jkernel.specs.Program.{RefusesInput, RefusesWords};
+ghost use Rattle.jkernel.specs.Program.{DoesOrder, EndsServing, IsDone, IsReplay, IsServe, JudgesFile, OrdersReplay};
+ghost use Rattle.jkernel.specs.Program.{OrdersServe, RefusesInput, RefusesWords};
 ghost use Rattle.jkernel.specs.Replay.{IsNotHex};
 
 use crate::lines::write_out;
@@ -63,6 +63,9 @@ where
     // 4: the words order that a file be served, and nothing was printed: a port can't be bound.
     ensures port { result ≡ 4 → OrdersServe words.now × (writer.new ≡ writer.old) }
 
+    // Words that order no replay leave the reader as it is.
+    ensures reader { OrdersReplay words.now ⊎ (reader.new ≡ reader.old) }
+
     // 6: the words order a replay, whose input is refused, and nothing was printed.
     ensures input { result ≡ 6 → RefusesInput words.now (R.remaining reader.old) × (writer.new ≡ writer.old) }
 
@@ -70,21 +73,56 @@ where
     ensures status { (result ≡ 0) ⊎ ((result ≡ 1) ⊎ ((result ≡ 2) ⊎ ((result ≡ 3) ⊎ ((result ≡ 4) ⊎ (result ≡ 6))))) }
 {
     match words {
-        Ok(words) => match read_words(alloc, words) {
-            Ok(order) => {
-                let code = obey(rt, alloc, order, until, reader, writer, faults);
-                with_line(faults, code)
-            }
-            Err(WordsFault::Refused(text)) => {
-                tell(faults, text.as_str());
-                Status::WordsRefused.code()
-            }
-            Err(WordsFault::OutOfMemory) => with_line(faults, Status::Failed.code()),
-        },
+        Ok(words) => run_words(rt, alloc, words, until, reader, writer, faults),
         Err(error) => {
             let status = refuse(error.kind(), faults);
             with_line(faults, status.code())
         }
+    }
+}
+
+/// Does what words order that are texts: the exit status.
+fn run_words<E, R: Read, W: Write, F: Write>(
+    rt: &E,
+    alloc: Global,
+    words: &Vec<String>,
+    until: Until,
+    reader: &mut R,
+    writer: &mut W,
+    faults: &mut F,
+) -> u8
+where
+    E: Files
+        + Alloc
+        + Net<Listener = TcpListener, Stream = TcpStream>
+        + Threads
+        + Wait
+        + Clock
+        + RandomSource
+        + Copy
+        + Send
+        + Sync
+        + Drop
+        + 'static,
+    ensures done { result ≡ 0 → DoesOrder (Ok words.now) (R.remaining reader.old) (R.remaining reader.new)
+        (W.contents writer.old) (W.contents writer.new) }
+    ensures words { result ≡ 2 → RefusesWords (Ok words.now) × (writer.new ≡ writer.old) }
+    ensures file { result ≡ 3 → OrdersServe (Ok words.now) × (writer.new ≡ writer.old) }
+    ensures port { result ≡ 4 → OrdersServe (Ok words.now) × (writer.new ≡ writer.old) }
+    ensures reader { OrdersReplay (Ok words.now) ⊎ (reader.new ≡ reader.old) }
+    ensures input { result ≡ 6 → RefusesInput (Ok words.now) (R.remaining reader.old) × (writer.new ≡ writer.old) }
+    ensures status { (result ≡ 0) ⊎ ((result ≡ 1) ⊎ ((result ≡ 2) ⊎ ((result ≡ 3) ⊎ ((result ≡ 4) ⊎ (result ≡ 6))))) }
+{
+    match read_words(alloc, words) {
+        Ok(order) => {
+            let code = obey(rt, alloc, order, until, reader, writer, faults);
+            with_line(faults, code)
+        }
+        Err(WordsFault::Refused(text)) => {
+            tell(faults, text.as_str());
+            Status::WordsRefused.code()
+        }
+        Err(WordsFault::OutOfMemory) => with_line(faults, Status::Failed.code()),
     }
 }
 
@@ -139,6 +177,7 @@ where
     ensures file { result ≡ 3 → IsServe order × (writer.new ≡ writer.old) }
     ensures port { result ≡ 4 → IsServe order × (writer.new ≡ writer.old) }
     ensures input { result ≡ 6 → IsReplay order × IsNotHex (R.remaining reader.old) × (writer.new ≡ writer.old) }
+    ensures reader { IsReplay order ⊎ (reader.new ≡ reader.old) }
     ensures status { (result ≡ 0) ⊎ ((result ≡ 1) ⊎ ((result ≡ 3) ⊎ ((result ≡ 4) ⊎ (result ≡ 6)))) }
 {
     match order {

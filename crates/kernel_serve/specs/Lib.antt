@@ -1,3 +1,4 @@
 pub mod Backlog
 pub mod Dates
 pub mod Serving
+pub mod Stamps

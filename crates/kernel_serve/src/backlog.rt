@@ -1,7 +1,7 @@
 //! What a subscriber has yet to be written. The relay puts it there, and a thread of the subscriber's own writes it, so
 //! that nobody waits for one that reads slowly, unless its share is full.
 
-ghost use Rattle.std.specs.Prelude.{◌<◌, ◌≤◌, length, IfSome};
+ghost use Rattle.std.specs.Prelude.{ℕ, ◌<◌, ◌≤◌, length, IfSome};
 ghost use Rattle.std.specs.Io.{WritesAtMost};
 ghost use Rattle.kernel_serve.specs.Backlog.{IsTried};
 
@@ -42,29 +42,40 @@ impl State {
         }
         let share = share_of(self.kept.len(), terms.beyond);
         if self.kept.len() < share {
-            return self.keep(alloc, piece, share, terms.now);
+            return self.keep(alloc, piece, share, terms);
         }
+        self.wait_or_fail(alloc, terms)
+    }
+
+    /// Keeps the first octets of a piece, for which there is room. If memory is refused while something is kept, the
+    /// subscriber is waited for in the same way: what it takes gives memory back.
+    fn keep(&mut self, alloc: Global, piece: &[u8], share: usize, terms: Terms) -> Tried
+        ensures { IsTried (length piece.now) result }
+    {
+        if self.kept.is_empty() {
+            self.pace = Pace::begin(terms.now);
+        }
+        match self.kept.put(piece, share) {
+            Ok(count) => Tried::Kept(count),
+            Err(AllocError) => {
+                if !self.kept.is_empty() {
+                    return self.wait_or_fail(alloc, terms);
+                }
+                self.fail(alloc);
+                Tried::Failed
+            }
+        }
+    }
+
+    /// Waits for the subscriber if it keeps the least pace, and else gives it up.
+    fn wait_or_fail(&mut self, alloc: Global, terms: Terms) -> Tried
+        ensures { (count : ℕ) → IsTried count result }
+    {
         if terms.waits && !self.pace.is_slow(terms.grace, terms.now) {
             return Tried::Waits;
         }
         self.fail(alloc);
         Tried::Failed
-    }
-
-    /// Keeps the first octets of a piece, for which there is room.
-    fn keep(&mut self, alloc: Global, piece: &[u8], share: usize, now: u64) -> Tried
-        ensures { IsTried (length piece.now) result }
-    {
-        if self.kept.is_empty() {
-            self.pace = Pace::begin(now);
-        }
-        match self.kept.put(piece, share) {
-            Ok(count) => Tried::Kept(count),
-            Err(AllocError) => {
-                self.fail(alloc);
-                Tried::Failed
-            }
-        }
     }
 
     /// Drops what is kept. Nothing is kept any more.

@@ -13,7 +13,7 @@ use crossbeam_utils::sync::{Parker, Unparker};
 use jmsg_envelope::{Signer, check_signature};
 use kernel_limits::limits::{IDENTITY_OCTETS, READS};
 use kernel_limits::{Claim, may_read};
-use kernel_workers::{Credit, Job, Note, ReplyMessage, ReplyTo};
+use kernel_workers::{Credit, Job, Note, ReplyMessage};
 use listed::Frames;
 use std::alloc::{AllocError, Global};
 use std::sync::{Arc, Wait};
@@ -242,13 +242,7 @@ impl<R: Wait + Clock> Requests<R> {
             drop(replies);
             return Err(AllocError);
         };
-        let job = Job {
-            frames,
-            to: ReplyTo {
-                replies,
-                credit: Some(credit),
-            },
-        };
+        let job = Job::new(frames, replies, Some(credit));
         match self.channel.inbox.send(&self.rt, Note::Item(job)) {
             Ok(()) => Ok(true),
             Err(SendError::Disconnected(note)) => {

@@ -1,6 +1,7 @@
 //! Serving a connection file: the ports, the kernel behind them, and their end.
 
-ghost use Rattle.std.specs.Prelude.{◌≡◌, IfOk, IfSome, true};
+ghost use Rattle.std.specs.Prelude.{◌≡◌, ◌∷◌, ◌++◌, IfOk, IfSome, true, string_bytes};
+ghost use Rattle.kernel_serve.specs.Stamps.{AreApart};
 
 use crate::connection::Channel;
 use crate::ending::{Acceptor, end_all, start};
@@ -13,7 +14,7 @@ use crate::service::Service;
 use crate::stamp::KernelStamp;
 use crate::subscriber::Writer;
 use conn_file::Connection;
-use crossbeam_channel::{Sender, unbounded};
+use crossbeam_channel::Sender;
 use interp_core::Interpreter;
 use iopub_event::Event;
 use jmsg_envelope::Signer;
@@ -261,8 +262,12 @@ where
         restart: _,
         subscribers,
         no_room: _,
+        relay,
+        work,
     } = run_kernel(rt, alloc, parts)?;
     drop(subscribers);
+    drop(relay);
+    drop(work);
     Ok(Served { complete, key })
 }
 
@@ -406,12 +411,12 @@ where
 fn inboxes<R: Wait + Clock + Drop>(
     alloc: Global,
 ) -> Result<(Inbox<Job>, Inbox<Job>, Inbox<Event<Writer<R>>>), AllocError> {
-    let shell_in = inbox(alloc)?;
-    let Ok(control_in) = inbox(alloc) else {
+    let shell_in = Inbox::new(alloc)?;
+    let Ok(control_in) = Inbox::new(alloc) else {
         drop(shell_in);
         return Err(AllocError);
     };
-    match inbox(alloc) {
+    match Inbox::new(alloc) {
         Ok(subscriptions_in) => Ok((shell_in, control_in, subscriptions_in)),
         Err(AllocError) => {
             drop(shell_in);
@@ -438,7 +443,7 @@ where
     Ok(stamps_of(rt, alloc, session.encode_lower(&mut buffer))?)
 }
 
-/// The stamps of shell and control.
+/// The stamps of shell and control, no id of which is one of the other's.
 fn stamps_of<R>(
     rt: R,
     alloc: Global,
@@ -446,6 +451,7 @@ fn stamps_of<R>(
 ) -> Result<(KernelStamp<R>, KernelStamp<R>), AllocError>
 where
     R: Copy + Drop,
+    ensures { IfOk result (λ stamps. AreApart (string_bytes stamps.0.label) (string_bytes stamps.1.label)) }
 {
     let shell = stamp_of(rt, alloc, session, "s")?;
     match stamp_of(rt, alloc, session, "c") {
@@ -466,6 +472,7 @@ fn stamp_of<R>(
 ) -> Result<KernelStamp<R>, AllocError>
 where
     R: Drop,
+    ensures { IfOk result (λ stamp. string_bytes stamp.label ≡ session.now ++ 95 ∷ letter.now) }
 {
     let label = format!(in alloc; "{session}_{letter}")?;
     match String::from_str(alloc, session) {
@@ -475,12 +482,6 @@ where
             Err(AllocError)
         }
     }
-}
-
-/// An inbox with nothing in it.
-fn inbox<T: Drop>(alloc: Global) -> Result<Inbox<T>, AllocError> {
-    let (to, from) = unbounded(alloc)?;
-    Ok(Inbox { to, from })
 }
 
 /// What the ports of a kernel are served with.

@@ -8,6 +8,8 @@ use Rattle.jmsg_envelope.specs.declared.envelope.Envelope.{Envelope}
 use Rattle.kernel_engine.specs.declared.asked.Asked.{Asked}
 use Rattle.kernel_engine.specs.declared.asked.Done.{Done}
 use Rattle.kernel_engine.specs.declared.asked.Done.TheVariants.{Ignored, Lost, Handled, Refused}
+use Rattle.kernel_engine.specs.declared.asked.Unread.{Unread}
+use Rattle.kernel_engine.specs.declared.asked.Unread.TheVariants.{NoRequest, NoMemory}
 use Rattle.kernel_engine.specs.declared.does.Does.{Does}
 use Rattle.kernel_engine.specs.declared.fault.EngineFault.{EngineFault}
 use Rattle.kernel_engine.specs.declared.fault.EngineFault.TheVariants.{OwedIdle, Memory, Worn}
@@ -15,11 +17,20 @@ use Rattle.kernel_engine.specs.declared.parts.Parts.{Parts}
 use Rattle.kernel_engine.specs.Handles.{Adds, HandlesErr}
 use Rattle.kernel_engine.specs.WellBlocked.{Block}
 use Rattle.kernel_engine.specs.Orders.{ends, order_of}
-use Rattle.kernel_engine.specs.Takes.{Asks, Finishes, Takes}
+use Rattle.kernel_engine.specs.Takes.{Asks, Finishes, Misses, Takes}
 use Rattle.kernel_engine.specs.World.{World, world_of}
 use Rattle.iopub_queue.specs.Sink.{publisher_sink}
-use Rattle.kernel_workers.specs.Jobs.{EndsNothing}
+use Rattle.kernel_workers.specs.declared.outcomes.Outcome.{Outcome}
+use Rattle.kernel_workers.specs.declared.outcomes.Outcomes.{Outcomes}
+use Rattle.kernel_workers.specs.Jobs.{EndsNothing, unread_done}
+use Rattle.kernel_workers.specs.Outcomes.{Records}
 use Rattle.kernel_workers.specs.Staying.{IsSameEngine}
+
+-- what was recorded of where a reply goes was recorded of the message that it belongs to
+pub recorded : (to message : List (List ℕ)) (outcome : Outcome) (old new : Outcomes) → to ≡ message
+    → Records to outcome old new → Records message outcome old new
+recorded to message outcome old new own records =
+    subst (λ (frames : List (List ℕ)). Records frames outcome old new) own records
 
 module _ {I S W Cell : Type 0} (m : Meaning I Cell) (stamps : Stamping S) (may : Type 0) where
   abbrev world : World I (Publisher (Event W)) S W Cell
@@ -79,4 +90,12 @@ module _ {I S W Cell : Type 0} (m : Meaning I Cell) (stamps : Stamping S) (may :
     asks.opened,
     subst (λ (does : Does). is_some (ends (order_of does)) ≡ false) read none,
   )
-  ends_nothing frames asked old new (Refused fault) asks none why = (asked, asks, none)
+  ends_nothing frames asked old new (Refused fault) asks none why = tt
+
+  -- a message that isn't read was taken, and doesn't ask for the kernel's end
+  pub unread_taken : (frames : List (List ℕ)) (unread : Unread) (done : Done)
+      (engine : Parts I (Publisher (Event W)) S W) → Misses engine.publishing.signer frames unread
+      → done ≡ unread_done unread
+      → Takes world may frames engine done engine × EndsNothing engine.publishing.signer engine.side frames done
+  unread_taken frames NoRequest done engine misses is = rw (is) ((misses, refl), tt)
+  unread_taken frames NoMemory done engine misses is = rw (is) (refl, tt)

@@ -3,3 +3,5 @@ mod EndingLemmas
 pub mod RunningLemmas
 pub mod JobLemmas
 mod ShutdownLemmas
+mod StartingLemmas
+mod WorksLemmas

@@ -1,5 +1,5 @@
--- What a worker of shell or control does with one job.
-use Rattle.std.specs.Prelude.{◌≡◌, ◌⊎◌, ⊤, ℕ, List, Option, None, Some, is_some, false, true}
+-- What a worker of shell or control does with its jobs.
+use Rattle.std.specs.Prelude.{◌≡◌, ◌⊎◌, ⊤, ℕ, List, [], ◌∷◌, ◌++◌, Option, None, Some, is_some, false, true}
 use Rattle.iopub_event.specs.declared.event.Event.{Event}
 use Rattle.iopub_queue.specs.Values.{Publishing as Publisher}
 use Rattle.jmsg_envelope.specs.Envelope.{Opened}
@@ -7,8 +7,10 @@ use Rattle.jmsg_envelope.specs.declared.envelope.Envelope.{Envelope}
 use Rattle.kernel_engine.specs.declared.asked.Asked.{Asked}
 use Rattle.kernel_engine.specs.declared.asked.Done.{Done}
 use Rattle.kernel_engine.specs.declared.asked.Done.TheVariants.{Ignored, Lost, Handled, Refused}
-use Rattle.kernel_engine.specs.declared.parts.Parts.{Parts}
+use Rattle.kernel_engine.specs.declared.asked.Unread.{Unread}
+use Rattle.kernel_engine.specs.declared.asked.Unread.TheVariants.{NoRequest, NoMemory}
 use Rattle.kernel_engine.specs.declared.side.Side.{Side}
+use Rattle.kernel_engine.specs.declared.side.Side.TheVariants.{Shell, Control}
 use Rattle.kernel_engine.specs.Comes.{message_comes}
 use Rattle.kernel_engine.specs.Orders.{ends, order_of}
 use Rattle.kernel_engine.specs.Takes.{Asks, Takes}
@@ -16,53 +18,128 @@ use Rattle.kernel_engine.specs.World.{World}
 use Rattle.kernel_workers.specs.declared.ended.Asking.{Asking}
 use Rattle.kernel_workers.specs.declared.ended.Cause.{Cause}
 use Rattle.kernel_workers.specs.declared.ended.Cause.TheVariants as causes
+use Rattle.kernel_workers.specs.declared.job.Job.{Job}
+use Rattle.kernel_workers.specs.declared.work.Work.{Work}
 use Rattle.kernel_workers.specs.Causes.{cause_of}
+use Rattle.kernel_workers.specs.declared.outcomes.Answer.{Answer}
+use Rattle.kernel_workers.specs.declared.outcomes.Outcome.TheVariants.{Ending}
+use Rattle.kernel_workers.specs.Outcomes.{Records, outcome_of}
 
--- The frames of a job were taken, and what came of them says whether the worker ends. It has the arguments of what an
--- engine takes, and the cause in place of what came of the message.
-abbrev pub TakesJob : {I S W Cell : Type 0} → World I (Publisher (Event W)) S W Cell → Type 0 → List (List ℕ)
-    → Parts I (Publisher (Event W)) S W → Option Cause → Parts I (Publisher (Event W)) S W → Type 0
-TakesJob world may frames old cause new =
-    (done : Done) × Takes world may frames old done new × (cause ≡ cause_of done)
+-- the messages of the jobs that came out of an inbox
+abbrev pub messages_of : List (Option Job) → List (List (List ℕ))
+messages_of [] = []
+messages_of (Some job ∷ more) = job.frames ∷ messages_of more
+messages_of (None ∷ more) = messages_of more
 
--- The frames of a job are a request for a shutdown, which is left for later: nothing changes, and the worker ends.
-pub record HoldsJob {I S W : Type 0} (frames : List (List ℕ)) (old : Parts I (Publisher (Event W)) S W)
-    (cause : Option Cause) (new : Parts I (Publisher (Event W)) S W) : Type 0 where
-  pub asked : Asked
-  pub asks : Asks old.publishing.signer old.side frames asked
-  pub ending : is_some (ends (order_of asked.does)) ≡ true
-  pub asking : Asking
-  pub request : asking.request ≡ asked.request
-  pub cause_is : cause ≡ Some (causes.Asked asking)
-  pub same : new ≡ old
+-- the messages that were answered
+abbrev pub answered_in : List Answer → List (List (List ℕ))
+answered_in [] = []
+answered_in (answer ∷ more) = answer.to ∷ answered_in more
 
--- What may become of a job: whether it may be left undone, whether a request for a shutdown is left for later, and
--- whether a cell may be interrupted.
+-- The jobs that came out of an inbox since it was this have one answer each, in their order, and there is no other.
+abbrev pub AreAnswered : List (Option Job) → List (Option Job) → List Answer → Type 0
+AreAnswered before inbox answers = messages_of inbox ≡ messages_of before ++ answered_in answers
+
+-- what comes of a message that isn't read
+abbrev pub unread_done : Unread → Done
+unread_done NoRequest = Ignored
+unread_done NoMemory = Lost
+
+-- What may become of a job: whether it may be left undone with all that come after it, whether a request for a shutdown
+-- is left for later, and whether a cell may be interrupted.
 pub record Doing : Type 1 where
   pub may_leave : Type 0
   pub may_hold : Type 0
   pub may_ask : Type 0
 
--- what came of frames that don't ask for the kernel's end: one that was handled, or refused, is of such a request
+-- What may become of a job of a channel. On shell jobs may be left undone, since the kernel is to end, and a cell
+-- interrupted; on control a request for a shutdown is left for later.
+abbrev pub doing_of : Side → Doing
+doing_of Shell = record { may_leave = Unit; may_hold = ⊥; may_ask = Unit }
+doing_of Control = record { may_leave = ⊥; may_hold = Unit; may_ask = ⊥ }
+
+-- What came of frames on control, if a request for a shutdown is left for later: one that was handled is of a request
+-- that asks for no end. One that was refused may have been a shutdown that no memory was left to read.
 abbrev pub EndsNothing : List ℕ → Side → List (List ℕ) → Done → Type 0
 EndsNothing key side frames Ignored = ⊤
 EndsNothing key side frames Lost = ⊤
 EndsNothing key side frames (Handled handled) = (request : Envelope) × Opened key frames request
     × (is_some (ends (order_of (message_comes side request))) ≡ false)
-EndsNothing key side frames (Refused fault) =
-    (asked : Asked) × Asks key side frames asked × (is_some (ends (order_of asked.does)) ≡ false)
+EndsNothing key side frames (Refused fault) = ⊤
 
--- The frames of a job were taken. If a request for a shutdown is left for later, they were none. It has the arguments
--- of what a worker takes, and whether that is so.
-abbrev pub TakesJobIf : {I S W Cell : Type 0} → World I (Publisher (Event W)) S W Cell → Type 0 → Type 0
-    → List (List ℕ) → Parts I (Publisher (Event W)) S W → Option Cause → Parts I (Publisher (Event W)) S W → Type 0
-TakesJobIf world may_hold may_ask frames old cause new = (done : Done) × Takes world may_ask frames old done new
-    × (cause ≡ cause_of done) × (may_hold → EndsNothing old.publishing.signer old.side frames done)
+module _ {I S W R Cell : Type 0} where
+  -- a worker took this out of its inbox
+  pub record TakesOut (old : Work I S W R Cell) (next : Option Job) (new : Work I S W R Cell) : Type 0 where
+    pub inbox : new.inbox ≡ old.inbox ++ next ∷ []
+    pub engine : new.engine ≡ old.engine
+    pub outcomes : new.outcomes ≡ old.outcomes
 
--- A job was done, or left undone if that may be, which changes nothing and ends nothing, or left for later if that may
--- be.
-abbrev pub DoesJob : {I S W Cell : Type 0} → World I (Publisher (Event W)) S W Cell → Doing → List (List ℕ)
-    → Parts I (Publisher (Event W)) S W → Option Cause → Parts I (Publisher (Event W)) S W → Type 0
-DoesJob world may frames old cause new =
-    (may.may_leave × (new ≡ old) × (cause ≡ None)) ⊎ (may.may_hold × HoldsJob frames old cause new)
-    ⊎ TakesJobIf world may.may_hold may.may_ask frames old cause new
+  -- the frames of a job were left undone, since the kernel is to end
+  pub record LeavesJob (frames : List (List ℕ)) (old new : Work I S W R Cell) : Type 0 where
+    pub engine : new.engine ≡ old.engine
+    pub inbox : new.inbox ≡ old.inbox
+    pub records : Records frames Ending old.outcomes new.outcomes
+
+  -- jobs came out of the inbox, and were left undone, one after the other
+  pub data LeavesJobs (first : Work I S W R Cell) : Work I S W R Cell → Type 0 where
+    nothing_left : LeavesJobs first first
+    one_left : (middle : Work I S W R Cell) (job : Job) (taken last : Work I S W R Cell) → LeavesJobs first middle
+        → TakesOut middle (Some job) taken → LeavesJob job.frames taken last → LeavesJobs first last
+
+  -- all jobs that came out of the inbox were left undone, until the worker was told to end
+  pub record LeavesRest (old new : Work I S W R Cell) : Type 0 where
+    pub last : Work I S W R Cell
+    pub leaves : LeavesJobs old last
+    pub told : TakesOut last None new
+    pub engine : new.engine ≡ old.engine
+
+  -- The frames of a job were left undone, since the kernel is to end, and so were all that came after it, until the
+  -- worker was told to end; then it ends.
+  pub record LeavesAll (frames : List (List ℕ)) (old : Work I S W R Cell) (cause : Option Cause)
+      (new : Work I S W R Cell) : Type 0 where
+    pub one : Work I S W R Cell
+    pub leaves : LeavesJob frames old one
+    pub rest : LeavesRest one new
+    pub cause_is : cause ≡ Some causes.Told
+
+  -- The frames of a job are a request for a shutdown, which is left for later, and its reply, too: nothing changes, and
+  -- the worker ends.
+  pub record HoldsJob (frames : List (List ℕ)) (old : Work I S W R Cell) (cause : Option Cause)
+      (new : Work I S W R Cell) : Type 0 where
+    pub asked : Asked
+    pub asks : Asks old.engine.publishing.signer old.engine.side frames asked
+    pub ending : is_some (ends (order_of asked.does)) ≡ true
+    pub asking : Asking
+    pub request : asking.request ≡ asked.request
+    pub to : asking.to ≡ frames
+    pub cause_is : cause ≡ Some (causes.Asked asking)
+    pub same : new ≡ old
+
+module _ {I S W R Cell : Type 0} (world : World I (Publisher (Event W)) S W Cell) (may : Doing) where
+  -- The frames of a job were taken, and what came of them was noted, and says whether the worker ends. If a request for
+  -- a shutdown is left for later, they were none.
+  pub record TakesJob (frames : List (List ℕ)) (old : Work I S W R Cell) (cause : Option Cause)
+      (new : Work I S W R Cell) : Type 0 where
+    pub done : Done
+    pub takes : Takes world may.may_ask frames old.engine done new.engine
+    pub inbox : new.inbox ≡ old.inbox
+    pub records : Records frames (outcome_of done) old.outcomes new.outcomes
+    pub cause_is : cause ≡ cause_of done
+    pub goes_on : may.may_hold → EndsNothing old.engine.publishing.signer old.engine.side frames done
+
+  -- A job was done; or if that may be, it and all after it were left undone; or if that may be, it was left for later.
+  abbrev pub DoesJob : List (List ℕ) → Work I S W R Cell → Option Cause → Work I S W R Cell → Type 0
+  DoesJob frames old cause new = (may.may_leave × LeavesAll frames old cause new)
+      ⊎ (may.may_hold × HoldsJob frames old cause new) ⊎ TakesJob frames old cause new
+
+  -- A worker took a job out of its inbox and did it; or it was told to end, and ends.
+  pub data TakesTurn (old : Work I S W R Cell) (cause : Option Cause) (new : Work I S W R Cell) : Type 0 where
+    does : (job : Job) (taken : Work I S W R Cell) → TakesOut old (Some job) taken → DoesJob job.frames taken cause new
+        → TakesTurn old cause new
+    told : TakesOut old None new → cause ≡ Some causes.Told → TakesTurn old cause new
+
+  -- A worker took its turns, one after the other, each with what the one before left. Only the last may end it.
+  pub data TakesTurns (first : Work I S W R Cell) : Option Cause → Work I S W R Cell → Type 0 where
+    nothing : TakesTurns first None first
+    one_more : (middle : Work I S W R Cell) (cause : Option Cause) (last : Work I S W R Cell)
+        → TakesTurns first None middle → TakesTurn middle cause last → TakesTurns first cause last

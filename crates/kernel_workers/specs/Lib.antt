@@ -1,7 +1,10 @@
 pub mod Causes
 pub mod Ending
+pub mod First
 pub mod Jobs
+pub mod Outcomes
 pub mod Running
 pub mod Shutdown
 pub mod Starting
 pub mod Staying
+pub mod Works

@@ -1,6 +1,7 @@
 -- How a kernel ends, and why one doesn't run.
 use Rattle.std.specs.Prelude.{◌≡◌, ◌≤◌, ⊤, ℕ, Bool, true, false, List, [], ◌∷◌, All, Option, Some, None, vec_capacity}
 use Rattle.std.specs.Global.{Vec}
+use Rattle.atomic_table.specs.Seated.{TableId}
 use Rattle.interp_core.specs.Interpreter.{Meaning}
 use Rattle.zmtp_wire.specs.Device.{Outflow}
 use Rattle.iopub_event.specs.declared.event.Event.{Event}
@@ -11,19 +12,34 @@ use Rattle.iopub_queue.specs.declared.fault.OpenFault.TheVariants.{Count, Capaci
 use Rattle.iopub_queue.specs.Values.{Publishing}
 use Rattle.iopub_relay.specs.Relay.{AreOfNumbers, IsLeftOf, Relaying}
 use Rattle.jmsg_envelope.specs.Stamp.{Stamping}
-use Rattle.jmsg_envelope.specs.declared.envelope.Envelope.{Envelope}
+use Rattle.kernel_engine.specs.declared.fault.EngineFault.{EngineFault}
 use Rattle.kernel_engine.specs.declared.parts.Parts.{Parts as Engine}
 use Rattle.kernel_engine.specs.declared.side.Side.TheVariants.{Shell, Control}
+use Rattle.kernel_workers.specs.declared.ended.Asking.{Asking}
 use Rattle.kernel_workers.specs.declared.ended.Cause.{Cause}
+use Rattle.kernel_workers.specs.declared.ended.Ended.{Ended}
 use Rattle.kernel_workers.specs.declared.ended.Cause.TheVariants.{Told, Shutdown, Asked, Worn}
+use Rattle.kernel_workers.specs.declared.ending.Left.{Left}
 use Rattle.kernel_workers.specs.declared.fault.KernelFault.{KernelFault}
 use Rattle.kernel_workers.specs.declared.fault.KernelFault.TheVariants.{Queue, NoThread}
+use Rattle.kernel_workers.specs.declared.outcomes.Outcome.{Outcome}
+use Rattle.kernel_workers.specs.declared.outcomes.Outcome.TheVariants.{Refused}
+use Rattle.kernel_workers.specs.declared.outcomes.Outcomes.{Outcomes}
 use Rattle.kernel_workers.specs.declared.parts.Parts.{Parts}
-use Rattle.kernel_workers.specs.declared.running.KernelEnd.{KernelEnd}
+use Rattle.kernel_workers.specs.declared.job.Job.{Job}
+use Rattle.kernel_workers.specs.declared.kernel_end.KernelEnd.{KernelEnd}
+use Rattle.kernel_workers.specs.declared.kernel_end.KernelWork.{KernelWork}
+use Rattle.kernel_workers.specs.declared.kernel_end.WorkDone.{WorkDone}
 use Rattle.kernel_workers.specs.declared.shutdown.ShutdownEnd.{ShutdownEnd}
-use Rattle.kernel_workers.specs.Causes.{word_of}
-use Rattle.kernel_workers.specs.Ending.{EndsSilent, IsBlockedAndClosed, IsBlockedBy, IsNoMessage, sealing_by}
+use Rattle.kernel_workers.specs.declared.work.Work.{Work}
+use Rattle.kernel_workers.specs.Causes.{restart_of, word_of}
+use Rattle.kernel_workers.specs.Ending.{EndsSilent, IsBlockedAndClosed, IsBlockedBy, IsNoMessage, closed_list}
+use Rattle.kernel_workers.specs.Ending.{sealing_by}
+use Rattle.kernel_workers.specs.Jobs.{AreAnswered}
+use Rattle.kernel_workers.specs.Outcomes.{Records, replied_by}
 use Rattle.kernel_workers.specs.Shutdown.{EndsInOrder}
+use Rattle.kernel_workers.specs.Starting.{Setup, beginning, newcomer}
+use Rattle.kernel_workers.specs.Works.{WorksOff}
 
 -- the number of a kernel's fault
 abbrev pub kernel_fault_number : KernelFault → ℕ
@@ -51,23 +67,33 @@ restart_by (Some restart) shell = restart
 restart_by None (Some restart) = restart
 restart_by None None = false
 
--- A kernel ended with all that was published taken: of shell, of control and of subscriptions just what each published,
--- each up to its close, and nothing else. Its subscribers are those that are left of a relay which took that.
-pub record TookAll {W : Type 0} (outflow : W → Outflow) (shell control subscriptions : List (Option (Event W)))
-    (ended : KernelEnd W) : Type 0 where
-  pub taken : List (Entry (Event W))
+-- what the relay of a kernel took that ended
+abbrev pub taken_of : {W R : Type 0} → KernelEnd W R → List (Entry (Event W))
+taken_of ended = ended.relay.value.taker.taken
+
+-- A kernel ended with all that was published taken: of each of its three publishers up to its close, and nothing else.
+-- Its subscribers are those that are left of its relay, which took that.
+pub record TookAll {W R : Type 0} (outflow : W → Outflow) (ended : KernelEnd W R) : Type 0 where
   pub says : ended.complete ≡ true
-  pub complete : IsComplete 3 taken
-  pub last : (number : ℕ) → CloseIsLast (of number taken)
-  pub shell_is : of 0 taken ≡ shell
-  pub control_is : of 1 taken ≡ control
-  pub subscriptions_are : of 2 taken ≡ subscriptions
-  pub others : AreOfNumbers 3 taken
-  pub left : IsLeftOf outflow taken ended.no_room ended.subscribers.items
+  pub count : ended.relay.value.taker.count ≡ 3
+  pub complete : IsComplete 3 (taken_of ended)
+  pub last : (number : ℕ) → CloseIsLast (of number (taken_of ended))
+  pub others : AreOfNumbers 3 (taken_of ended)
+  pub left : IsLeftOf outflow (taken_of ended) ended.no_room ended.subscribers.items
+
+-- it took just these lists of shell, of control and of subscriptions, from a queue
+pub record TookEach {W R : Type 0} (outflow : W → Outflow) (queue : TableId)
+    (shell control subscriptions : List (Option (Event W))) (ended : KernelEnd W R) : Type 0 where
+  pub took : TookAll outflow ended
+  pub queue_is : ended.relay.value.taker.queue ≡ queue
+  pub shell_is : of 0 (taken_of ended) ≡ shell
+  pub control_is : of 1 (taken_of ended) ≡ control
+  pub subscriptions_are : of 2 (taken_of ended) ≡ subscriptions
 
 -- what a kernel's end tells of its relay
-pub record TellsOf {W : Type 0} (outflow : W → Outflow) (relay : Relaying W) (complete restart : Bool)
-    (ended : KernelEnd W) : Type 0 where
+pub record TellsOf {W R : Type 0} (outflow : W → Outflow) (relay : Relaying W) (complete restart : Bool)
+    (ended : KernelEnd W R) : Type 0 where
+  pub relay_is : ended.relay.value ≡ relay
   pub complete_is : ended.complete ≡ complete
   pub restart_is : ended.restart ≡ restart
   pub left : IsLeftOf outflow relay.taker.taken ended.no_room ended.subscribers.items
@@ -79,51 +105,151 @@ pub record IsLast {W : Type 0} (publisher : Publishing (Event W)) (tokens : Vec 
   pub ends : EndsSilent publisher closed
   pub room : 3 ≤ vec_capacity tokens
 
--- How a kernel ends that has these engines of shell and control: all that was published was taken, and what each of the
--- two published is well blocked. Of subscriptions no message was published.
-pub record EndsBy {I S W Cell : Type 0} (m : Meaning I Cell) (stamps : Stamping S) (outflow : W → Outflow)
-    (shell control : Engine I (Publishing (Event W)) S W) (ended : KernelEnd W) : Type 0 where
-  pub of_shell : List (Option (Event W))
-  pub of_control : List (Option (Event W))
-  pub of_subscriptions : List (Option (Event W))
-  pub took : TookAll outflow of_shell of_control of_subscriptions ended
-  pub shell_blocked : IsBlockedBy m stamps shell of_shell
-  pub control_blocked : IsBlockedBy m stamps control of_control
-  pub subscriptions_silent : All IsNoMessage of_subscriptions
+-- How a kernel ends that has these engines of shell and control: all that was published was taken, and what was taken
+-- of each of the two is well blocked. Of shell it is all that its engine published. Of subscriptions no message was
+-- taken.
+pub record EndsOver {I S W R Cell : Type 0} (m : Meaning I Cell) (stamps : Stamping S) (outflow : W → Outflow)
+    (shell control : Engine I (Publishing (Event W)) S W) (ended : KernelEnd W R) : Type 0 where
+  pub took : TookAll outflow ended
+  pub queue : ended.relay.value.taker.queue ≡ shell.publishing.sink.queue
+  pub shell_is : of 0 (taken_of ended) ≡ closed_list shell
+  pub shell_blocked : IsBlockedBy m stamps shell (of 0 (taken_of ended))
+  pub control_blocked : IsBlockedBy m stamps control (of 1 (taken_of ended))
+  pub subscriptions_silent : All IsNoMessage (of 2 (taken_of ended))
+
+-- what a worker did: what came out of its inbox, and what became of that
+pub record Did : Type 0 where
+  pub jobs : List (Option Job)
+  pub outcomes : Outcomes
+
+-- what the workers of shell and of control did, and whether it was published that the kernel starts
+pub record BothDid : Type 0 where
+  pub started : Bool
+  pub shell : Did
+  pub control : Did
+
+-- what a worker did, as a kernel's end tells it
+abbrev pub did_of : WorkDone → Did
+did_of done = record { jobs = done.inbox.value; outcomes = done.outcomes }
+
+-- what a worker did, by what it left
+abbrev pub did_by : {I S W R Cell : Type 0} → Work I S W R Cell → Did
+did_by work = record { jobs = work.inbox; outcomes = work.outcomes }
+
+-- what the two did, as a kernel's end tells it
+abbrev pub both_did : KernelWork → BothDid
+both_did work = record { started = work.started; shell = did_of work.shell; control = did_of work.control }
+
+-- What is left of a kernel as the workers of shell and of control have ended: their engines, the publisher of
+-- subscriptions as it was given, what the two did, and whether shell was asked for a shutdown.
+pub record Leaving (I S W : Type 0) : Type 0 where
+  pub shell : Engine I (Publishing (Event W)) S W
+  pub control : Engine I (Publishing (Event W)) S W
+  pub subscriptions : Publishing (Event W)
+  pub did : BothDid
+  pub of_shell : Option Bool
+
+-- what is left of a kernel, as its end sees it
+abbrev pub leaving : {I S W R Cell : Type 0} → Left I S W R Cell → KernelWork → Option Bool → Leaving I S W
+leaving left work of_shell = record {
+  shell = left.shell;
+  control = left.control;
+  subscriptions = left.subscriptions.promise.sink.value;
+  did = both_did work;
+  of_shell = of_shell;
+}
+
+-- A kernel ended without a request for a shutdown on control: what was taken of control is all that its engine
+-- published, and shell's word says whether it is to begin anew.
+pub record EndsAtOnce {I S W R : Type 0} (left : Leaving I S W) (ended : KernelEnd W R) : Type 0 where
+  pub control_is : of 1 (taken_of ended) ≡ closed_list left.control
+  pub did_is : both_did ended.work ≡ left.did
+  pub restart_is : ended.restart ≡ restart_by None left.of_shell
+
+-- what became of a request for a shutdown, by its reply, and by why it was refused, if it was
+abbrev pub last_outcome : Option (List (List ℕ)) → Option EngineFault → Outcome
+last_outcome reply None = replied_by reply
+last_outcome reply (Some fault) = Refused
+
+-- a request for a shutdown was answered, after all that control had answered
+pub record AnswersLast (message : List (List ℕ)) (reply : Option (List (List ℕ))) (fault : Option EngineFault)
+    (old new : BothDid) : Type 0 where
+  pub records : Records message (last_outcome reply fault) old.control.outcomes new.control.outcomes
+  pub rest : new ≡ record old { control = record old.control { outcomes = new.control.outcomes } }
 
 -- How a kernel ends that was shut down by a request on control: in order, its relay's end told, and whether it is to
--- begin anew. The request's word of that counts before shell's.
-pub record ShutsDown {I S W Cell : Type 0} (R : Type 0) (m : Meaning I Cell) (stamps : Stamping S) (outflow : W → Outflow)
-    (shell control : Engine I (Publishing (Event W)) S W) (request : Envelope) (relay : Relaying W)
-    (subscriptions : Publishing (Event W)) (of_shell : Option Bool) (ended : KernelEnd W) : Type 0 where
+-- begin anew. The request's word of that counts before shell's. Its reply is the last that control answered.
+pub record ShutsDown {I S W Cell : Type 0} (R : Type 0) (m : Meaning I Cell) (stamps : Stamping S)
+    (outflow : W → Outflow) (asking : Asking) (relay : Relaying W) (left : Leaving I S W) (ended : KernelEnd W R) : Type 0 where
   pub end : ShutdownEnd W R
-  pub ends : EndsInOrder m stamps shell control request relay (IsLast subscriptions) end
-  pub tells : TellsOf outflow end.relay end.complete (restart_by (word_of end.fault end.restart) of_shell) ended
+  pub ends : EndsInOrder m stamps left.shell left.control asking.request relay (IsLast left.subscriptions) end
+  pub answers : AnswersLast asking.to end.reply end.fault left.did (both_did ended.work)
+  pub tells : TellsOf outflow end.relay end.complete (restart_by (word_of end.fault end.restart) left.of_shell) ended
 
 -- how a kernel ends by why control's worker did
-abbrev pub EndsFor : {I S W Cell : Type 0} → Type 0 → Meaning I Cell → Stamping S → (W → Outflow)
-    → Engine I (Publishing (Event W)) S W → Engine I (Publishing (Event W)) S W → Publishing (Event W) → Option Bool
-    → Cause → KernelEnd W → Type 0
-EndsFor R m stamps outflow shell control subscriptions of_shell Told ended = ended.restart ≡ restart_by None of_shell
-EndsFor R m stamps outflow shell control subscriptions of_shell (Shutdown restart) ended =
-    ended.restart ≡ restart_by None of_shell
-EndsFor {W = W} R m stamps outflow shell control subscriptions of_shell (Asked asking) ended = (relay : Relaying W)
-    × ShutsDown R m stamps outflow shell control asking.request relay subscriptions of_shell ended
-EndsFor R m stamps outflow shell control subscriptions of_shell Worn ended = ended.restart ≡ restart_by None of_shell
+abbrev pub EndsFor : {I S W Cell : Type 0} (R : Type 0) → Meaning I Cell → Stamping S → (W → Outflow) → Cause
+    → Leaving I S W → KernelEnd W R → Type 0
+EndsFor R m stamps outflow Told left ended = EndsAtOnce left ended
+EndsFor R m stamps outflow (Shutdown restart) left ended = EndsAtOnce left ended
+EndsFor {W = W} R m stamps outflow (Asked asking) left ended =
+    (relay : Relaying W) × ShutsDown R m stamps outflow asking relay left ended
+EndsFor R m stamps outflow Worn left ended = EndsAtOnce left ended
 
--- How a kernel ends. All that was published was taken. What shell published, and what control did, is well blocked:
--- each request's messages stand between its busy and its idle, signed with the kernel's key, under the ids and dates of
--- the channel's stamp. Of subscriptions no message was published. Each subscriber that is left got the texts of the
--- messages of its life that match its topics, and the PONGs that it asked for, or a beginning of that where it failed.
-pub record EndsWell {I S W Cell : Type 0} (m : Meaning I Cell) (stamps : Stamping S) (outflow : W → Outflow)
-    (parts : Parts I S W) (ended : KernelEnd W) : Type 0 where
+-- what is left of a kernel whose workers of shell and control left this
+abbrev pub leaving_by : {I S W R Cell : Type 0} → Ended I S W R Cell → Ended I S W R Cell → Publishing (Event W)
+    → Leaving I S W
+leaving_by shell control subscriptions = record {
+  shell = shell.work.engine;
+  control = control.work.engine;
+  subscriptions = subscriptions;
+  did = record { started = shell.started; shell = did_by shell.work; control = did_by control.work };
+  of_shell = restart_of shell.cause;
+}
+
+-- How a kernel ends whose workers were given this. Those of shell and of control did the jobs of their inboxes. What
+-- was taken of each is what its engine published by that, and what its end tells of jobs and answers is theirs.
+pub record EndsBy {I S W Cell : Type 0} (R : Type 0) (m : Meaning I Cell) (stamps : Stamping S)
+    (outflow : W → Outflow) (setup : Setup I S W) (ended : KernelEnd W R) : Type 0 where
+  pub took : TookAll outflow ended
+  pub queue : ended.relay.value.taker.queue ≡ setup.shell.engine.publishing.sink.queue
+  pub shell_blocked : IsBlockedBy m stamps setup.shell.engine (of 0 (taken_of ended))
+  pub control_blocked : IsBlockedBy m stamps setup.control.engine (of 1 (taken_of ended))
+  pub subscriptions_silent : All IsNoMessage (of 2 (taken_of ended))
+  pub shell : Ended I S W R Cell
+  pub control : Ended I S W R Cell
+  pub shell_works : WorksOff m stamps setup.shell.side setup.shell.engine setup.shell.inbox shell
+  pub control_works : WorksOff m stamps setup.control.side setup.control.engine setup.control.inbox control
+  pub shell_is : of 0 (taken_of ended) ≡ closed_list shell.work.engine
+  pub ends : EndsFor R m stamps outflow control.cause (leaving_by shell control setup.subscriptions) ended
+
+-- How a kernel ends. All that was published was taken, by the relay that it hands back. What was taken of shell, and of
+-- control, is well blocked: each request's messages stand between its busy and its idle, signed with the kernel's key,
+-- under the ids and dates of the channel's stamp. Of subscriptions no message was taken. Each subscriber that is left
+-- got the texts of the messages of its life that match its topics, and the PONGs that it asked for, or that up to an
+-- event at which it failed.
+--
+-- The blocks are those of the jobs that came out of the channel's own inbox, in their order, by the channel's own
+-- interpreter, stamp and key. Which jobs these were, and what became of each, the kernel's end tells: each has one
+-- answer, in their order.
+pub record EndsWell {I S W Cell : Type 0} (R : Type 0) (m : Meaning I Cell) (stamps : Stamping S)
+    (outflow : W → Outflow) (parts : Parts I S W) (ended : KernelEnd W R) : Type 0 where
   pub capacity : IsCapacity parts.capacity
-  pub shell : List (Option (Event W))
-  pub control : List (Option (Event W))
-  pub subscriptions : List (Option (Event W))
-  pub took : TookAll outflow shell control subscriptions ended
+  pub took : TookAll outflow ended
   pub shell_blocked : IsBlockedAndClosed m (stamps.is_date (stamps.meaning parts.shell.1)) Shell
-      (sealing_by stamps parts.key.items parts.shell.1) shell
+      (sealing_by stamps parts.key.items parts.shell.1) (of 0 (taken_of ended))
   pub control_blocked : IsBlockedAndClosed m (stamps.is_date (stamps.meaning parts.control.1)) Control
-      (sealing_by stamps parts.key.items parts.control.1) control
-  pub subscriptions_silent : All IsNoMessage subscriptions
+      (sealing_by stamps parts.key.items parts.control.1) (of 1 (taken_of ended))
+  pub subscriptions_silent : All IsNoMessage (of 2 (taken_of ended))
+  pub shell : Ended I S W R Cell
+  pub control : Ended I S W R Cell
+  pub shell_works : WorksOff m stamps Shell
+      (beginning Shell parts.shell parts.key.items (newcomer ended.relay.value.taker.queue 0)) parts.shell_in.from shell
+  pub control_works : WorksOff m stamps Control
+      (beginning Control parts.control parts.key.items (newcomer ended.relay.value.taker.queue 1))
+      parts.control_in.from control
+  pub shell_is : of 0 (taken_of ended) ≡ closed_list shell.work.engine
+  pub ends : EndsFor R m stamps outflow control.cause
+      (leaving_by shell control (newcomer ended.relay.value.taker.queue 2)) ended
+  pub shell_answered : AreAnswered parts.shell_in.from ended.work.shell.inbox.value ended.work.shell.outcomes.answers
+  pub control_answered : AreAnswered parts.control_in.from ended.work.control.inbox.value
+      ended.work.control.outcomes.answers

@@ -1,5 +1,5 @@
 -- A kernel's queue as it is opened, and its workers as they are set up.
-use Rattle.std.specs.Prelude.{◌≡◌, ℕ, List, [], None}
+use Rattle.std.specs.Prelude.{◌≡◌, ℕ, List, [], Option, None}
 use Rattle.atomic_table.specs.Seated.{TableId}
 use Rattle.iopub_event.specs.declared.event.Event.{Event}
 use Rattle.iopub_queue.specs.Calls.{beginner}
@@ -7,7 +7,13 @@ use Rattle.iopub_queue.specs.Values.{Publishing, Taking}
 use Rattle.kernel_engine.specs.declared.parts.Parts.{Parts as Engine}
 use Rattle.kernel_engine.specs.declared.side.Side.{Side}
 use Rattle.kernel_engine.specs.declared.side.Side.TheVariants.{Shell, Control}
+use Rattle.kernel_workers.specs.declared.control.ControlWorker.{ControlWorker}
+use Rattle.kernel_workers.specs.declared.job.Job.{Job}
 use Rattle.kernel_workers.specs.declared.parts.Parts.{Parts}
+use Rattle.kernel_workers.specs.declared.promises.ClosesSilent.{ClosesSilent}
+use Rattle.kernel_workers.specs.declared.promises.LeavesWork.{LeavesWork}
+use Rattle.kernel_workers.specs.declared.shell.ShellWorker.{ShellWorker}
+use Rattle.kernel_workers.specs.declared.subscriptions.SubscriptionsWorker.{SubscriptionsWorker}
 
 -- a publisher of a queue that was just opened
 abbrev pub newcomer : {T : Type 0} → TableId → ℕ → Publishing T
@@ -41,11 +47,54 @@ beginning side language key publisher = record {
   owed = None;
 }
 
--- A kernel's workers are set up of its parts: with these engines of shell and control, this publisher of subscriptions
--- and this taker. The publishers and the taker are of one queue that was just opened. The engine of each channel has
--- the interpreter and the stamp of that channel, and the kernel's key.
-pub record IsSetUp {I S W : Type 0} (parts : Parts I S W) (shell control : Engine I (Publishing (Event W)) S W)
-    (subscriptions : Publishing (Event W)) (taker : Taking (Event W)) : Type 0 where
-  pub opened : IsOpened shell.publishing.sink control.publishing.sink subscriptions taker
-  pub shell_is : shell ≡ beginning Shell parts.shell parts.key.items shell.publishing.sink
-  pub control_is : control ≡ beginning Control parts.control parts.key.items control.publishing.sink
+-- what a worker of shell or control is given: its engine, and its inbox with what came out of that before
+pub record Given (I S W : Type 0) : Type 0 where
+  pub side : Side
+  pub engine : Engine I (Publishing (Event W)) S W
+  pub inbox : List (Option Job)
+
+-- what the workers of a kernel are given that publish
+pub record Setup (I S W : Type 0) : Type 0 where
+  pub shell : Given I S W
+  pub control : Given I S W
+  pub subscriptions : Publishing (Event W)
+
+-- a worker of a channel promises by what it was given
+pub record Promises {I S W R Cell : Type 0} (side : Side) (engine : Engine I (Publishing (Event W)) S W)
+    (inbox : List (Option Job)) (promise : LeavesWork I S W R Cell) : Type 0 where
+  pub side_is : promise.side ≡ side
+  pub engine_is : promise.engine.value ≡ engine
+  pub inbox_is : promise.inbox.value ≡ inbox
+
+module _ {I S W R Cell : Type 0} where
+  -- what workers are given
+  abbrev pub given_to : ShellWorker I S W R Cell → ControlWorker I S W R Cell → SubscriptionsWorker W R → Setup I S W
+  given_to shell control subscriptions = record {
+    shell = record { side = Shell; engine = shell.engine; inbox = shell.inbox };
+    control = record { side = Control; engine = control.engine; inbox = control.inbox };
+    subscriptions = subscriptions.sink;
+  }
+
+  -- what workers were given, by their promises
+  abbrev pub promised_by : LeavesWork I S W R Cell → LeavesWork I S W R Cell → ClosesSilent W R → Setup I S W
+  promised_by shell control subscriptions = record {
+    shell = record { side = shell.side; engine = shell.engine.value; inbox = shell.inbox.value };
+    control = record { side = control.side; engine = control.engine.value; inbox = control.inbox.value };
+    subscriptions = subscriptions.sink.value;
+  }
+
+-- A kernel's workers are set up of its parts. The publishers and the taker are of one queue that was just opened. The
+-- engine of each channel has the interpreter and the stamp of that channel, and the kernel's key, and its worker has
+-- the inbox of that channel.
+pub record IsSetUp {I S W : Type 0} (parts : Parts I S W) (setup : Setup I S W) (taker : Taking (Event W))
+    : Type 0 where
+  pub opened : IsOpened setup.shell.engine.publishing.sink setup.control.engine.publishing.sink setup.subscriptions
+      taker
+  pub shell_side : setup.shell.side ≡ Shell
+  pub control_side : setup.control.side ≡ Control
+  pub shell_is : setup.shell.engine
+      ≡ beginning Shell parts.shell parts.key.items setup.shell.engine.publishing.sink
+  pub control_is : setup.control.engine
+      ≡ beginning Control parts.control parts.key.items setup.control.engine.publishing.sink
+  pub shell_in : setup.shell.inbox ≡ parts.shell_in.from
+  pub control_in : setup.control.inbox ≡ parts.control_in.from

@@ -3,23 +3,28 @@
 ghost use Rattle.std.specs.Prelude.{◌≡◌, ◌⊎◌, IfSome};
 ghost use Rattle.iopub_queue.specs.Sink.{publisher_sink};
 ghost use Rattle.kernel_engine.specs.World.{world_of};
-ghost use Rattle.kernel_workers.specs.Jobs.{HoldsJob, TakesJobIf};
+ghost use Rattle.kernel_engine.specs.declared.side.Side.TheVariants.{Control};
+ghost use Rattle.kernel_workers.specs.Jobs.{HoldsJob, TakesJob, doing_of, unread_done};
+ghost use Rattle.kernel_workers.specs.Starting.{Promises};
 ghost use Rattle.kernel_workers.specs.Staying.{IsSameEngine};
+ghost use Rattle.kernel_workers.specs.Works.{WorksOff};
 
+use crate::arrivals::Arrivals;
 use crate::ended::{Asking, Cause, Ended};
 use crate::flags::{Flags, Never};
 use crate::inbox::{Note, tell};
-use crate::job::{Job, ReplyTo};
-use crate::promises::KeepsEngine;
+use crate::job::Job;
+use crate::outcomes::Outcomes;
+use crate::promises::LeavesWork;
 use crate::request::conclude;
 use crate::waking::Waking;
+use crate::work::Work;
 use crate::working::{Answering, work};
-use crossbeam_channel::{Receiver, Sender};
+use crossbeam_channel::Sender;
 use interp_core::Interpreter;
 use iopub_event::Event;
 use jmsg_envelope::Stamp;
-use kernel_engine::{Engine, Unread};
-use listed::Frames;
+use kernel_engine::{Asked, Done, Engine, Side, Unread};
 use std::alloc::{AllocError, Global};
 use std::snapshot::Snapshot;
 use std::sync::Wait;
@@ -32,7 +37,7 @@ pub struct ControlWorker<I: Interpreter, S: Stamp, W, R: Wait> {
     /// What handles its requests.
     pub engine: Engine<I, Waking<Event<W>, R>, S, W>,
     /// Its inbox.
-    pub inbox: Receiver<Note<Job>>,
+    pub inbox: Arrivals<Job>,
     /// By which it stops shell's worker, which it ends with itself.
     pub shell: ShellEnd,
 }
@@ -49,20 +54,26 @@ where
     /// shutdown, which it leaves for later, all ids were given, or nobody is left who could tell it anything. Then shell
     /// is told to end.
     pub fn run(self, rt: R, alloc: Global) -> Ended<I, S, W, R>
-        ensures { IsSameEngine S.stamp self.engine result.engine }
+        ensures works { WorksOff I.meaning S.stamp Control self.engine self.inbox result }
+        ensures same { IsSameEngine S.stamp self.engine result.work.engine }
     {
         let ControlWorker {
-            mut engine,
+            engine,
             inbox,
             shell,
         } = self;
-        let cause = work(&rt, alloc, &mut engine, &inbox, &shell);
+        let mut at_hand = Work {
+            engine,
+            inbox,
+            outcomes: Outcomes::new(),
+        };
+        let cause = work(&rt, alloc, &mut at_hand, &shell);
         shell.end(&rt);
         drop(shell);
         Ended {
-            engine,
+            work: at_hand,
             cause,
-            inbox,
+            started: false,
         }
     }
 }
@@ -80,11 +91,13 @@ where
         self,
         rt: R,
         alloc: Global,
-    ) -> Option<PromisedHandle<Ended<I, S, W, R>, KeepsEngine<I, S, W, R>>>
-        ensures { IfSome result (λ handle. handle.promise.engine.value ≡ self.engine) }
+    ) -> Option<PromisedHandle<Ended<I, S, W, R>, LeavesWork<I, S, W, R>>>
+        ensures { IfSome result (λ handle. Promises Control self.engine self.inbox handle.promise) }
     {
-        let promise = KeepsEngine {
+        let promise = LeavesWork {
+            side: Side::Control,
             engine: Snapshot::of(&self.engine),
+            inbox: Snapshot::of(&self.inbox),
         };
         match thread::spawn_with(&rt, promise, move || self.run(rt, alloc)) {
             Ok(handle) => Some(handle),
@@ -130,56 +143,71 @@ impl ShellEnd {
         tell(rt, &self.inbox, Note::End);
     }
 
+    /// Raises the flag of an interrupt if a request asks for one.
+    fn heed(&self, asked: &Asked) {
+        if asked.interrupts() {
+            self.flags.interrupt(asked);
+        }
+    }
+
     /// Takes the frames of a message, and sends the reply. A request for a shutdown is left for later. If it asks for an
     /// interrupt, the flag is raised before busy is published, which may have to wait for the relay.
     fn take<I, S, W, R>(
         &self,
         rt: &R,
         alloc: Global,
-        engine: &mut Engine<I, Waking<Event<W>, R>, S, W>,
-        frames: Frames,
-        to: ReplyTo,
+        work: &mut Work<I, S, W, R>,
+        job: Job,
     ) -> Option<Cause>
     where
         I: Interpreter,
         S: Stamp,
         W: Drop,
         R: Wait,
-        ensures does { HoldsJob frames engine.old result engine.new
-            ⊎ TakesJobIf (world_of I.meaning publisher_sink S.stamp) Unit ⊥ frames engine.old result engine.new }
-        ensures same { IsSameEngine S.stamp engine.old engine.new }
+        ensures does { HoldsJob job.frames work.old result work.new
+            ⊎ TakesJob (world_of I.meaning publisher_sink S.stamp) (doing_of Control) job.frames work.old result
+            work.new }
+        ensures same { IsSameEngine S.stamp work.old.engine work.new.engine }
     {
-        let asked = match engine.read(alloc, frames) {
+        let Job { frames, to } = job;
+        let asked = match work.engine.read(alloc, frames) {
             Ok(asked) => asked,
-            Err(Unread::NoRequest | Unread::NoMemory) => {
-                drop(to);
-                return None;
+            Err(unread) => {
+                let done = unread_done(unread);
+                return conclude(rt, done, to, &mut work.outcomes);
             }
         };
         if asked.ends() {
             let request = asked.into_request();
             return Some(Cause::Asked(Asking { request, to }));
         }
-        if asked.interrupts() {
-            self.flags.interrupt();
-        }
-        let done = engine.finish(alloc, asked, &Never);
-        conclude(rt, done, to)
+        self.heed(&asked);
+        let done = work.engine.finish(alloc, asked, &Never);
+        conclude(rt, done, to, &mut work.outcomes)
+    }
+}
+
+/// What comes of a message that isn't read.
+fn unread_done(unread: Unread) -> Done
+    ensures { result ≡ unread_done unread }
+{
+    match unread {
+        Unread::NoRequest => Done::Ignored,
+        Unread::NoMemory => Done::Lost,
     }
 }
 
 /// Control leaves no message undone that it is given but a request for a shutdown, with which it ends, and its own cells
 /// are never interrupted.
 impl Answering for ShellEnd {
-    ghost may = { record { may_leave = ⊥; may_hold = Unit; may_ask = ⊥ } };
+    ghost may = { doing_of Control };
 
     fn answer<I, S, W, R>(
         &self,
         rt: &R,
         alloc: Global,
-        engine: &mut Engine<I, Waking<Event<W>, R>, S, W>,
-        frames: Frames,
-        to: ReplyTo,
+        work: &mut Work<I, S, W, R>,
+        job: Job,
     ) -> Option<Cause>
     where
         I: Interpreter,
@@ -187,6 +215,6 @@ impl Answering for ShellEnd {
         W: Drop,
         R: Wait,
     {
-        self.take(rt, alloc, engine, frames, to)
+        self.take(rt, alloc, work, job)
     }
 }

@@ -3,25 +3,21 @@
 ghost use Rattle.std.specs.Prelude.{◌≡◌};
 ghost use Rattle.kernel_workers.specs.Causes.{restart_of};
 
-use crate::inbox::Note;
-use crate::job::{Job, ReplyTo};
-use crate::waking::Waking;
-use crossbeam_channel::Receiver;
+use crate::job::ReplyTo;
+use crate::work::Work;
 use interp_core::Interpreter;
-use iopub_event::Event;
 use jmsg_envelope::{Envelope, Stamp};
-use kernel_engine::Engine;
 use std::sync::Wait;
 
 /// What a worker of shell or control leaves.
 #[derive(Drop)]
 pub struct Ended<I: Interpreter, S: Stamp, W, R: Wait> {
-    /// What handled its requests. Its publisher is open.
-    pub engine: Engine<I, Waking<Event<W>, R>, S, W>,
+    /// What it had at hand.
+    pub work: Work<I, S, W, R>,
     /// Why it ended.
     pub cause: Cause,
-    /// Its inbox. Once that is dropped, who puts jobs into it sees that nobody does them.
-    pub inbox: Receiver<Note<Job>>,
+    /// Whether it published that the kernel starts. Control's doesn't.
+    pub started: bool,
 }
 
 /// Why a worker ends.

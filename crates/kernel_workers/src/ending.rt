@@ -1,21 +1,24 @@
 //! The end of a running kernel, once the workers of shell and of control have ended.
 
-ghost use Rattle.std.specs.Prelude.{◌≡◌, ◌≤◌, [], None, IfErr, IfOk, IfSome, vec_capacity};
+ghost use Rattle.std.specs.Prelude.{◌≡◌, ◌≤◌, [], IfErr, IfOk, IfSome, vec_capacity};
 ghost use Rattle.iopub_queue.specs.Entries.{EndsWithClose};
 ghost use Rattle.kernel_workers.specs.Causes.{restart_of, word_of};
 ghost use Rattle.kernel_workers.specs.Ending.{EndsSilent};
-ghost use Rattle.kernel_workers.specs.Running.{EndsBy, EndsFor, IsFaultAtEnd, IsLast, ShutsDown, TellsOf, TookAll, restart_by};
-ghost use Rattle.kernel_workers.specs.Shutdown.{EndsInOrder};
+ghost use Rattle.kernel_workers.specs.Running.{AnswersLast, EndsAtOnce, EndsFor, EndsOver, IsFaultAtEnd, IsLast};
+ghost use Rattle.kernel_workers.specs.Running.{ShutsDown, TellsOf, TookEach, both_did, last_outcome, leaving};
+ghost use Rattle.kernel_workers.specs.Running.{restart_by};
+ghost use Rattle.kernel_workers.specs.Shutdown.{EndsInOrder, GivesRest, IsOneQueue};
 ghost use Rattle.kernel_workers.specs.Starting.{AreOfOne};
 
 use crate::ended::{Asking, Cause};
 use crate::fault::KernelFault;
 use crate::inbox::{Note, is_gone, tell};
 use crate::job::ReplyTo;
+use crate::kernel_end::{KernelEnd, KernelWork};
+use crate::outcomes::Outcome;
 use crate::promises::{ClosesSilent, ServesOn};
 use crate::relaying::RelayEnd;
 use crate::request::close;
-use crate::running::KernelEnd;
 use crate::shutdown::{Shutdown, ShutdownEnd, shutdown_order};
 use crate::waking::Waking;
 use crossbeam_channel::Sender;
@@ -25,7 +28,9 @@ use iopub_queue::{Closed, OpenFault};
 use iopub_relay::{Pumped, Relay};
 use jmsg_envelope::{Envelope, Stamp};
 use kernel_engine::{Engine, EngineFault};
+use listed::Frames;
 use std::alloc::Global;
+use std::snapshot::Snapshot;
 use std::sync::Wait;
 use std::thread;
 use std::thread::{PromisedHandle, Threads};
@@ -55,7 +60,7 @@ pub(crate) struct Serving<W: Outlet, R> {
 
 impl<W: Outlet, R: Threads> Serving<W, R> {
     /// Ends the relay's worker, and gives the relay.
-    fn end(self, rt: &R) -> Relay<W, R>
+    pub(crate) fn end(self, rt: &R) -> Relay<W, R>
         ensures queue { result.taker.queue ≡ self.relay.promise.relay.value.taker.queue }
         ensures count { result.taker.count ≡ self.relay.promise.relay.value.taker.count }
     {
@@ -76,7 +81,8 @@ fn close_all<I, S, W, R>(
     left: Left<I, S, W, R>,
     serving: Serving<W, R>,
     of_shell: Cause,
-) -> Result<KernelEnd<W>, KernelFault>
+    work: KernelWork,
+) -> Result<KernelEnd<W, R>, KernelFault>
 where
     I: Interpreter + Drop,
     I::Cell: Drop,
@@ -87,8 +93,8 @@ where
         left.subscriptions.promise.sink.value serving.relay.promise.relay.value.taker }
     requires none { left.tokens.items ≡ [] }
     requires room { 3 ≤ vec_capacity left.tokens }
-    ensures ends { IfOk result (EndsBy I.meaning S.stamp W.outflow left.shell left.control) }
-    ensures restart { IfOk result (λ ended. ended.restart ≡ restart_by None (restart_of of_shell)) }
+    ensures ends { IfOk result (EndsOver I.meaning S.stamp W.outflow left.shell left.control) }
+    ensures once { IfOk result (EndsAtOnce (leaving left work (restart_of of_shell))) }
     ensures refused { IfErr result IsFaultAtEnd }
 {
     let restart = restarts(None, of_shell.restart());
@@ -108,7 +114,7 @@ where
         subscriptions: end_subscriptions(rt, subscriptions, &to_subscriptions),
     };
     drop(to_subscriptions);
-    settle(rt, serving.end(rt), closes, tokens, restart)
+    settle(rt, serving.end(rt), closes, tokens, restart, work)
 }
 
 /// Tells the worker of subscriptions to end, and joins it.
@@ -145,15 +151,17 @@ fn settle<W: Outlet + Drop, R: Wait + Drop>(
     closes: Closes<W>,
     mut tokens: Vec<Closed<Event<W>>>,
     restart: bool,
-) -> Result<KernelEnd<W>, KernelFault>
+    work: KernelWork,
+) -> Result<KernelEnd<W, R>, KernelFault>
     requires one { AreOfOne closes.shell closes.control closes.subscriptions relay.taker }
     requires closed { EndsWithClose closes.shell.published × EndsWithClose closes.control.published
         × EndsWithClose closes.subscriptions.published }
     requires tokens { tokens.items ≡ [] }
     requires room { 3 ≤ vec_capacity tokens }
-    ensures took { IfOk result
-        (TookAll W.outflow closes.shell.published closes.control.published closes.subscriptions.published) }
+    ensures took { IfOk result (TookEach W.outflow relay.taker.queue closes.shell.published closes.control.published
+        closes.subscriptions.published) }
     ensures restart { IfOk result (λ ended. ended.restart ≡ restart) }
+    ensures work { IfOk result (λ ended. ended.work ≡ work) }
     ensures refused { IfErr result IsFaultAtEnd }
 {
     let Closes {
@@ -165,7 +173,7 @@ fn settle<W: Outlet + Drop, R: Wait + Drop>(
     tokens.push_reserved(control);
     tokens.push_reserved(subscriptions);
     let complete = relay.conclude(rt, tokens);
-    left_of(relay, complete, restart)
+    left_of(relay, complete, restart, work)
 }
 
 /// What is left of a relay.
@@ -177,20 +185,26 @@ fn left_of<W: Outlet + Drop, R: Drop>(
     relay: Relay<W, R>,
     complete: bool,
     restart: bool,
-) -> Result<KernelEnd<W>, KernelFault>
+    work: KernelWork,
+) -> Result<KernelEnd<W, R>, KernelFault>
     ensures left { IfOk result (TellsOf W.outflow relay complete restart) }
+    ensures work { IfOk result (λ ended. ended.work ≡ work) }
     ensures refused { IfErr result IsFaultAtEnd }
 {
     let no_room = relay.no_room();
+    let seen = Snapshot::of(&relay);
     match relay.finish() {
         Ok(subscribers) => Ok(KernelEnd {
             complete,
             restart,
             subscribers,
             no_room,
+            relay: seen,
+            work,
         }),
         Err(relay) => {
             drop(relay);
+            drop(work);
             Err(KernelFault::Queue(OpenFault::OutOfMemory))
         }
     }
@@ -222,7 +236,8 @@ pub(crate) fn end_by<I, S, W, R>(
     serving: Serving<W, R>,
     of_control: Cause,
     of_shell: Cause,
-) -> Result<KernelEnd<W>, KernelFault>
+    work: KernelWork,
+) -> Result<KernelEnd<W, R>, KernelFault>
 where
     I: Interpreter + Drop,
     I::Cell: Drop,
@@ -233,16 +248,19 @@ where
         left.subscriptions.promise.sink.value serving.relay.promise.relay.value.taker }
     requires none { left.tokens.items ≡ [] }
     requires room { 3 ≤ vec_capacity left.tokens }
-    ensures ends { IfOk result (EndsBy I.meaning S.stamp W.outflow left.shell left.control) }
-    ensures cause { IfOk result (EndsFor R I.meaning S.stamp W.outflow left.shell left.control
-        left.subscriptions.promise.sink.value (restart_of of_shell) of_control) }
+    ensures ends { IfOk result (EndsOver I.meaning S.stamp W.outflow left.shell left.control) }
+    ensures cause { IfOk result
+        (EndsFor R I.meaning S.stamp W.outflow of_control (leaving left work (restart_of of_shell))) }
     ensures refused { IfErr result IsFaultAtEnd }
 {
     match of_control {
-        Cause::Asked(asking) => shut_down(rt, alloc, left, serving.end(&rt), asking, of_shell),
+        Cause::Asked(asking) => {
+            let relay = serving.end(&rt);
+            shut_down(rt, alloc, left, relay, asking, of_shell, work)
+        }
         of_control => {
             drop(of_control);
-            close_all(&rt, left, serving, of_shell)
+            close_all(&rt, left, serving, of_shell, work)
         }
     }
 }
@@ -260,7 +278,8 @@ fn shut_down<I, S, W, R>(
     relay: Relay<W, R>,
     asking: Asking,
     of_shell: Cause,
-) -> Result<KernelEnd<W>, KernelFault>
+    work: KernelWork,
+) -> Result<KernelEnd<W, R>, KernelFault>
 where
     I: Interpreter + Drop,
     I::Cell: Drop,
@@ -271,16 +290,17 @@ where
         left.subscriptions.promise.sink.value relay.taker }
     requires none { left.tokens.items ≡ [] }
     requires room { 3 ≤ vec_capacity left.tokens }
-    ensures ends { IfOk result (ShutsDown R I.meaning S.stamp W.outflow left.shell left.control asking.request relay
-        left.subscriptions.promise.sink.value (restart_of of_shell)) }
+    ensures ends { IfOk result (ShutsDown R I.meaning S.stamp W.outflow asking relay
+        (leaving left work (restart_of of_shell))) }
     ensures refused { IfErr result IsFaultAtEnd }
 {
     let Asking { request, to } = asking;
     match end_in_order(rt, alloc, left, relay, request) {
-        Some(end) => conclude(&rt, end, to, of_shell),
+        Some(end) => conclude(&rt, end, to, of_shell, work),
         None => {
             drop(to);
             drop(of_shell);
+            drop(work);
             Err(KernelFault::NoThread)
         }
     }
@@ -296,9 +316,11 @@ fn conclude<W: Outlet + Drop, R: Wait + Drop>(
     end: ShutdownEnd<W, R>,
     to: ReplyTo,
     of_shell: Cause,
-) -> Result<KernelEnd<W>, KernelFault>
+    mut work: KernelWork,
+) -> Result<KernelEnd<W, R>, KernelFault>
     ensures left { IfOk result (TellsOf W.outflow end.relay end.complete
         (restart_by (word_of end.fault end.restart) (restart_of of_shell))) }
+    ensures answers { IfOk result (λ ended. AnswersLast to end.reply end.fault (both_did work) (both_did ended.work)) }
     ensures refused { IfErr result IsFaultAtEnd }
 {
     let ShutdownEnd {
@@ -308,10 +330,24 @@ fn conclude<W: Outlet + Drop, R: Wait + Drop>(
         complete,
         fault,
     } = end;
-    to.send(rt, reply);
+    let outcome = last_outcome(reply, &fault);
+    work.control.outcomes.record(rt, to, outcome);
     let restart = restarts(word_of(fault, restart), of_shell.restart());
     drop(of_shell);
-    left_of(relay, complete, restart)
+    left_of(relay, complete, restart, work)
+}
+
+/// What became of the request for a shutdown, by its reply, and by why it was refused, if it was.
+fn last_outcome(reply: Option<Frames>, fault: &Option<EngineFault>) -> Outcome
+    ensures { result ≡ last_outcome reply fault.now }
+{
+    match fault {
+        None => Outcome::replied(reply),
+        Some(_) => {
+            drop(reply);
+            Outcome::Refused
+        }
+    }
 }
 
 /// What a request for a shutdown says of the kernel's new begin: nothing if it was refused.
@@ -368,10 +404,43 @@ where
         rest,
         relay,
     };
+    match shut(rt, alloc, shutdown, to) {
+        Some(end) => {
+            drop(to_subscriptions);
+            Some(end)
+        }
+        None => {
+            drop(to_subscriptions);
+            None
+        }
+    }
+}
+
+/// Shuts down in order. None if that can't be begun: then `rest` is asked while the relay serves what subscriptions
+/// publishes, and all else is dropped as it is.
+fn shut<I, S, W, R, F>(
+    rt: R,
+    alloc: Global,
+    shutdown: Shutdown<I, S, W, R, F>,
+    to_subscriptions: &Sender<Note<Event<W>>>,
+) -> Option<ShutdownEnd<W, R>>
+where
+    I: Interpreter + Drop,
+    I::Cell: Drop,
+    S: Stamp + Drop,
+    W: Outlet + Drop + Send + 'static,
+    R: Threads + Wait + Copy + Send + Sync + Drop + 'static,
+    F: FnOnce() -> Vec<Closed<Event<W>>>,
+    requires queue { IsOneQueue shutdown.shell shutdown.control shutdown.relay }
+    requires runs { F.pre shutdown.rest }
+    requires rest { GivesRest shutdown.shell shutdown.control shutdown.relay (F.post shutdown.rest) }
+    ensures { IfSome result (EndsInOrder I.meaning S.stamp shutdown.shell shutdown.control shutdown.request
+        shutdown.relay (F.post shutdown.rest)) }
+{
     match shutdown_order(rt, alloc, shutdown) {
         Ok(end) => Some(end),
         Err(unbegun) => {
-            give_up(&rt, unbegun, to);
+            give_up(&rt, unbegun, to_subscriptions);
             None
         }
     }

@@ -1,6 +1,9 @@
 //! The flags by which control stops what shell does.
 
-use kernel_engine::Stop;
+ghost use Rattle.std.specs.Prelude.{◌≡◌, true};
+ghost use Rattle.kernel_engine.specs.Orders.{is_interrupt, order_of};
+
+use kernel_engine::{Asked, Stop};
 use std::alloc::{AllocError, Global};
 use std::sync::Arc;
 use std::sync::atomic::{AtomicBool, Ordering};
@@ -61,15 +64,23 @@ impl Flags {
         }
     }
 
+    /// Raises the flag of an interrupt, as a request asks for.
+    pub(crate) fn interrupt(&self, asked: &Asked)
+        requires { is_interrupt (order_of asked.now.does) ≡ true }
+    {
+        let _ = asked;
+        self.raise();
+    }
+
     /// Raises the flag of an interrupt.
-    pub(crate) fn interrupt(&self) {
+    fn raise(&self) {
         self.interrupt.store(true, Ordering::SeqCst);
     }
 
     /// Raises the flag of the end, and then that of an interrupt.
     pub(crate) fn end(&self) {
         self.ending.store(true, Ordering::SeqCst);
-        self.interrupt();
+        self.raise();
     }
 
     /// Lowers the flag of an interrupt, and then says whether the one of the end is down.

@@ -1,6 +1,10 @@
 //! The inboxes of workers.
 
-use crossbeam_channel::{Receiver, SendError, Sender};
+ghost use Rattle.std.specs.Prelude.{◌≡◌, [], IfOk};
+
+use crate::arrivals::Arrivals;
+use crossbeam_channel::{SendError, Sender, unbounded};
+use std::alloc::{AllocError, Global};
 use std::sync::Wait;
 use std::thread;
 
@@ -19,12 +23,31 @@ pub struct Inbox<T> {
     /// Where notes are put in.
     pub to: Sender<Note<T>>,
     /// Where the worker takes them out.
-    pub from: Receiver<Note<T>>,
+    pub from: Arrivals<T>,
 }
 
-/// Tells a worker something. If memory is refused it is tried again; if the worker is gone nothing is to be done.
-pub(crate) fn tell<T: Drop, R: Wait>(rt: &R, to: &Sender<Note<T>>, note: Note<T>) {
-    let mut left = note;
+impl<T: Drop> Inbox<T> {
+    /// An inbox with nothing in it.
+    ///
+    /// # Errors
+    ///
+    /// If memory is refused.
+    pub fn new(alloc: Global) -> Result<Inbox<T>, AllocError>
+        ensures { IfOk result (λ inbox. inbox.from ≡ []) }
+    {
+        match unbounded(alloc) {
+            Ok((to, from)) => Ok(Inbox {
+                to,
+                from: Arrivals::new(from),
+            }),
+            Err(_) => Err(AllocError),
+        }
+    }
+}
+
+/// Tells somebody something. If memory is refused it is tried again; if nobody is there any more nothing is to be done.
+pub(crate) fn tell<T: Drop, R: Wait>(rt: &R, to: &Sender<T>, item: T) {
+    let mut left = item;
     for _ in rt.forever() {
         match try_to_tell(rt, to, left) {
             None => return,
@@ -50,14 +73,14 @@ pub(crate) fn is_gone<T: Drop, R: Wait>(rt: &R, to: &Sender<Note<T>>) -> bool {
     }
 }
 
-/// Tells a worker something, unless memory is refused: then it gives that back.
-fn try_to_tell<T: Drop, R: Wait>(rt: &R, to: &Sender<Note<T>>, note: Note<T>) -> Option<Note<T>> {
-    match to.send(rt, note) {
+/// Tells somebody something, unless memory is refused: then it gives that back.
+fn try_to_tell<T: Drop, R: Wait>(rt: &R, to: &Sender<T>, item: T) -> Option<T> {
+    match to.send(rt, item) {
         Ok(()) => None,
-        Err(SendError::Disconnected(note)) => {
-            drop(note);
+        Err(SendError::Disconnected(item)) => {
+            drop(item);
             None
         }
-        Err(SendError::OutOfMemory(note)) => Some(note),
+        Err(SendError::OutOfMemory(item)) => Some(item),
     }
 }

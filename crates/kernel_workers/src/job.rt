@@ -1,27 +1,56 @@
-//! The jobs of shell and control, and their replies.
+//! The jobs of shell and control, and where their replies go.
+
+ghost use Rattle.std.specs.Prelude.{◌≡◌};
 
 use crate::credit::Credit;
+use crate::inbox::tell;
 use crossbeam_channel::Sender;
+use ghost_log::Log;
 use listed::Frames;
+use std::marker::Model;
 use std::sync::Wait;
 use zmtp_wire::text_len;
 
-/// A message that came in on shell or control.
+/// A message that came in on shell or control. Its reply goes to whom it belongs: what is replied to is the message
+/// itself.
 #[derive(Drop)]
 pub struct Job {
     /// Its frames, identities first.
     pub frames: Frames,
     /// Where its reply goes.
     pub to: ReplyTo,
+    pub ghost own: { to ≡ frames },
 }
 
-/// Where the reply to a message goes.
+impl Job {
+    /// The job to handle a message, whose reply goes into a channel that holds any number, since the worker waits for
+    /// room. With a credit it is counted as its connection's.
+    pub fn new(frames: Frames, replies: Sender<ReplyMessage>, credit: Option<Credit>) -> Job
+        ensures { result.frames ≡ frames }
+    {
+        let to = ReplyTo::new(&frames, replies, credit);
+        Job { frames, to }
+    }
+}
+
+/// Where the reply to a message goes. A contract sees the frames of that message.
 #[derive(Drop)]
 pub struct ReplyTo {
-    /// A channel that holds any number, since the worker waits for room.
-    pub replies: Sender<ReplyMessage>,
+    /// A channel that holds any number.
+    replies: Sender<ReplyMessage>,
     /// The job's part of what its connection may have in work, if that is counted.
-    pub credit: Option<Credit>,
+    credit: Option<Credit>,
+    /// The message.
+    asked: Log<Frames>,
+}
+
+impl Model for ReplyTo {
+    ghost use Rattle.std.specs.Prelude.{ℕ, List};
+    ghost use Rattle.kernel_workers.specs.First.{first_of};
+
+    ghost Value = { List (List ℕ) };
+
+    ghost view = { λ reply_to. first_of reply_to.asked.items };
 }
 
 /// A reply that goes to its peer.
@@ -35,16 +64,27 @@ pub struct ReplyMessage {
 }
 
 impl ReplyTo {
-    /// Sends the reply to a message, if it has one. If nobody waits for it, or memory is refused, it is dropped.
-    pub(crate) fn send<R: Wait>(self, rt: &R, reply: Option<Frames>) {
-        let ReplyTo { replies, credit } = self;
-        match reply {
-            Some(frames) => {
-                let credit = credit_of_reply(credit, &frames);
-                drop(replies.send(rt, ReplyMessage { frames, credit }));
-            }
-            None => drop(credit),
+    /// Where the reply to a message goes.
+    fn new(message: &Frames, replies: Sender<ReplyMessage>, credit: Option<Credit>) -> ReplyTo
+        ensures { result ≡ message.now }
+    {
+        ReplyTo {
+            replies,
+            credit,
+            asked: Log::new().and(message),
         }
+    }
+
+    /// Sends the reply to a message. If nobody waits for it, it is dropped.
+    pub(crate) fn send<R: Wait>(self, rt: &R, frames: Frames) {
+        let ReplyTo {
+            replies,
+            credit,
+            asked,
+        } = self;
+        drop(asked);
+        let credit = credit_of_reply(credit, &frames);
+        tell(rt, &replies, ReplyMessage { frames, credit });
         drop(replies);
     }
 }

@@ -3,6 +3,7 @@
 //! also after a join; so the kernel's end can say what was published, and what each subscriber got.
 #![tactic(auto)]
 
+mod arrivals;
 mod control;
 mod credit;
 mod draining;
@@ -12,6 +13,8 @@ mod fault;
 mod flags;
 mod inbox;
 mod job;
+mod kernel_end;
+mod outcomes;
 mod parts;
 mod promises;
 mod relaying;
@@ -21,8 +24,10 @@ mod shell;
 mod shutdown;
 mod subscriptions;
 mod waking;
+mod work;
 mod working;
 
+pub use arrivals::Arrivals;
 pub use control::{ControlWorker, ShellEnd};
 pub use credit::{Account, Credit};
 pub use ended::{Asking, Cause, Ended};
@@ -30,11 +35,14 @@ pub use fault::KernelFault;
 pub use flags::Flags;
 pub use inbox::{Inbox, Note};
 pub use job::{Job, ReplyMessage, ReplyTo};
+pub use kernel_end::{KernelEnd, KernelWork, WorkDone};
+pub use outcomes::{Answer, Answers, Outcome, Outcomes};
 pub use parts::Parts;
-pub use promises::{ClosesSilent, KeepsEngine, ServesOn};
+pub use promises::{ClosesSilent, LeavesWork, ServesOn};
 pub use relaying::{RelayEnd, RelayWorker};
-pub use running::{KernelEnd, run_kernel};
+pub use running::run_kernel;
 pub use shell::ShellWorker;
 pub use shutdown::{Shutdown, ShutdownEnd, shutdown_order};
 pub use subscriptions::SubscriptionsWorker;
 pub use waking::Waking;
+pub use work::Work;

@@ -1,29 +1,39 @@
 //! The promises of the workers, which hold after a join.
 
+use crate::arrivals::Arrivals;
 use crate::ended::Ended;
+use crate::job::Job;
 use crate::waking::Waking;
 use interp_core::Interpreter;
 use iopub_event::Event;
 use iopub_queue::Closed;
 use iopub_relay::Relay;
 use jmsg_envelope::Stamp;
-use kernel_engine::Engine;
+use kernel_engine::{Engine, Side};
 use std::snapshot::Snapshot;
 use std::sync::Wait;
 use std::thread::Promise;
 use zmtp_wire::Outlet;
 
-/// The promise of a worker of shell or control: its engine is the one that it was given, whatever was published.
+/// The promise of a worker of shell or control: it did the jobs of its inbox, and its engine is the one that it was
+/// given, whatever was published.
 #[derive(Drop)]
-pub struct KeepsEngine<I: Interpreter, S: Stamp, W, R: Wait> {
+pub struct LeavesWork<I: Interpreter, S: Stamp, W, R: Wait> {
+    /// Its channel.
+    pub side: Side,
     /// Its engine, as it was given.
     pub engine: Snapshot<Engine<I, Waking<Event<W>, R>, S, W>>,
+    /// Its inbox, as it was given.
+    pub inbox: Snapshot<Arrivals<Job>>,
 }
 
-impl<I: Interpreter, S: Stamp, W, R: Wait> Promise<Ended<I, S, W, R>> for KeepsEngine<I, S, W, R> {
+impl<I: Interpreter, S: Stamp, W, R: Wait> Promise<Ended<I, S, W, R>> for LeavesWork<I, S, W, R> {
     ghost use Rattle.kernel_workers.specs.Staying.{IsSameEngine};
+    ghost use Rattle.kernel_workers.specs.Works.{WorksOff};
 
-    ghost kept_by = { λ promise ended. IsSameEngine S.stamp promise.engine.value ended.engine };
+    ghost kept_by = { λ promise ended.
+        WorksOff I.meaning S.stamp promise.side promise.engine.value promise.inbox.value ended
+        × IsSameEngine S.stamp promise.engine.value ended.work.engine };
 }
 
 /// The promise of the worker of subscriptions: it leaves the closing token of its publisher, whose list has no message

@@ -4,9 +4,11 @@ ghost use Rattle.std.specs.Prelude.{◌≡◌, None};
 ghost use Rattle.iopub_queue.specs.Entries.{StandsBehind, of};
 ghost use Rattle.kernel_workers.specs.Causes.{cause_of, cause_of_fault, cause_of_order};
 ghost use Rattle.kernel_workers.specs.Ending.{EndsBlocked, closed_list};
+ghost use Rattle.kernel_workers.specs.Outcomes.{Records, outcome_of};
 
 use crate::ended::Cause;
 use crate::job::ReplyTo;
+use crate::outcomes::{Outcome, Outcomes};
 use crate::waking::Waking;
 use interp_core::Interpreter;
 use iopub_event::Event;
@@ -15,21 +17,31 @@ use jmsg_envelope::Stamp;
 use kernel_engine::{Done, Engine, EngineFault, Order, Response};
 use std::sync::Wait;
 
-/// Sends the reply to a message that was taken, if it has one, and says whether what came of it ends the worker.
-pub(crate) fn conclude<R: Wait>(rt: &R, done: Done, to: ReplyTo) -> Option<Cause>
-    ensures { result ≡ cause_of done }
+/// Answers a message that was taken by what became of it, and says whether that ends the worker.
+pub(crate) fn conclude<R: Wait>(
+    rt: &R,
+    done: Done,
+    to: ReplyTo,
+    outcomes: &mut Outcomes,
+) -> Option<Cause>
+    ensures cause { result ≡ cause_of done }
+    ensures records { Records to (outcome_of done) outcomes.old outcomes.new }
 {
     match done {
-        Done::Ignored | Done::Lost => {
-            drop(to);
+        Done::Ignored => {
+            outcomes.record(rt, to, Outcome::NoRequest);
+            None
+        }
+        Done::Lost => {
+            outcomes.record(rt, to, Outcome::NoMemory);
             None
         }
         Done::Handled(Response { reply, order }) => {
-            to.send(rt, reply);
+            outcomes.record(rt, to, Outcome::replied(reply));
             after_order(order)
         }
         Done::Refused(fault) => {
-            drop(to);
+            outcomes.record(rt, to, Outcome::Refused);
             after_fault(fault)
         }
     }
@@ -72,6 +84,10 @@ where
         → StandsBehind result.told (engine.publishing.sink.number, None) engine.publishing.sink.told }
 {
     let parts = engine.close().into_parts();
+    drop(parts.interp);
+    drop(parts.owed);
     let publishing = parts.publishing;
+    drop(publishing.signer);
+    drop(publishing.stamp);
     publishing.sink.close()
 }

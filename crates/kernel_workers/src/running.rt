@@ -2,9 +2,12 @@
 
 ghost use Rattle.std.specs.Prelude.{◌≡◌, ◌≤◌, [], IfErr, IfOk, IfSome, OnOk, vec_capacity};
 ghost use Rattle.iopub_queue.specs.Calls.{IsCapacity};
-ghost use Rattle.kernel_workers.specs.Running.{EndsBy, EndsWell, FailsBy, IsFaultAtEnd};
-ghost use Rattle.kernel_workers.specs.Starting.{AreOfOne, IsOpened, IsSetUp};
+ghost use Rattle.kernel_engine.specs.declared.side.Side.TheVariants.{Shell, Control};
+ghost use Rattle.kernel_workers.specs.Running.{EndsBy, EndsFor, EndsOver, EndsWell, FailsBy, IsFaultAtEnd, did_by};
+ghost use Rattle.kernel_workers.specs.Running.{did_of, leaving_by};
+ghost use Rattle.kernel_workers.specs.Starting.{AreOfOne, IsOpened, IsSetUp, Promises, given_to, promised_by};
 
+use crate::arrivals::Arrivals;
 use crate::control::{ControlWorker, ShellEnd};
 use crate::ended::Ended;
 use crate::ending::{Left, Serving, end_by};
@@ -12,12 +15,14 @@ use crate::fault::KernelFault;
 use crate::flags::Flags;
 use crate::inbox::{Note, tell};
 use crate::job::Job;
+use crate::kernel_end::{KernelEnd, KernelWork, WorkDone};
 use crate::parts::Parts;
-use crate::promises::{ClosesSilent, KeepsEngine, ServesOn};
+use crate::promises::{ClosesSilent, LeavesWork};
 use crate::relaying::{RelayEnd, RelayWorker};
 use crate::shell::ShellWorker;
 use crate::subscriptions::SubscriptionsWorker;
 use crate::waking::Waking;
+use crate::work::Work;
 use crossbeam_channel::Sender;
 use crossbeam_utils::sync::Unparker;
 use interp_core::Interpreter;
@@ -27,22 +32,10 @@ use iopub_relay::Relay;
 use jmsg_envelope::{Signer, Stamp};
 use kernel_engine::{Engine, Side};
 use std::alloc::{AllocError, Global};
+use std::snapshot::Snapshot;
 use std::sync::Wait;
 use std::thread::{Promise, PromisedHandle, Threads};
 use zmtp_wire::Outlet;
-
-/// How a kernel ended.
-#[derive(Drop)]
-pub struct KernelEnd<W> {
-    /// Whether all that was published was taken.
-    pub complete: bool,
-    /// Whether the kernel is to begin anew.
-    pub restart: bool,
-    /// The subscribers that were there, by rising ids: each with its writer, and whether it has failed.
-    pub subscribers: Vec<(u64, W, bool)>,
-    /// How often there was no memory for a subscriber that came; at the greatest number it stays.
-    pub no_room: u64,
-}
 
 /// Runs a kernel until a request asks for a shutdown, all ids of a channel were given, or an end note comes into the
 /// inbox of control or of shell: four workers, each in a thread of its own. Shell and control handle the requests of
@@ -60,14 +53,14 @@ pub fn run_kernel<I, S, W, R>(
     rt: R,
     alloc: Global,
     parts: Parts<I, S, W>,
-) -> Result<KernelEnd<W>, KernelFault>
+) -> Result<KernelEnd<W, R>, KernelFault>
 where
     I: Interpreter + Drop + Send + 'static,
     I::Cell: Drop + Send + 'static,
     S: Stamp + Drop + Send + 'static,
     W: Outlet + Drop + Send + 'static,
     R: Threads + Wait + Copy + Send + Sync + Drop + 'static,
-    ensures ends { IfOk result (EndsWell I.meaning S.stamp W.outflow parts) }
+    ensures ends { IfOk result (EndsWell R I.meaning S.stamp W.outflow parts) }
     ensures refused { IfErr result (FailsBy parts.capacity) }
 {
     match begin(rt, alloc, parts) {
@@ -92,9 +85,9 @@ where
     S: Stamp + Drop + Send + 'static,
     W: Outlet + Drop + Send + 'static,
     R: Threads + Wait + Copy + Send + Sync + Drop + 'static,
-    ensures set { IfOk result (λ begun. IsSetUp parts begun.0.publishers.shell.promise.engine.value
-        begun.0.publishers.control.promise.engine.value begun.0.publishers.subscriptions.promise.sink.value
-        begun.0.relay.promise.relay.value.taker) }
+    ensures set { IfOk result (λ begun. IsSetUp parts (promised_by begun.0.publishers.shell.promise
+        begun.0.publishers.control.promise begun.0.publishers.subscriptions.promise)
+        begun.0.serving.relay.promise.relay.value.taker) }
     ensures none { IfOk result (λ begun. begun.1.items ≡ []) }
     ensures room { IfOk result (λ begun. 3 ≤ vec_capacity begun.1) }
     ensures capacity { OnOk result (IsCapacity parts.capacity) }
@@ -127,8 +120,8 @@ where
     S: Stamp + Drop,
     W: Outlet + Drop,
     R: Wait + Copy + Drop,
-    ensures set { IfOk result (λ made. IsSetUp parts made.0.publishers.shell.engine made.0.publishers.control.engine
-        made.0.publishers.subscriptions.sink made.0.relay.relay.taker) }
+    ensures set { IfOk result (λ made. IsSetUp parts (given_to made.0.publishers.shell made.0.publishers.control
+        made.0.publishers.subscriptions) made.0.relay.relay.taker) }
     ensures none { IfOk result (λ made. made.1.items ≡ []) }
     ensures room { IfOk result (λ made. 3 ≤ vec_capacity made.1) }
     ensures capacity { OnOk result (IsCapacity parts.capacity) }
@@ -402,8 +395,8 @@ where
     R: Wait,
     requires opened { IsOpened queue.shell queue.control queue.subscriptions queue.relay.relay.taker }
     requires key { shared.key.items ≡ parts.key.items }
-    ensures { IsSetUp parts result.publishers.shell.engine result.publishers.control.engine
-        result.publishers.subscriptions.sink result.relay.relay.taker }
+    ensures { IsSetUp parts (given_to result.publishers.shell result.publishers.control
+        result.publishers.subscriptions) result.relay.relay.taker }
 {
     let Parts {
         shell,
@@ -456,7 +449,7 @@ where
 }
 
 /// The thread of a worker of shell or control.
-type ChannelThread<I, S, W, R> = PromisedHandle<Ended<I, S, W, R>, KeepsEngine<I, S, W, R>>;
+type ChannelThread<I, S, W, R> = PromisedHandle<Ended<I, S, W, R>, LeavesWork<I, S, W, R>>;
 
 /// The threads of the workers that publish.
 type PublishingThreads<I, S, W, R> = Publishers<
@@ -472,9 +465,7 @@ struct Running<I: Interpreter, S: Stamp, W: Outlet, R: Wait> {
     /// The inbox of subscriptions.
     to_subscriptions: Sender<Note<Event<W>>>,
     /// The relay's.
-    relay: PromisedHandle<Relay<W, R>, ServesOn<W, R>>,
-    /// By which the relay's worker is told to end.
-    relay_end: RelayEnd,
+    serving: Serving<W, R>,
 }
 
 /// Starts the workers of a kernel, the relay's first, since it makes room for what the others publish. None if a thread
@@ -491,13 +482,13 @@ where
     W: Outlet + Drop + Send + 'static,
     R: Threads + Wait + Copy + Send + Sync + Drop + 'static,
     requires { workers.publishers.subscriptions.sink.published ≡ [] }
-    ensures shell { IfSome result
-        (λ running. running.publishers.shell.promise.engine.value ≡ workers.publishers.shell.engine) }
-    ensures control { IfSome result
-        (λ running. running.publishers.control.promise.engine.value ≡ workers.publishers.control.engine) }
+    ensures shell { IfSome result (λ running. Promises Shell workers.publishers.shell.engine
+        workers.publishers.shell.inbox running.publishers.shell.promise) }
+    ensures control { IfSome result (λ running. Promises Control workers.publishers.control.engine
+        workers.publishers.control.inbox running.publishers.control.promise) }
     ensures subscriptions { IfSome result
         (λ running. running.publishers.subscriptions.promise.sink.value ≡ workers.publishers.subscriptions.sink) }
-    ensures relay { IfSome result (λ running. running.relay.promise.relay.value ≡ workers.relay.relay) }
+    ensures relay { IfSome result (λ running. running.serving.relay.promise.relay.value ≡ workers.relay.relay) }
 {
     let Workers {
         publishers,
@@ -506,20 +497,52 @@ where
         to_subscriptions,
         relay_end,
     } = workers;
-    let Some(relay) = relay.spawn(rt) else {
-        drop((publishers, to_control, to_subscriptions, relay_end));
-        return None;
-    };
+    match relay.spawn(rt) {
+        Some(relay) => {
+            let serving = Serving { relay, relay_end };
+            start_beside(rt, alloc, publishers, to_control, to_subscriptions, serving)
+        }
+        None => {
+            drop((publishers, to_control, to_subscriptions, relay_end));
+            None
+        }
+    }
+}
+
+/// Starts the workers that publish, beside that of the relay. None if a thread can't be made; then those that were are
+/// ended and joined.
+fn start_beside<I, S, W, R>(
+    rt: R,
+    alloc: Global,
+    publishers: PublishingWorkers<I, S, W, R>,
+    to_control: Sender<Note<Job>>,
+    to_subscriptions: Sender<Note<Event<W>>>,
+    serving: Serving<W, R>,
+) -> Option<Running<I, S, W, R>>
+where
+    I: Interpreter + Drop + Send + 'static,
+    I::Cell: Drop + Send + 'static,
+    S: Stamp + Drop + Send + 'static,
+    W: Outlet + Drop + Send + 'static,
+    R: Threads + Wait + Copy + Send + Sync + Drop + 'static,
+    requires { publishers.subscriptions.sink.published ≡ [] }
+    ensures shell { IfSome result (λ running. Promises Shell publishers.shell.engine publishers.shell.inbox
+        running.publishers.shell.promise) }
+    ensures control { IfSome result (λ running. Promises Control publishers.control.engine publishers.control.inbox
+        running.publishers.control.promise) }
+    ensures subscriptions { IfSome result
+        (λ running. running.publishers.subscriptions.promise.sink.value ≡ publishers.subscriptions.sink) }
+    ensures serving { IfSome result (λ running. running.serving ≡ serving) }
+{
     match start_publishing(rt, alloc, publishers, to_control) {
         Some(publishers) => Some(Running {
             publishers,
             to_subscriptions,
-            relay,
-            relay_end,
+            serving,
         }),
         None => {
             drop(to_subscriptions);
-            end_relay(&rt, relay_end, relay);
+            drop(serving.end(&rt));
             None
         }
     }
@@ -540,8 +563,10 @@ where
     W: Drop + Send + 'static,
     R: Threads + Wait + Copy + Send + Sync + Drop + 'static,
     requires { publishers.subscriptions.sink.published ≡ [] }
-    ensures shell { IfSome result (λ threads. threads.shell.promise.engine.value ≡ publishers.shell.engine) }
-    ensures control { IfSome result (λ threads. threads.control.promise.engine.value ≡ publishers.control.engine) }
+    ensures shell { IfSome result
+        (λ threads. Promises Shell publishers.shell.engine publishers.shell.inbox threads.shell.promise) }
+    ensures control { IfSome result
+        (λ threads. Promises Control publishers.control.engine publishers.control.inbox threads.control.promise) }
     ensures subscriptions { IfSome result
         (λ threads. threads.subscriptions.promise.sink.value ≡ publishers.subscriptions.sink) }
 {
@@ -550,11 +575,38 @@ where
         control,
         subscriptions,
     } = publishers;
-    let Some((shell, control, to_control)) = start_channels(rt, alloc, shell, control, to_control)
-    else {
-        drop(subscriptions);
-        return None;
-    };
+    match start_channels(rt, alloc, shell, control, to_control) {
+        Some((shell, control, to_control)) => {
+            start_subscriptions(rt, shell, control, to_control, subscriptions)
+        }
+        None => {
+            drop(subscriptions);
+            None
+        }
+    }
+}
+
+/// Starts the worker of subscriptions, beside those of control and of shell. None if no thread can be made; then those
+/// are ended and joined.
+fn start_subscriptions<I, S, W, R>(
+    rt: R,
+    shell: ChannelThread<I, S, W, R>,
+    control: ChannelThread<I, S, W, R>,
+    to_control: Sender<Note<Job>>,
+    subscriptions: SubscriptionsWorker<W, R>,
+) -> Option<PublishingThreads<I, S, W, R>>
+where
+    I: Interpreter + Drop,
+    I::Cell: Drop,
+    S: Stamp + Drop,
+    W: Drop + Send + 'static,
+    R: Threads + Wait + Copy + Send + Sync + Drop + 'static,
+    requires { subscriptions.sink.published ≡ [] }
+    ensures shell { IfSome result (λ threads. threads.shell ≡ shell) }
+    ensures control { IfSome result (λ threads. threads.control ≡ control) }
+    ensures subscriptions { IfSome result
+        (λ threads. threads.subscriptions.promise.sink.value ≡ subscriptions.sink) }
+{
     match subscriptions.spawn(rt) {
         Some(subscriptions) => {
             drop(to_control);
@@ -592,8 +644,8 @@ where
     S: Stamp + Drop + Send + 'static,
     W: Drop + Send + 'static,
     R: Threads + Wait + Copy + Send + Sync + Drop + 'static,
-    ensures shell { IfSome result (λ threads. threads.0.promise.engine.value ≡ shell.engine) }
-    ensures control { IfSome result (λ threads. threads.1.promise.engine.value ≡ control.engine) }
+    ensures shell { IfSome result (λ threads. Promises Shell shell.engine shell.inbox threads.0.promise) }
+    ensures control { IfSome result (λ threads. Promises Control control.engine control.inbox threads.1.promise) }
 {
     let Some(control) = control.spawn(rt, alloc) else {
         drop((shell, to_control));
@@ -637,17 +689,6 @@ where
     drop(shell.join(rt));
 }
 
-/// Tells the relay's worker to end, and joins it.
-fn end_relay<E, P, R>(rt: &R, relay_end: RelayEnd, worker: PromisedHandle<E, P>)
-where
-    E: Drop,
-    P: Promise<E>,
-    R: Threads,
-{
-    relay_end.end();
-    drop(worker.join(rt));
-}
-
 /// Joins the workers of shell and control, and ends the kernel: in order if control was asked for a shutdown.
 ///
 /// # Errors
@@ -659,7 +700,7 @@ fn end<I, S, W, R>(
     alloc: Global,
     running: Running<I, S, W, R>,
     tokens: Vec<Closed<Event<W>>>,
-) -> Result<KernelEnd<W>, KernelFault>
+) -> Result<KernelEnd<W, R>, KernelFault>
 where
     I: Interpreter + Drop,
     I::Cell: Drop,
@@ -668,40 +709,110 @@ where
     R: Threads + Wait + Copy + Send + Sync + Drop + 'static,
     requires one { AreOfOne running.publishers.shell.promise.engine.value.publishing.sink
         running.publishers.control.promise.engine.value.publishing.sink
-        running.publishers.subscriptions.promise.sink.value running.relay.promise.relay.value.taker }
+        running.publishers.subscriptions.promise.sink.value running.serving.relay.promise.relay.value.taker }
     requires none { tokens.items ≡ [] }
     requires room { 3 ≤ vec_capacity tokens }
-    ensures ends { IfOk result (EndsBy I.meaning S.stamp W.outflow running.publishers.shell.promise.engine.value
-        running.publishers.control.promise.engine.value) }
+    ensures ends { IfOk result (EndsBy R I.meaning S.stamp W.outflow (promised_by running.publishers.shell.promise
+        running.publishers.control.promise running.publishers.subscriptions.promise)) }
     ensures refused { IfErr result IsFaultAtEnd }
 {
     let Running {
         publishers,
         to_subscriptions,
-        relay,
-        relay_end,
+        serving,
     } = running;
+    let joined = (publishers.shell.join(&rt), publishers.control.join(&rt));
+    end_after(
+        rt,
+        alloc,
+        joined,
+        publishers.subscriptions,
+        to_subscriptions,
+        serving,
+        tokens,
+    )
+}
+
+/// Ends a kernel whose workers of shell and of control left this: in order if control was asked for a shutdown.
+///
+/// # Errors
+///
+/// As `end`.
+fn end_after<I, S, W, R>(
+    rt: R,
+    alloc: Global,
+    joined: (Ended<I, S, W, R>, Ended<I, S, W, R>),
+    subscriptions: PromisedHandle<Closed<Event<W>>, ClosesSilent<W, R>>,
+    to_subscriptions: Sender<Note<Event<W>>>,
+    serving: Serving<W, R>,
+    tokens: Vec<Closed<Event<W>>>,
+) -> Result<KernelEnd<W, R>, KernelFault>
+where
+    I: Interpreter + Drop,
+    I::Cell: Drop,
+    S: Stamp + Drop,
+    W: Outlet + Drop + Send + 'static,
+    R: Threads + Wait + Copy + Send + Sync + Drop + 'static,
+    requires one { AreOfOne joined.0.work.engine.publishing.sink joined.1.work.engine.publishing.sink
+        subscriptions.promise.sink.value serving.relay.promise.relay.value.taker }
+    requires none { tokens.items ≡ [] }
+    requires room { 3 ≤ vec_capacity tokens }
+    ensures ends { IfOk result (EndsOver I.meaning S.stamp W.outflow joined.0.work.engine joined.1.work.engine) }
+    ensures cause { IfOk result (EndsFor R I.meaning S.stamp W.outflow joined.1.cause
+        (leaving_by joined.0 joined.1 subscriptions.promise.sink.value)) }
+    ensures refused { IfErr result IsFaultAtEnd }
+{
+    let (shell, control) = joined;
     let Ended {
-        engine: shell,
+        work,
         cause: of_shell,
-        inbox,
-    } = publishers.shell.join(&rt);
+        started,
+    } = shell;
+    let (shell, inbox, shell_did) = done_of(work);
     drop(inbox);
     let Ended {
-        engine: control,
+        work,
         cause: of_control,
-        inbox,
-    } = publishers.control.join(&rt);
+        started: _,
+    } = control;
+    let (control, inbox, control_did) = done_of(work);
     let left = Left {
         shell,
         control,
-        subscriptions: publishers.subscriptions,
+        subscriptions,
         to_subscriptions,
         tokens,
     };
-    let serving = Serving { relay, relay_end };
-    let ended = end_by(rt, alloc, left, serving, of_control, of_shell);
+    let work = KernelWork {
+        started,
+        shell: shell_did,
+        control: control_did,
+    };
+    let ended = end_by(rt, alloc, left, serving, of_control, of_shell, work);
     // Who asked for a shutdown is heard until it was replied.
     drop(inbox);
     ended
+}
+
+/// What handled a worker's requests, its inbox, and what it did.
+fn done_of<I: Interpreter, S: Stamp, W, R: Wait>(
+    work: Work<I, S, W, R>,
+) -> (
+    Engine<I, Waking<Event<W>, R>, S, W>,
+    Arrivals<Job>,
+    WorkDone,
+)
+    ensures engine { result.0 ≡ work.engine }
+    ensures did { did_of result.2 ≡ did_by work }
+{
+    let Work {
+        engine,
+        inbox,
+        outcomes,
+    } = work;
+    let done = WorkDone {
+        inbox: Snapshot::of(&inbox),
+        outcomes,
+    };
+    (engine, inbox, done)
 }

@@ -3,23 +3,28 @@
 ghost use Rattle.std.specs.Prelude.{◌≡◌, IfSome};
 ghost use Rattle.iopub_queue.specs.Sink.{publisher_sink};
 ghost use Rattle.kernel_engine.specs.World.{world_of};
-ghost use Rattle.kernel_workers.specs.Jobs.{TakesJob};
+ghost use Rattle.kernel_engine.specs.declared.side.Side.TheVariants.{Shell};
+ghost use Rattle.kernel_workers.specs.Jobs.{LeavesJob, LeavesRest, TakesJob, doing_of};
+ghost use Rattle.kernel_workers.specs.Starting.{Promises};
 ghost use Rattle.kernel_workers.specs.Staying.{IsSameEngine};
+ghost use Rattle.kernel_workers.specs.Works.{Starts, WorksOff};
 
+use crate::arrivals::Arrivals;
 use crate::ended::{Cause, Ended};
 use crate::flags::Flags;
 use crate::inbox::{Note, tell};
-use crate::job::{Job, ReplyTo};
-use crate::promises::KeepsEngine;
+use crate::job::Job;
+use crate::outcomes::{Outcome, Outcomes};
+use crate::promises::LeavesWork;
 use crate::request::conclude;
 use crate::waking::Waking;
+use crate::work::Work;
 use crate::working::{Answering, work};
-use crossbeam_channel::{Receiver, Sender};
+use crossbeam_channel::Sender;
 use interp_core::Interpreter;
 use iopub_event::Event;
 use jmsg_envelope::Stamp;
-use kernel_engine::Engine;
-use listed::Frames;
+use kernel_engine::{Engine, Side};
 use std::alloc::Global;
 use std::snapshot::Snapshot;
 use std::sync::Wait;
@@ -32,7 +37,7 @@ pub struct ShellWorker<I: Interpreter, S: Stamp, W, R: Wait> {
     /// What handles its requests.
     pub engine: Engine<I, Waking<Event<W>, R>, S, W>,
     /// Its inbox.
-    pub inbox: Receiver<Note<Job>>,
+    pub inbox: Arrivals<Job>,
     /// What control stops it by.
     pub flags: Flags,
     /// The inbox of control, which it ends unless control asked for its end.
@@ -51,7 +56,8 @@ where
     /// told to end, a request asks for the end, all ids were given, or nobody is left who could tell it anything. Then
     /// others see that the kernel is to end, and control is told to, unless it was control that asked for the end.
     pub fn run(self, rt: R, alloc: Global) -> Ended<I, S, W, R>
-        ensures { IsSameEngine S.stamp self.engine result.engine }
+        ensures works { WorksOff I.meaning S.stamp Shell self.engine self.inbox result }
+        ensures same { IsSameEngine S.stamp self.engine result.work.engine }
     {
         let ShellWorker {
             mut engine,
@@ -59,8 +65,13 @@ where
             flags,
             control,
         } = self;
-        start(alloc, &mut engine);
-        let cause = work(&rt, alloc, &mut engine, &inbox, &flags);
+        let started = start(alloc, &mut engine);
+        let mut at_hand = Work {
+            engine,
+            inbox,
+            outcomes: Outcomes::new(),
+        };
+        let cause = work(&rt, alloc, &mut at_hand, &flags);
         let is_told = flags.is_ending();
         flags.end();
         drop(flags);
@@ -69,9 +80,9 @@ where
         }
         drop(control);
         Ended {
-            engine,
+            work: at_hand,
             cause,
-            inbox,
+            started,
         }
     }
 }
@@ -90,11 +101,13 @@ where
         self,
         rt: R,
         alloc: Global,
-    ) -> Option<PromisedHandle<Ended<I, S, W, R>, KeepsEngine<I, S, W, R>>>
-        ensures { IfSome result (λ handle. handle.promise.engine.value ≡ self.engine) }
+    ) -> Option<PromisedHandle<Ended<I, S, W, R>, LeavesWork<I, S, W, R>>>
+        ensures { IfSome result (λ handle. Promises Shell self.engine self.inbox handle.promise) }
     {
-        let promise = KeepsEngine {
+        let promise = LeavesWork {
+            side: Side::Shell,
             engine: Snapshot::of(&self.engine),
+            inbox: Snapshot::of(&self.inbox),
         };
         match thread::spawn_with(&rt, promise, move || self.run(rt, alloc)) {
             Ok(handle) => Some(handle),
@@ -106,30 +119,37 @@ where
     }
 }
 
-/// Publishes that the kernel starts. If memory is refused it isn't published, and shell goes on.
-fn start<I, S, W, R>(alloc: Global, engine: &mut Engine<I, Waking<Event<W>, R>, S, W>)
+/// Publishes that the kernel starts, and says whether it did. If memory is refused it isn't published, and shell goes
+/// on.
+fn start<I, S, W, R>(alloc: Global, engine: &mut Engine<I, Waking<Event<W>, R>, S, W>) -> bool
 where
     I: Interpreter,
     S: Stamp,
     W: Drop,
     R: Wait,
-    ensures { IsSameEngine S.stamp engine.old engine.new }
+    ensures starts { Starts I.meaning S.stamp engine.old result engine.new }
+    ensures same { IsSameEngine S.stamp engine.old engine.new }
 {
-    drop(engine.start(alloc));
+    match engine.start(alloc) {
+        Ok(()) => true,
+        Err(fault) => {
+            drop(fault);
+            false
+        }
+    }
 }
 
-/// Shell leaves a message undone that it begins once its end was asked for. A cell that runs is interrupted by the
-/// flags.
+/// Once its end was asked for, shell leaves all messages undone until it is told to end. A cell that runs is interrupted
+/// by the flags.
 impl Answering for Flags {
-    ghost may = { record { may_leave = Unit; may_hold = ⊥; may_ask = Unit } };
+    ghost may = { doing_of Shell };
 
     fn answer<I, S, W, R>(
         &self,
         rt: &R,
         alloc: Global,
-        engine: &mut Engine<I, Waking<Event<W>, R>, S, W>,
-        frames: Frames,
-        to: ReplyTo,
+        work: &mut Work<I, S, W, R>,
+        job: Job,
     ) -> Option<Cause>
     where
         I: Interpreter,
@@ -138,21 +158,52 @@ impl Answering for Flags {
         R: Wait,
     {
         if self.may_begin() {
-            return take(rt, alloc, engine, frames, to, self);
+            return take(rt, alloc, work, job, self);
         }
-        drop(frames);
-        drop(to);
-        None
+        leave(rt, work, job);
+        leave_rest(rt, work);
+        Some(Cause::Told)
     }
+}
+
+/// Leaves a job undone, since the kernel is to end.
+fn leave<I, S, W, R>(rt: &R, work: &mut Work<I, S, W, R>, job: Job)
+where
+    I: Interpreter,
+    S: Stamp,
+    W: Drop,
+    R: Wait,
+    ensures { LeavesJob job.frames work.old work.new }
+{
+    let Job { frames, to } = job;
+    drop(frames);
+    work.outcomes.record(rt, to, Outcome::Ending);
+}
+
+/// Leaves the jobs undone that come until the worker is told to end.
+fn leave_rest<I, S, W, R>(rt: &R, work: &mut Work<I, S, W, R>)
+where
+    I: Interpreter,
+    S: Stamp,
+    W: Drop,
+    R: Wait,
+    ensures { LeavesRest work.old work.new }
+{
+    for _ in rt.forever() {
+        match work.inbox.next(rt) {
+            Some(job) => leave(rt, work, job),
+            None => return,
+        }
+    }
+    unreachable!()
 }
 
 /// Takes the frames of a message, and sends the reply.
 fn take<I, S, W, R>(
     rt: &R,
     alloc: Global,
-    engine: &mut Engine<I, Waking<Event<W>, R>, S, W>,
-    frames: Frames,
-    to: ReplyTo,
+    work: &mut Work<I, S, W, R>,
+    job: Job,
     flags: &Flags,
 ) -> Option<Cause>
 where
@@ -160,9 +211,11 @@ where
     S: Stamp,
     W: Drop,
     R: Wait,
-    ensures does { TakesJob (world_of I.meaning publisher_sink S.stamp) Unit frames engine.old result engine.new }
-    ensures same { IsSameEngine S.stamp engine.old engine.new }
+    ensures does { TakesJob (world_of I.meaning publisher_sink S.stamp) (doing_of Shell) job.frames work.old result
+        work.new }
+    ensures same { IsSameEngine S.stamp work.old.engine work.new.engine }
 {
-    let done = engine.take(alloc, frames, flags);
-    conclude(rt, done, to)
+    let Job { frames, to } = job;
+    let done = work.engine.take(alloc, frames, flags);
+    conclude(rt, done, to, &mut work.outcomes)
 }

@@ -3,10 +3,9 @@
 ghost use Rattle.std.specs.Prelude.{◌≡◌, [], All, IfSome};
 ghost use Rattle.kernel_workers.specs.Ending.{EndsSilent, IsNoMessage};
 
-use crate::inbox::Note;
+use crate::arrivals::Arrivals;
 use crate::promises::ClosesSilent;
 use crate::waking::Waking;
-use crossbeam_channel::Receiver;
 use iopub_event::Event;
 use iopub_queue::{Closed, Publish};
 use std::snapshot::Snapshot;
@@ -20,7 +19,7 @@ pub struct SubscriptionsWorker<W, R> {
     /// What it publishes by.
     pub sink: Waking<Event<W>, R>,
     /// Its inbox.
-    pub inbox: Receiver<Note<Event<W>>>,
+    pub inbox: Arrivals<Event<W>>,
 }
 
 impl<W: Drop, R: Wait + Drop> SubscriptionsWorker<W, R> {
@@ -31,11 +30,14 @@ impl<W: Drop, R: Wait + Drop> SubscriptionsWorker<W, R> {
         requires { self.sink.published ≡ [] }
         ensures { EndsSilent self.sink result }
     {
-        let SubscriptionsWorker { mut sink, inbox } = self;
+        let SubscriptionsWorker {
+            mut sink,
+            mut inbox,
+        } = self;
         for _ in rt.forever() {
-            match inbox.recv(&rt) {
-                Ok(Note::Item(event)) => pass_on(&mut sink, event),
-                Ok(Note::End) | Err(_) => break,
+            match inbox.next(&rt) {
+                Some(event) => pass_on(&mut sink, event),
+                None => break,
             }
         }
         let closed = sink.close();

@@ -18,7 +18,7 @@ use iopub_event::Event;
 use iopub_queue::{Taken, Taker, open_queue};
 use jmsg_envelope::{Signer, Stamp};
 use kernel_engine::{Engine, Side};
-use kernel_workers::{Cause, Ended, Job, Note, ReplyMessage, ReplyTo, Waking};
+use kernel_workers::{Arrivals, Cause, Ended, Job, Note, ReplyMessage, Waking};
 use listed::Frames;
 use std::alloc::{AllocError, Global};
 use std::process::Abort;
@@ -119,14 +119,14 @@ fn arith_engine<R: Wait>(alloc: Global, side: Side, sink: Waking<Event<()>, R>) 
 /// Closes the publisher of an engine that a worker left, and says why that one ended.
 fn close_after<R: Wait + Drop>(ended: Ended<ShellArith, OneDate, (), R>) -> Cause {
     let Ended {
-        engine,
+        work,
         cause,
-        inbox,
+        started: _,
     } = ended;
-    let parts = engine.close().into_parts();
+    let parts = work.engine.close().into_parts();
     let publishing = parts.publishing;
     let _ = publishing.sink.close();
-    drop(inbox);
+    drop(work.inbox);
     cause
 }
 
@@ -231,14 +231,6 @@ fn ask<R: Wait>(
     put(rt, alloc, inbox, replies, text.as_str())
 }
 
-/// Where the reply to a message of no connection goes.
-fn uncounted(replies: &Sender<ReplyMessage>) -> Result<ReplyTo, Fail> {
-    Ok(ReplyTo {
-        replies: replies.clone()?,
-        credit: None,
-    })
-}
-
 /// Puts a message whose frames are the lines of a text into an inbox; its reply goes there.
 fn put<R: Wait>(
     rt: &R,
@@ -251,10 +243,7 @@ fn put<R: Wait>(
     for line in text.split('\n') {
         frames.push(Vec::from_slice(alloc, line.as_bytes())?)?;
     }
-    let job = Job {
-        frames: Frames::new(frames),
-        to: uncounted(replies)?,
-    };
+    let job = Job::new(Frames::new(frames), replies.clone()?, None);
     inbox.send(rt, Note::Item(job))?;
     Ok(())
 }

@@ -64,13 +64,13 @@ pub(crate) fn pair_of<R: Wait + Drop>(
     Pair {
         shell: ShellWorker {
             engine: shell,
-            inbox: shell_inbox,
+            inbox: Arrivals::new(shell_inbox),
             flags,
             control: control_of_shell,
         },
         control: ControlWorker {
             engine: control,
-            inbox: control_inbox,
+            inbox: Arrivals::new(control_inbox),
             shell: shell_end,
         },
         to_shell,
@@ -171,16 +171,20 @@ fn control_interrupts_a_cell_and_leaves_a_shutdown_for_later(rt: HostRuntime) ->
     let peers = (&pair.to_shell, &pair.to_control);
     let from_control = converse(&rt, alloc, peers, &mut taker)?;
     let Ended {
-        engine: _,
+        work,
         cause,
-        inbox: _,
+        started,
     } = shell.join(&rt);
+    assert!(rt; started);
+    assert_eq!(rt; work.outcomes.undone, 0);
     assert!(rt; matches!(cause, Cause::Told));
     let Ended {
-        engine: _,
+        work,
         cause,
-        inbox: _,
+        started,
     } = control.join(&rt);
+    assert!(rt; !started);
+    assert_eq!(rt; work.outcomes.undone, 0);
     assert!(rt; is_shutdown(&cause));
     assert!(rt; from_control.try_recv(&rt).is_err());
     Ok(())

@@ -24,13 +24,8 @@ fn ask_counted<R: Wait>(
     for line in ["<IDS|MSG>", "", header.as_str(), "{}", "{}", "{}"] {
         frames.push(Vec::from_slice(alloc, line.as_bytes())?)?;
     }
-    let job = Job {
-        frames: Frames::new(frames),
-        to: ReplyTo {
-            replies: replies.clone()?,
-            credit: Some(Credit::take(account, OCTETS)?),
-        },
-    };
+    let credit = Credit::take(account, OCTETS)?;
+    let job = Job::new(Frames::new(frames), replies.clone()?, Some(credit));
     inbox.send(rt, Note::Item(job))?;
     Ok(())
 }

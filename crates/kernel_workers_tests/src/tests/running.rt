@@ -4,11 +4,13 @@ use super::*;
 use crate::tests::control::INTERRUPTED;
 use crate::tests::long::Long;
 use crate::tests::shell::{ASKED, INFO, SHUTDOWN};
-use kernel_workers::{Flags, Inbox, KernelEnd, Parts, run_kernel};
+use interp_core::Interpreter;
+use kernel_workers::{Flags, Inbox, KernelFault, Parts, run_kernel};
 use listed::Octets;
 use std::sync::Arc;
 use std::sync::atomic::{AtomicBool, Ordering};
 use std::thread;
+use std::thread::Threads;
 use zmtp_wire::{Outlet, WriteFailed};
 
 /// How often a wait looks before its test fails.
@@ -80,9 +82,9 @@ struct Client {
 
 /// The two ends of an inbox, and its first end once more.
 fn inbox_of<T: Drop>(alloc: Global) -> Result<(Inbox<T>, Sender<Note<T>>), Fail> {
-    let (to, from) = unbounded(alloc)?;
-    let other = to.clone()?;
-    Ok((Inbox { to, from }, other))
+    let inbox = Inbox::new(alloc)?;
+    let other = inbox.to.clone()?;
+    Ok((inbox, other))
 }
 
 /// Has subscriber 1 come, and ask for everything.
@@ -205,11 +207,52 @@ fn count_messages(octets: &[u8]) -> Option<usize> {
     Some(count)
 }
 
+/// What is looked at of a kernel's end.
+#[derive(Drop)]
+struct End {
+    /// Whether all that was published was taken.
+    complete: bool,
+    /// Whether the kernel is to begin anew.
+    restart: bool,
+    /// The subscribers that were there.
+    subscribers: Vec<(u64, Keeper, bool)>,
+    /// How often there was no memory for one.
+    no_room: u64,
+    /// Whether it was published that it starts.
+    started: bool,
+    /// How many jobs of shell and of control were left undone.
+    undone: (u64, u64),
+}
+
+/// Runs a kernel, and gives what is looked at of its end.
+fn end_of<I, R>(rt: R, alloc: Global, parts: Parts<I, OneDate, Keeper>) -> Result<End, KernelFault>
+where
+    I: Interpreter + Drop + Send + 'static,
+    I::Cell: Drop + Send + 'static,
+    R: Threads + Wait + Copy + Send + Sync + Drop + 'static,
+{
+    match run_kernel(rt, alloc, parts) {
+        Ok(ended) => Ok(End {
+            complete: ended.complete,
+            restart: ended.restart,
+            subscribers: ended.subscribers,
+            no_room: ended.no_room,
+            started: ended.work.started,
+            undone: (
+                ended.work.shell.outcomes.undone,
+                ended.work.control.outcomes.undone,
+            ),
+        }),
+        Err(fault) => Err(fault),
+    }
+}
+
 /// That a kernel ended with all taken, and subscriber 1 alone, who didn't fail and got at most so many messages, whole.
-fn expect_end(rt: &impl Abort, ended: &KernelEnd<Keeper>, restart: bool, most: usize) {
+fn expect_end(rt: &impl Abort, ended: &End, restart: bool, most: usize) {
     assert!(rt; ended.complete);
     assert_eq!(rt; ended.restart, restart);
     assert_eq!(rt; ended.no_room, 0);
+    assert!(rt; ended.started);
     let [(id, keeper, has_failed)] = ended.subscribers.as_slice() else {
         assert!(rt; false, "{} subscribers", ended.subscribers.len());
         return;
@@ -258,9 +301,10 @@ fn each_of_109_jobs_has_one_reply(rt: HostRuntime) -> Result<(), Fail> {
     let alloc = rt.alloc();
     let (parts, client) = kernel_of(&rt, alloc, 16, two_ariths(alloc))?;
     ask_109(&rt, alloc, &client)?;
-    let ended = run_kernel(rt, alloc, parts)?;
+    let ended = end_of(rt, alloc, parts)?;
     expect_109(&rt, alloc, &client)?;
     expect_end(&rt, &ended, false, 1 + 2 * 109);
+    assert_eq!(rt; ended.undone, (0, 0));
     Ok(())
 }
 
@@ -270,7 +314,7 @@ fn control_ends_a_kernel_that_begins_anew(rt: HostRuntime) -> Result<(), Fail> {
     let (parts, client) = kernel_of(&rt, alloc, 1, two_ariths(alloc))?;
     let control = (&client.to_control, &client.control_replies);
     ask_numbered(&rt, alloc, control, 0, (SHUTDOWN, r#"{"restart":true}"#))?;
-    let ended = run_kernel(rt, alloc, parts)?;
+    let ended = end_of(rt, alloc, parts)?;
     let due = ("shutdown_reply", 3, r#"{"restart":true,"status":"ok"}"#);
     expect_numbered(&rt, alloc, &client.from_control, (0, SHUTDOWN), due)?;
     assert!(rt; client.from_control.try_recv(&rt).is_err());
@@ -286,7 +330,7 @@ fn word_of_control_counts_if_both_are_asked_for_a_shutdown(rt: HostRuntime) -> R
     ask_numbered(&rt, alloc, shell, 0, (SHUTDOWN, r#"{"restart":true}"#))?;
     let control = (&client.to_control, &client.control_replies);
     ask_numbered(&rt, alloc, control, 1, (SHUTDOWN, r#"{"restart":false}"#))?;
-    let ended = run_kernel(rt, alloc, parts)?;
+    let ended = end_of(rt, alloc, parts)?;
     let due = ("shutdown_reply", 3, r#"{"restart":false,"status":"ok"}"#);
     expect_numbered(&rt, alloc, &client.from_control, (1, SHUTDOWN), due)?;
     expect_end(&rt, &ended, false, 5);
@@ -337,7 +381,7 @@ fn a_cell_that_runs_is_interrupted(rt: HostRuntime) -> Result<(), Fail> {
     let (parts, client) = kernel_of(&rt, alloc, 16, (Long, Long))?;
     let shell = (&client.to_shell, &client.shell_replies);
     ask_numbered(&rt, alloc, shell, 0, ("execute_request", r#"{"code":"x"}"#))?;
-    let kernel = thread::spawn(&rt, move || run_kernel(rt, alloc, parts))?;
+    let kernel = thread::spawn(&rt, move || end_of(rt, alloc, parts))?;
     interrupt(&rt, alloc, &client)?;
     let ended = kernel.join(&rt)?;
     let due = ("shutdown_reply", 6, r#"{"restart":false,"status":"ok"}"#);
@@ -350,9 +394,7 @@ fn a_cell_that_runs_is_interrupted(rt: HostRuntime) -> Result<(), Fail> {
 fn no_kernel_runs_on_a_queue_of_no_place_or_too_many(rt: HostRuntime) -> Result<(), Fail> {
     for capacity in [0, 65_537] {
         let (parts, _client) = kernel_of(&rt, rt.alloc(), capacity, two_ariths(rt.alloc()))?;
-        let fault = run_kernel(rt, rt.alloc(), parts)
-            .err()
-            .expect(&rt, "a fault");
+        let fault = end_of(rt, rt.alloc(), parts).err().expect(&rt, "a fault");
         assert_eq!(rt; fault.number(), 61, "{capacity} places");
     }
     Ok(())

@@ -71,7 +71,7 @@ fn worker_of<R: Wait + Drop>(
     let (replies, from) = unbounded(alloc)?;
     let worker = ShellWorker {
         engine,
-        inbox,
+        inbox: Arrivals::new(inbox),
         flags,
         control,
     };
@@ -88,10 +88,7 @@ fn worker_of<R: Wait + Drop>(
 fn ask_all<R: Wait>(rt: &R, alloc: Global, outside: &Outside) -> Result<(), Fail> {
     let (to, replies) = (&outside.to, &outside.replies);
     ask(rt, alloc, to, replies, (ASKED, "{}"))?;
-    let nothing = Job {
-        frames: Frames::new(Vec::new(alloc)),
-        to: uncounted(replies)?,
-    };
+    let nothing = Job::new(Frames::new(Vec::new(alloc)), replies.clone()?, None);
     to.send(rt, Note::Item(nothing))?;
     ask(rt, alloc, to, replies, (ASKED, "{}"))?;
     ask(rt, alloc, to, replies, (SHUTDOWN, r#"{"restart":true}"#))

@@ -5,10 +5,10 @@ use kernel_workers::SubscriptionsWorker;
 use listed::Octets;
 
 /// An inbox in which a message waits among events, and one of them after the end.
-fn inbox_of<R: Wait>(rt: &R, alloc: Global) -> Result<Receiver<Note<Event<()>>>, Fail> {
+fn inbox_of<R: Wait>(rt: &R, alloc: Global) -> Result<Arrivals<Event<()>>, Fail> {
     let (to, from) = unbounded(alloc)?;
     put_events(rt, alloc, &to)?;
-    Ok(from)
+    Ok(Arrivals::new(from))
 }
 
 /// Puts the events into an inbox, and the end before the last.

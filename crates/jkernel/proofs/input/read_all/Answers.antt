@@ -3,7 +3,7 @@ use Rattle.jkernel.proofs.KnownReads.{IsReadOut, IsReadOut-from_end, Consumes-ke
 use Rattle.jkernel.proofs.KnownReads.{take-written}
 use Rattle.jkernel.proofs.input.read_all.Given.{Over}
 use Rattle.jkernel.proofs.input.read_all.Goals as goal
-use Rattle.jkernel.proofs.input.read_all.Goals.{in-Ok+in_ok-extend_from_slice-in-Ok, in-Err+else-ne}
+use Rattle.jkernel.proofs.input.read_all.Goals.{in-Ok+in_ok-append-in-Ok, in-Err+else-ne}
 
 pub reads-init : goal.reads-init
 reads-init g c = record {
@@ -39,12 +39,12 @@ reads-preserved g c =
     let last = g.R.Read.remaining c.read.new.self in
     let full : length c.read.new.buf ≡ c.reads.piece.len = omega (arith, c.deref_mut.ensures.len, c.read.auto.buf) in
     elim c.match-read.branch [
-      | in-Ok+in_ok-extend_from_slice-in-Ok w ↦
+      | in-Ok+in_ok-append-in-Ok w ↦
           let piece = take w.in-Ok.count c.read.new.buf in
           let same = take-written w.in-Ok.count c.reads.piece.len c.read.new.buf
           (drop (length c.read.new.buf) c.reads.piece.items) w.deref.result.now w.deref.ensures.value full in
           let grown : c.match-read.octets.items ≡ c.reads.octets.items ++ piece =
-          cc (same, w.in_ok-extend_from_slice-in-Ok.ensures.items, w.octets-is) in
+          cc (same, w.in_ok-append-in-Ok.ensures, w.octets-is) in
           record {
             taken = Consumes-then first middle last c.reads.octets.items piece c.match-read.octets.items
                 c.reads.invariant.taken w.in-Ok.ensures.bytes.0 grown;

@@ -3,8 +3,8 @@ use Rattle.kernel_workers.specs.Running.{IsLast}
 use Rattle.kernel_workers.proofs.ShutdownLemmas.{in_order_by}
 use Rattle.kernel_workers.proofs.ending.end_in_order.Goals as goal
 
-pub returns-in-Ok : goal.returns-in-Ok
-returns-in-Ok g c =
+pub returns-in-Some : goal.returns-in-Some
+returns-in-Some g c =
     in_order_by g.I.Interpreter.meaning g.S.Stamp.stamp c.args.left.shell c.args.left.control c.args.request
-    c.args.relay _ (IsLast c.args.left.subscriptions.promise.sink.value) c.in-Ok.end (λ tokens given. search of_calls)
-    c.in-Ok.ensures.ends
+    c.args.relay _ (IsLast c.args.left.subscriptions.promise.sink.value) c.in-Some.end (λ tokens given. search of_calls)
+    c.in-Some.ensures

@@ -16,6 +16,6 @@ returns-clause-took g c =
     ∙ ap (λ (tokens : List (Publishing (Event g.row.W.Denot))). tokens ++ closes.control ∷ [])
     (c.push_reserved.ensures.items
     ∙ ap (λ (tokens : List (Publishing (Event g.row.W.Denot))). tokens ++ closes.shell ∷ []) c.requires.tokens)))
-    c.requires.one c.requires.closed concluded.ensures.queue.1 concluded.ensures.meets concluded.ensures.complete
+    c.requires.one c.requires.closed concluded.ensures.queue concluded.ensures.meets concluded.ensures.complete
     concluded.ensures.whole concluded.ensures.closed concluded.ensures.last concluded.ensures.numbers
     c.left_of.ensures.left

@@ -1,0 +1,6 @@
+//! A list that only contracts read: what happened, in order.
+#![tactic(auto)]
+
+mod log;
+
+pub use log::Log;

@@ -1,0 +1,39 @@
+-- What a worker of shell or control does, from its beginning to its end.
+use Rattle.std.specs.Prelude.{◌≡◌, ◌⊎◌, [], List, Bool, true, false, Option, Some}
+use Rattle.interp_core.specs.Interpreter.{Meaning}
+use Rattle.iopub_event.specs.declared.event.Event.{Event}
+use Rattle.iopub_queue.specs.Sink.{publisher_sink}
+use Rattle.iopub_queue.specs.Values.{Publishing as Publisher}
+use Rattle.jmsg_envelope.specs.Stamp.{Stamping}
+use Rattle.kernel_engine.specs.declared.fault.EngineFault.{EngineFault}
+use Rattle.kernel_engine.specs.declared.parts.Parts.{Parts}
+use Rattle.kernel_engine.specs.declared.side.Side.{Side}
+use Rattle.kernel_engine.specs.declared.side.Side.TheVariants.{Shell, Control}
+use Rattle.kernel_engine.specs.Starts.{SaysNothing, SaysStarting, StartsNot}
+use Rattle.kernel_engine.specs.World.{world_of}
+use Rattle.kernel_workers.specs.declared.ended.Ended.{Ended}
+use Rattle.kernel_workers.specs.declared.job.Job.{Job}
+use Rattle.kernel_workers.specs.Jobs.{TakesTurns, doing_of}
+
+module _ {I S W Cell : Type 0} (m : Meaning I Cell) (stamps : Stamping S) where
+  -- Whether an engine said that the kernel starts: if it is one of shell that had published nothing, and memory wasn't
+  -- refused.
+  abbrev pub Starts : Parts I (Publisher (Event W)) S W → Bool → Parts I (Publisher (Event W)) S W → Type 0
+  Starts old true new = SaysStarting publisher_sink stamps old new ⊎ SaysNothing publisher_sink stamps old new
+  Starts old false new = (fault : EngineFault) × StartsNot publisher_sink stamps old fault new
+
+  -- how a worker of a channel begins: shell's says that the kernel starts, and control's does nothing
+  abbrev pub Begins : Side → Parts I (Publisher (Event W)) S W → Bool → Parts I (Publisher (Event W)) S W → Type 0
+  Begins Shell old started new = Starts old started new
+  Begins Control old started new = (new ≡ old) × (started ≡ false)
+
+  -- A worker of a channel that was given this engine and this inbox did the jobs that came out of the inbox, one after
+  -- the other, in their order, each once, or left them undone. What it leaves tells them, what became of each, and why
+  -- it ended.
+  pub record WorksOff {R : Type 0} (side : Side) (engine : Parts I (Publisher (Event W)) S W)
+      (inbox : List (Option Job)) (ended : Ended I S W R Cell) : Type 0 where
+    pub first : Parts I (Publisher (Event W)) S W
+    pub begins : Begins side engine ended.started first
+    pub turns : TakesTurns (world_of m publisher_sink stamps) (doing_of side)
+        (record { engine = first; inbox = inbox; outcomes = record { answers = []; undone = 0 } }) (Some ended.cause)
+        ended.work
