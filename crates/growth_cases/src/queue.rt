@@ -70,6 +70,8 @@ pub(crate) fn exchange<R: Print + AllocGlobal + Wait + Copy + Drop>(rt: &R) {
     };
     let mut publishers = publishers.into_iter();
     let (Some(mut zero), Some(mut one)) = (publishers.next(), publishers.next()) else {
+        drop(taker);
+        drop(publishers);
         return;
     };
     begin(rt);

@@ -30,14 +30,18 @@ pub(crate) fn pump<R: Print + AllocGlobal + Wait + Copy + Drop>(
     words: &[Vec<u8>],
 ) -> Result<(), AllocError> {
     let alloc = rt.alloc();
+    let events = events_of(alloc, words)?;
     let Ok((publishers, taker)) = open_queue(rt, alloc, 1, 1024) else {
+        drop(events);
         return Err(AllocError);
     };
     let Some(mut publisher) = publishers.into_iter().next() else {
+        drop(taker);
+        drop(events);
         return Err(AllocError);
     };
     let mut relay = Relay::new(alloc, taker);
-    for event in events_of(alloc, words)? {
+    for event in events {
         let _ = publisher.publish(event);
         begin(rt);
         let pumped = relay.pump();
