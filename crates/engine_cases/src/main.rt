@@ -11,7 +11,12 @@
 //! - `each`: there is a fresh engine for each request, and what it comes to is printed behind it;
 //! - `counted`: of what is published is printed how many messages they are;
 //! - `wire`: each other line is hexadecimal digits of what a peer sends, from its greeting on, in place of a request.
-//! Of the session is told how it ends and what was written to the peer.
+//!   Of the session is told how it ends and what was written to the peer. Then there may be, too,
+//! - `width=N`, `fails=N`, `turns=N`: how many octets a read gives at most, which one fails, and how many there may be;
+//! - `takes=N`, `jams=N`: how many octets a write takes at most, and which write fails;
+//! - `N..M` in place of the N of `fails`, `turns` or `jams`: there is a session with each of these in turn. Of each is
+//!   told how it ends, and whether it wrote all that a session without it writes, or a beginning; `counted`, also how
+//!   many octets, and how many messages were published. Places in a row that come to the same share a line.
 //!
 //! Each other line is a request: the id of its message, its type and its content; or `start`, which has the engine say
 //! that it starts. Of each is told what it comes to, in a line; then come the messages that were published, each in a
@@ -21,6 +26,7 @@
 //! its content. All else of it is the same in each, and a message in which it isn't is printed whole.
 #![tactic(auto)]
 
+mod device;
 mod engine;
 mod message;
 mod setup;

@@ -1,5 +1,6 @@
 //! What engine a block has.
 
+use crate::device::Devices;
 use kernel_engine::Side;
 use std::io;
 
@@ -12,6 +13,39 @@ pub(crate) enum Language {
     Letters,
     /// Letters that find no memory.
     Wanting,
+}
+
+/// Sessions that are told one after another: those of each place from the first to the last.
+#[derive(Clone, Copy, Debug)]
+pub(crate) struct Places {
+    /// What the place is of.
+    pub(crate) of: Swept,
+    /// The first place.
+    pub(crate) first: u64,
+    /// The last place.
+    pub(crate) last: u64,
+}
+
+/// What a place is of.
+#[derive(Clone, Copy, Debug, PartialEq, Eq)]
+pub(crate) enum Swept {
+    /// The read that fails.
+    Fails,
+    /// The write that fails.
+    Jams,
+    /// How many reads there may be.
+    Turns,
+}
+
+impl Swept {
+    /// Its key.
+    pub(crate) fn key(self) -> &'static str {
+        match self {
+            Swept::Fails => "fails",
+            Swept::Jams => "jams",
+            Swept::Turns => "turns",
+        }
+    }
 }
 
 /// What engine a block has.
@@ -35,6 +69,10 @@ pub(crate) struct Setup {
     pub(crate) is_counted: bool,
     /// Whether the lines are what a peer sends from its greeting on.
     pub(crate) is_wire: bool,
+    /// How the devices of a session behave.
+    pub(crate) devices: Devices,
+    /// The places at which sessions are told, if it is not one alone.
+    pub(crate) places: Option<Places>,
 }
 
 impl Setup {
@@ -54,14 +92,32 @@ impl Setup {
             is_each: false,
             is_counted: false,
             is_wire: false,
+            devices: Devices::sound(),
+            places: None,
         };
         for word in line.split(' ') {
             match word.split_once('=') {
-                Some((key, number)) => setup.set(key, number_of(number)?)?,
+                Some((key, number)) => setup.say(key, number)?,
                 None => setup.choose(word)?,
             }
         }
         Ok(setup)
+    }
+
+    /// Sets what a key names to a number, or to each number from one to another.
+    fn say(&mut self, key: &str, numbers: &str) -> io::Result<()> {
+        let Some((first, last)) = numbers.split_once("..") else {
+            return self.set(key, number_of(numbers)?);
+        };
+        let of = match key {
+            "fails" => Swept::Fails,
+            "jams" => Swept::Jams,
+            "turns" => Swept::Turns,
+            _ => return Err(io::Error::other("no key of places")),
+        };
+        let (first, last) = (number_of(first)?, number_of(last)?);
+        self.places = Some(Places { of, first, last });
+        Ok(())
     }
 
     /// Sets what a key names.
@@ -71,6 +127,7 @@ impl Setup {
             "first" => self.first = number,
             "last" => self.last = number,
             "call" => self.call = number,
+            _ if self.devices.set(key, number) => {}
             _ => return Err(io::Error::other("no key")),
         }
         Ok(())
