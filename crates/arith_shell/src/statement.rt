@@ -33,13 +33,10 @@ pub(crate) fn run_first(
     ensures lessened { length waiting.new.items + 1 ≡ length waiting.old.items }
 {
     match waiting.pop_front() {
-        Some(statement) => run(
-            alloc,
-            variables,
-            code,
-            statement.as_slice(),
-            waiting.is_empty(),
-        ),
+        Some(statement) => {
+            let last = waiting.is_empty();
+            run(alloc, variables, code, statement.as_slice(), last)
+        }
         None => unreachable!(),
     }
 }

@@ -54,10 +54,10 @@ pub(crate) fn skip(alloc: Global, text: &str, place: usize) -> Result<(), ReadFa
     requires { IsReachable text.now place }
     ensures { Skips text.now place result }
 {
-    let mut at = place;
-    while at < text.len() {
-        let next = next_token(alloc, text, at)?;
-        at = next.behind;
+    let mut reached = place;
+    while reached < text.len() {
+        let next = next_token(alloc, text, reached)?;
+        reached = next.behind;
         drop(next);
     }
     Ok(())
