@@ -120,16 +120,21 @@ Skipped text place at = (found : List Placed) → IsReached text found place
 
 -- none yet
 pub skipped_none : (text : List ℕ) (place : ℕ) → Skipped text place place
-skipped_none text place = λ found reached. ([], subst (λ (ts : List Placed). IsReached text ts place)
-    (sym (append-nil found)) reached)
+skipped_none text place = λ found reached. (
+  [],
+  subst (λ (ts : List Placed). IsReached text ts place)
+      (sym (append-nil found)) reached,
+)
 
 -- one more
 pub skipped_more : (text : List ℕ) (place at : ℕ) (next : Next) → Skipped text place at → ReadsNext text at (Ok next)
     → Skipped text place next.behind
 skipped_more text place at next skipped reads = λ found reached.
-    let so_far = skipped found reached in
-    (so_far.0 ++ next.placed ∷ [], subst (λ (ts : List Placed). IsReached text ts next.behind)
-    (append_assoc found so_far.0 (next.placed ∷ [])) (reads.1 (found ++ so_far.0) so_far.1))
+    let so_far = skipped found reached in (
+      so_far.0 ++ next.placed ∷ [],
+      subst (λ (ts : List Placed). IsReached text ts next.behind)
+          (append_assoc found so_far.0 (next.placed ∷ [])) (reads.1 (found ++ so_far.0) so_far.1),
+    )
 
 -- where the next one stands
 pub skipped_reachable : (text : List ℕ) (place at : ℕ) → Skipped text place at → IsReachable text place

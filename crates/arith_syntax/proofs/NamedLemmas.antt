@@ -41,8 +41,11 @@ pub word_taken : (front rest : List ℕ) → All IsWordCharacter front → (Firs
 word_taken [] rest all longest = none_taken rest longest
 word_taken (c ∷ front) rest all longest =
     take_while-cons is_word_character c (front ++ rest)
-    ∙ rw (is_word c (All-head IsWordCharacter c front all), word_taken front rest (All-tail IsWordCharacter c front all)
-    longest) refl
+    ∙ rw (
+      is_word c (All-head IsWordCharacter c front all),
+      word_taken front rest (All-tail IsWordCharacter c front all)
+          longest,
+    ) refl
 
 -- the run at the beginning of a text
 pub run_taken : (text : List ℕ) (size : ℕ) → IsRun IsWordCharacter text size → take size text

@@ -79,9 +79,12 @@ progress_all text place trees utf8 p all =
     let is : IsTokens (chars text) p.found =
     tokens_chars text p.found utf8 (reached_end text p.found place p.reached all) in
     let cut : sentences (length (chars text)) p.found ≡ p.done ++ sentence_of [] (length (chars text)) ∷ [] =
-    ap (sentences (length (chars text))) (sym (append-nil p.found)) ∙ p.all (length (chars text)) [] in
-    (p.found, is, rw (cut, filter-append has_tokens p.done (sentence_of [] (length (chars text)) ∷ []), append-nil)
-    p.good)
+    ap (sentences (length (chars text))) (sym (append-nil p.found)) ∙ p.all (length (chars text)) [] in (
+      p.found,
+      is,
+      rw (cut, filter-append has_tokens p.done (sentence_of [] (length (chars text)) ∷ []), append-nil)
+          p.good,
+    )
 
 -- one sentence more was read
 sentence_read : (text : List ℕ) (place end : ℕ) (behind : Option ℕ) (tokens : List Placed) (trees new : List Tree)
@@ -89,23 +92,27 @@ sentence_read : (text : List ℕ) (place end : ℕ) (behind : Option ℕ) (token
     → CutsAt text place tokens end behind → Adds (sentence_of tokens end) trees new
     → ReadsOn text place (Ok behind) new
 sentence_read text place end (Some next) tokens trees new p plain cut adds =
-    let semicolon : Placed = cut.1 in
-    (cut.0, record {
-      found = p.found ++ (tokens ++ semicolon ∷ []);
-      reached = cut.4 p.found p.reached;
-      done = p.done ++ sentence_of tokens end ∷ [];
-      all = λ last more.
-          ap (sentences last) (append_assoc p.found (tokens ++ semicolon ∷ []) more
-          ∙ ap (λ ts. p.found ++ ts) (append_assoc tokens (semicolon ∷ []) more))
-          ∙ p.all last (tokens ++ (semicolon ∷ more))
-          ∙ ap (λ more. p.done ++ more) (sentences_cut tokens semicolon more last plain cut.2
-          ∙ ap (λ at. sentence_of tokens at ∷ sentences last more) cut.3)
-          ∙ sym (append_assoc p.done (sentence_of tokens end ∷ []) (sentences last more));
-      good = good_more p.done (sentence_of tokens end) trees new p.good adds;
-    })
-sentence_read text place end None tokens trees new p plain cut adds =
-    (p.found ++ tokens, cut.1 p.found p.reached,
-    rw (sym cut.0, last_one text place trees p tokens end plain) (good_more p.done (sentence_of tokens end) trees new p.good adds))
+    let semicolon : Placed = cut.1 in (
+      cut.0,
+      record {
+        found = p.found ++ (tokens ++ semicolon ∷ []);
+        reached = cut.4 p.found p.reached;
+        done = p.done ++ sentence_of tokens end ∷ [];
+        all = λ last more.
+            ap (sentences last) (append_assoc p.found (tokens ++ semicolon ∷ []) more
+            ∙ ap (λ ts. p.found ++ ts) (append_assoc tokens (semicolon ∷ []) more))
+            ∙ p.all last (tokens ++ (semicolon ∷ more))
+            ∙ ap (λ more. p.done ++ more) (sentences_cut tokens semicolon more last plain cut.2
+            ∙ ap (λ at. sentence_of tokens at ∷ sentences last more) cut.3)
+            ∙ sym (append_assoc p.done (sentence_of tokens end ∷ []) (sentences last more));
+        good = good_more p.done (sentence_of tokens end) trees new p.good adds;
+      },
+    )
+sentence_read text place end None tokens trees new p plain cut adds = (
+  p.found ++ tokens,
+  cut.1 p.found p.reached,
+  rw (sym cut.0, last_one text place trees p tokens end plain) (good_more p.done (sentence_of tokens end) trees new p.good adds),
+)
 
 -- the same of a cut
 pub cut_read : (text : List ℕ) (place : ℕ) (cut : Cut) (tokens : List Placed) (trees new : List Tree)
@@ -138,15 +145,19 @@ fails_first : (text : List ℕ) (place : ℕ) (trees : List Tree) (p : Progress 
     → sentences (length (chars text)) all ≡ p.done ++ (sentence ∷ more) → Fails sentence fault
     → CellMeans (chars text) (Err fault)
 fails_first text place trees p all sentence more fault is cut f =
-    inr (all, is, record {
-      before = filter has_tokens p.done;
-      trees = trees;
-      sentence = sentence;
-      after = filter has_tokens more;
-      all = rw (cut, filter-append has_tokens p.done (sentence ∷ more), f.some) refl;
-      good = p.good;
-      fails = f.means;
-    })
+    inr (
+      all,
+      is,
+      record {
+        before = filter has_tokens p.done;
+        trees = trees;
+        sentence = sentence;
+        after = filter has_tokens more;
+        all = rw (cut, filter-append has_tokens p.done (sentence ∷ more), f.some) refl;
+        good = p.good;
+        fails = f.means;
+      },
+    )
 
 -- the sentence that fails is the last
 fails_last : (text : List ℕ) (place end : ℕ) (tokens : List Placed) (trees : List Tree) (fault : ReadFault)

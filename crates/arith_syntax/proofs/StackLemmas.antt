@@ -73,6 +73,8 @@ room_of_last fs f trees last =
 pub pops_ending : (weak : ℕ) (old new : List Frame) (popped : Option Frame) → ((trees : List Tree)
     → ends_at weak (stack_of old trees) ≡ true) → Pops old popped new → PopsEnding weak old popped new
 pops_ending weak old new None ends pops = (pops.1 ∙ sym pops.0, λ trees. rw pops.0 tt)
-pops_ending weak old new (Some f) ends pops =
-    (pops, λ trees. leb-true (rank (begun_of f trees)) weak
-    (ap (λ fs. ends_at weak (begun_by fs trees)) (sym pops) ∙ ends trees))
+pops_ending weak old new (Some f) ends pops = (
+  pops,
+  λ trees. leb-true (rank (begun_of f trees)) weak
+      (ap (λ fs. ends_at weak (begun_by fs trees)) (sym pops) ∙ ends trees),
+)

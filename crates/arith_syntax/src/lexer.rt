@@ -45,6 +45,7 @@ pub(crate) struct Next {
 }
 
 /// The token at a place that was reached.
+#[inline(always)]
 pub(crate) fn next_token(alloc: Global, text: &str, place: usize) -> Result<Next, ReadFault>
     requires inside { place < length text.now }
     requires reached { IsReachable text.now place }
@@ -65,6 +66,7 @@ pub(crate) fn next_token(alloc: Global, text: &str, place: usize) -> Result<Next
 }
 
 /// The token that a text begins with.
+#[inline(always)]
 fn token(alloc: Global, text: &str) -> Result<Option<Spelled>, ReadFault>
     ensures { BeginsWithToken text.now result }
 {
@@ -90,6 +92,7 @@ fn token(alloc: Global, text: &str) -> Result<Option<Spelled>, ReadFault>
 }
 
 /// The name that a word is.
+#[inline(never)]
 fn name_of(alloc: Global, word: &str) -> Result<Text, ReadFault>
     ensures name { IfOk result (λ name. name ≡ word.now) }
     ensures memory { IfErr result (λ fault. fault ≡ OutOfMemory) }
@@ -145,6 +148,7 @@ fn is_word_character(octet: u8) -> bool
 }
 
 /// The word at a place of a text: the longest run of letters, digits and `_` there, which may be empty.
+#[inline(never)]
 pub fn word_at(text: &str, place: u64) -> &str
     ensures { result.now ≡ word_at text.now place }
 {

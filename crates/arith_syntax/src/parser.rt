@@ -51,6 +51,7 @@ enum Frame {
 
 impl Frame {
     /// The level of the strongest operator that ends the construct.
+    #[inline(always)]
     fn rank(self) -> u8
         ensures { (trees : List Tree) → result ≡ rank (begun_of self trees) }
     {
@@ -213,6 +214,7 @@ impl Parser {
     }
 
     /// Ends the innermost constructs that aren't weaker than a level; the operand becomes their tree.
+    #[inline(always)]
     fn settle(&mut self, text: &str, weakest: u8) -> Result<(), ReadFault>
         requires { weakest ≤ 13 }
         ensures { SettlesTo (settle weakest (around text.now self.old) (tree_of text.now self.old.parts.items)) result
@@ -244,6 +246,7 @@ impl Parser {
     }
 
     /// Takes the innermost construct off, unless it is weaker than a level.
+    #[inline(always)]
     fn pop_ending(&mut self, weakest: u8) -> Option<Frame>
         ensures frame { PopsEnding weakest self.old.frames.items result self.new.frames.items }
         ensures parts { self.new.parts ≡ self.old.parts }
@@ -256,6 +259,7 @@ impl Parser {
     }
 
     /// Whether the innermost construct isn't weaker than a level.
+    #[inline(always)]
     fn ends_at(&self, weakest: u8) -> bool
         ensures { (trees : List Tree) → result ≡ ends_at weakest (stack_of self.now.frames.items trees) }
     {

@@ -72,6 +72,7 @@ impl Part {
 }
 
 /// The parts of the trees before the last one.
+#[inline(always)]
 pub fn parts_before(parts: &[Part]) -> &[Part]
     ensures trees { (text : List ℕ) → trees_in text result.now ≡ before (trees_in text parts.now) }
     ensures fewer { length result.now ≤ length parts.now }

@@ -113,12 +113,7 @@ fn add(
 }
 
 /// The tree of a statement's tokens.
-fn statement(
-    alloc: Global,
-    text: &str,
-    tokens: &[Placed],
-    end: u64,
-) -> Result<Vec<Part>, ReadFault>
+fn statement(alloc: Global, text: &str, tokens: &[Placed], end: u64) -> Result<Vec<Part>, ReadFault>
     requires { All (IsNamed text.now) tokens.now }
     ensures { MatchResult result (λ parts. Means (sentence_of tokens.now end) (Ok (tree_of text.now parts.items)))
         (OrMemory (λ fault. Means (sentence_of tokens.now end) (Err fault))) }

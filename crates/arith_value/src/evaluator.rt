@@ -31,6 +31,7 @@ fn operator_of(op: AssignmentOperator) -> Option<BinaryOperator>
 
 /// What an assignment assigns: its operand, or what its operator gives of the name's value and the operand.
 #[tactic(auto, using(crate::proofs::EvaluateLemmas::chained, crate::proofs::EvaluateLemmas::given))]
+#[inline(always)]
 fn combined(
     op: AssignmentOperator,
     name: &str,
@@ -47,6 +48,7 @@ fn combined(
 
 /// An assignment whose operand has the value `operand`; its value is what was assigned.
 #[tactic(auto, using(crate::proofs::EvaluateLemmas::chained, crate::proofs::EvaluateLemmas::broken))]
+#[inline(always)]
 fn assign(
     alloc: Global,
     name: &str,

@@ -29,8 +29,10 @@ returns c =
     let run : IsRun IsWhite (drop (c.args.place + c.in-Some.spelled.size) c.as_bytes.result.now)
     c.white_size-white.result =
     rw take_rest at c.white_size-white.ensures in
-    let long : 0 < c.in-Some.spelled.size = here.1 in
-    (omega arith, λ found reached. reached_more c.args.text.now found c.args.place c.in-Some.spelled
-    c.white_size-white.result reached here
-    (subst (λ (t : List ℕ). IsRun IsWhite (drop (c.args.place + c.in-Some.spelled.size) t)
-    c.white_size-white.result) text_is run))
+    let long : 0 < c.in-Some.spelled.size = here.1 in (
+      omega arith,
+      λ found reached. reached_more c.args.text.now found c.args.place c.in-Some.spelled
+          c.white_size-white.result reached here
+          (subst (λ (t : List ℕ). IsRun IsWhite (drop (c.args.place + c.in-Some.spelled.size) t)
+          c.white_size-white.result) text_is run),
+    )

@@ -17,10 +17,13 @@ loop-due-preserved c =
     let few : operand_count (get_or c.args.parts.now (c.loop-due.size - 1) (part.Constant 0)) ≤ 3 =
     operand_count-most _ in
     let count : c.operand_count.result ≡ operand_count (get_or c.args.parts.now (c.loop-due.size - 1) (part.Constant 0))
-    = c.operand_count.ensures in
-    (omega arith, omega arith, λ text.
-    rw count (dropped-part text c.loop-due.due c.loop-due.size c.args.parts.now (part.Constant 0) some longer fits
-    (c.loop-due.invariant.2 text)))
+    = c.operand_count.ensures in (
+      omega arith,
+      omega arith,
+      λ text.
+          rw count (dropped-part text c.loop-due.due c.loop-due.size c.args.parts.now (part.Constant 0) some longer fits
+          (c.loop-due.invariant.2 text)),
+    )
 
 pub returns-clause-trees : goal.returns-clause-trees
 returns-clause-trees c = λ text. elim c.loop-due-test.branch [

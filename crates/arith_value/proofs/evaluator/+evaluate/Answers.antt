@@ -14,6 +14,7 @@ returns-in_err-value-in-Unary t c =
     let tree = tree_ends c.args.text.now c.args.parts.now c.in-Some.operands.now c.in-Some.part.now _
     c.in-Some.ensures.cases.0 c.in-Unary.is in
     rw tree (grind (arith, evaluations))
+
 pub returns-in_err-first-in-Binary : goal.returns-in_err-first-in-Binary
 returns-in_err-first-in-Binary t c =
     let tree = tree_ends c.args.text.now c.args.parts.now c.in-Some.operands.now c.in-Some.part.now _
@@ -21,6 +22,7 @@ returns-in_err-first-in-Binary t c =
     let left : tree_of c.args.text.now c.parts_before.result.now ≡ last (before (trees_in c.args.text.now c.in-Some.operands.now)) =
     ap last (c.parts_before.ensures.trees c.args.text.now) in
     rw (tree, ← left) (grind (arith, evaluations))
+
 pub returns-in-Some-decided : goal.returns-in-Some-decided
 returns-in-Some-decided t c =
     let tree = tree_ends c.args.text.now c.args.parts.now c.in-Some.operands.now c.in-Some.part.now _
@@ -53,6 +55,7 @@ returns-in_err-second-in-Binary t c =
     (λ b. give (apply c.in-Binary.op c.in_ok-first-in-Binary.first b))
     c.evaluate-in-Binary.new.variables c.evaluate-in-Binary-2.new.variables c.in_err-second-in-Binary.field-0.0
     c.in_err-second-in-Binary.ensures)))
+
 pub returns-in_err-tested-in-Conditional : goal.returns-in_err-tested-in-Conditional
 returns-in_err-tested-in-Conditional t c =
     let tree = tree_ends c.args.text.now c.args.parts.now c.in-Some.operands.now c.in-Some.part.now _
@@ -71,21 +74,25 @@ returns-in_err-assigned-in-Assignment t c =
     let tree = tree_ends c.args.text.now c.args.parts.now c.in-Some.operands.now c.in-Some.part.now _
     c.in-Some.ensures.cases.0 c.in-Assignment.is in
     rw tree (grind (arith, evaluations))
+
 pub returns-in-Constant : goal.returns-in-Constant
 returns-in-Constant t c =
     let tree = tree_ends c.args.text.now c.args.parts.now c.in-Some.operands.now c.in-Some.part.now _
     c.in-Some.ensures.cases.0 c.in-Constant.is in
     rw (tree, c.constant.ensures) (given _ _)
+
 pub returns-in-Variable : goal.returns-in-Variable
 returns-in-Variable t c =
     let tree = tree_ends c.args.text.now c.args.parts.now c.in-Some.operands.now c.in-Some.part.now _
     c.in-Some.ensures.cases.0 c.in-Variable.is in
     rw tree (grind (arith, evaluations))
+
 pub returns-in-Group : goal.returns-in-Group
 returns-in-Group t c =
     let tree = tree_ends c.args.text.now c.args.parts.now c.in-Some.operands.now c.in-Some.part.now _
     c.in-Some.ensures.cases.0 c.in-Group.is in
     rw tree c.evaluate.ensures
+
 pub returns-in_ok-value-in-Unary : goal.returns-in_ok-value-in-Unary
 returns-in_ok-value-in-Unary t c =
     let tree = tree_ends c.args.text.now c.args.parts.now c.in-Some.operands.now c.in-Some.part.now _
@@ -124,6 +131,7 @@ returns-in_ok-second-in-Binary t c =
     c.in_ok-second-in-Binary.ensures
     (rw applied (given (apply c.in-Binary.op c.in_ok-first-in-Binary.first c.in_ok-second-in-Binary.second)
     c.evaluate-in-Binary-2.new.variables))))
+
 pub returns-then-is_true : goal.returns-then-is_true
 returns-then-is_true t c =
     let tree = tree_ends c.args.text.now c.args.parts.now c.in-Some.operands.now c.in-Some.part.now _
