@@ -1,11 +1,12 @@
 -- Tokens one after the other from a place that was reached.
-use Rattle.std.proofs.Common.{◌≡◌, ℕ, ◌<◌, ◌≤◌, true, false, List, [], ◌∷◌, ◌++◌, length, drop, Some, None, Ok, Err, refl, sym, ap, ◌∙◌, subst, arith}
+use Rattle.std.proofs.Common.{◌≡◌, ℕ, ◌<◌, ◌≤◌, true, false, List, [], ◌∷◌, ◌++◌, length, Some, None, Ok, Err, refl}
+use Rattle.std.proofs.Common.{sym, ap, subst, arith}
 use Rattle.std.proofs.Common.{append_assoc}
 use Rattle.std.specs.List.{All}
 use Rattle.std.specs.Str.{IsUtf8, chars}
 use Rattle.std.proofs.lemmas.List.{append-nil}
 use Rattle.std.proofs.lemmas.List.Elements.{All-drop, All-nil, All-push}
-use Rattle.arith_syntax.specs.Cut.{CutsAt, IsCut, IsWrongFrom}
+use Rattle.arith_syntax.specs.Cut.{IsCut, IsWrongFrom}
 use Rattle.arith_syntax.specs.declared.fault.ReadFault.{ReadFault}
 use Rattle.arith_syntax.specs.declared.fault.ReadFault.TheVariants.{Syntax, TooDeep, OutOfMemory}
 use Rattle.arith_syntax.specs.declared.lexer.Next.{Next}

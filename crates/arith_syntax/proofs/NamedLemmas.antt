@@ -1,19 +1,19 @@
 -- A name is the word at its place.
-use Rattle.std.proofs.Common.{◌≡◌, ℕ, ◌+◌, ◌≤◌, Bool, true, false, cond, List, [], ◌∷◌, ◌++◌, length, take, drop, refl, sym, ap, ◌∙◌, subst, arith, append_assoc}
+use Rattle.std.proofs.Common.{◌≡◌, ℕ, ◌+◌, true, false, List, [], ◌∷◌, ◌++◌, length, take, drop, refl, sym, ap, ◌∙◌}
+use Rattle.std.proofs.Common.{subst, arith, append_assoc}
 use Rattle.std.proofs.Common.{length-append}
 use Rattle.std.specs.Str.{IsUtf8, chars}
 use Rattle.std.specs.List.{All, take_while}
 use Rattle.std.proofs.lemmas.Bool.Decides.{nat_tests}
 use Rattle.std.proofs.lemmas.List.{take-append-drop}
-use Rattle.std.proofs.lemmas.List.Elements.{All-cons, All-head, All-nil, All-tail, All-weaker}
+use Rattle.std.proofs.lemmas.List.Elements.{All-cons, All-head, All-nil, All-tail}
 use Rattle.std.proofs.lemmas.List.Sums.{take_while-cons}
 use Rattle.std.proofs.lemmas.Str.{IsUtf8-from_ascii}
-use Rattle.arith_syntax.specs.declared.token.Token.{Token}
 use Rattle.arith_syntax.specs.declared.token.Token.TheVariants.{Name}
 use Rattle.arith_syntax.specs.declared.token.Placed.{Placed}
 use Rattle.arith_syntax.specs.Lexed.{IsReached, IsRun}
-use Rattle.arith_syntax.specs.Parts.{IsNamed, is_word_character, word_at}
-use Rattle.arith_syntax.specs.Tokens.{FirstCharacterIs, IsToken, IsTokens, IsWord, IsWordCharacter, ReadsTokens}
+use Rattle.arith_syntax.specs.Parts.{IsNamed, is_word_character}
+use Rattle.arith_syntax.specs.Tokens.{FirstCharacterIs, IsToken, IsTokens, IsWordCharacter, ReadsTokens}
 use Rattle.arith_syntax.proofs.OctetLemmas.{octets, of_kind, word}
 
 -- what stands behind a front

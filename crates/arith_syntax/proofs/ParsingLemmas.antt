@@ -107,12 +107,14 @@ refused_leads true next new leads took = absurd (cc)
 refused_leads false next new leads took = leads
 
 -- where the end came, the tree is that of the end
-pub closes_leads : (whole : Bool) (end : Option Tree) (u : Tree) → ClosesTo end (Ok whole) u → whole ≡ true → end ≡ Some u
+pub closes_leads : (whole : Bool) (end : Option Tree) (u : Tree) → ClosesTo end (Ok whole) u → whole ≡ true
+    → end ≡ Some u
 closes_leads true end u closes is = closes
 closes_leads false end u closes is = absurd (cc)
 
 -- where it didn't, there is none
-pub unclosed_leads : (whole : Bool) (end : Option Tree) (u : Tree) → ClosesTo end (Ok whole) u → whole ≡ false → end ≡ None
+pub unclosed_leads : (whole : Bool) (end : Option Tree) (u : Tree) → ClosesTo end (Ok whole) u → whole ≡ false
+    → end ≡ None
 unclosed_leads true end u closes is = absurd (cc)
 unclosed_leads false end u closes is = closes
 

@@ -1,5 +1,5 @@
 -- What parts more make of the state of a parser.
-use Rattle.std.proofs.Common.{◌≡◌, ℕ, ◌≤◌, ◌-◌, suc, Bool, true, Ok, List, [], ◌∷◌, ◌++◌, length, Some, None, refl, sym, ap, ◌∙◌, arith}
+use Rattle.std.proofs.Common.{◌≡◌, ℕ, ◌≤◌, ◌-◌, Bool, true, Ok, List, [], ◌∷◌, ◌++◌, length, Some, refl, sym}
 use Rattle.std.specs.List.{slice_get}
 use Rattle.arith_syntax.specs.declared.parser.Frame.{Frame}
 use Rattle.arith_syntax.specs.declared.parser.Frame.TheVariants as frame
@@ -7,11 +7,11 @@ use Rattle.arith_syntax.specs.declared.parser.Parser.{Parser}
 use Rattle.arith_syntax.specs.declared.part.Part.{Part}
 use Rattle.arith_syntax.specs.declared.part.Part.TheVariants as part
 use Rattle.arith_syntax.specs.Grammar.{Tree}
-use Rattle.arith_syntax.specs.Machine.{Begun, HoldsMore, IsBuilt, IsNameOf, State, StopsAt, begun_by, begun_of, built, left_by, rank}
+use Rattle.arith_syntax.specs.Machine.{Begun, HoldsMore, IsBuilt, IsNameOf, begun_by, begun_of, left_by, rank}
 use Rattle.arith_syntax.specs.Machine.{around, settle, stack_of, take_close, state_at, state_of, turned}
-use Rattle.arith_syntax.specs.Parts.{assembled, before, grown, last, tree_of, trees_in}
+use Rattle.arith_syntax.specs.Parts.{before, grown, last, tree_of, trees_in}
 use Rattle.arith_syntax.proofs.TreeLemmas.{assembled-push, parts-last}
-use Rattle.arith_syntax.proofs.MachineLemmas.{settle_ends, settle_stops}
+use Rattle.arith_syntax.proofs.MachineLemmas.{settle_ends}
 
 -- the last part says whether the tree is a name
 pub name_last : (text : List ℕ) (ps : List Part) (p : Part) (is : Bool) → Some p ≡ slice_get ps (length ps - 1)

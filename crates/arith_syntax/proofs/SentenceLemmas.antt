@@ -1,8 +1,8 @@
 -- Sentences read one after the other, and their trees.
-use Rattle.std.proofs.Common.{◌≡◌, ℕ, ◌<◌, ◌≤◌, true, false, List, [], ◌∷◌, ◌++◌, ◌⊎◌, length, drop, filter, Option, Some, None, Ok, Err, Result, refl, sym, ap, ◌∙◌, subst, inl, inr, arith}
+use Rattle.std.proofs.Common.{◌≡◌, ℕ, ◌≤◌, true, false, List, [], ◌∷◌, ◌++◌, length, filter, Option, Some, None, Ok}
+use Rattle.std.proofs.Common.{Err, refl, sym, ap, ◌∙◌, inl, inr}
 use Rattle.std.proofs.Common.{append_assoc}
 use Rattle.std.specs.List.{All}
-use Rattle.std.specs.Prelude.{⊤, MatchResult}
 use Rattle.std.specs.Str.{IsUtf8, chars}
 use Rattle.std.proofs.lemmas.List.{append-nil}
 use Rattle.std.proofs.lemmas.List.Elements.{All-head, All-tail, filter-append}
@@ -12,11 +12,13 @@ use Rattle.arith_syntax.specs.declared.fault.ReadFault.{ReadFault}
 use Rattle.arith_syntax.specs.declared.fault.ReadFault.TheVariants.{Syntax, TooDeep, OutOfMemory}
 use Rattle.arith_syntax.specs.declared.token.Placed.{Placed}
 use Rattle.arith_syntax.specs.Grammar.{Tree}
-use Rattle.arith_syntax.specs.Lexed.{IsReachable, IsReached, IsRun}
-use Rattle.arith_syntax.specs.Reading.{Sentence, sentence_of, is_semicolon, has_tokens, sentences, AllMean, Adds, CellMeans}
-use Rattle.arith_syntax.specs.Reading.{Fails, FailsFirst, OrMemory}
+use Rattle.arith_syntax.specs.Lexed.{IsRun}
+use Rattle.arith_syntax.specs.Reading.{Sentence, sentence_of, is_semicolon, has_tokens, sentences, AllMean, Adds}
+use Rattle.arith_syntax.specs.Reading.{CellMeans}
+use Rattle.arith_syntax.specs.Reading.{Fails, OrMemory}
 use Rattle.arith_syntax.specs.Tokens.{IsTokens, IsWhite}
 use Rattle.arith_syntax.proofs.CharsLemmas.{tokens_chars}
+use Rattle.arith_syntax.proofs.ReadingLemmas.{OrMemory-map}
 use Rattle.arith_syntax.proofs.TokensReadLemmas.{reached_end, reached_first}
 
 -- `;` as a test of a token with its place
@@ -49,7 +51,8 @@ AllMean-append (x ∷ xs) ys [] us a b = absurd a
 AllMean-append (x ∷ xs) ys (t ∷ ts) us a b = (a.0, AllMean-append xs ys ts us a.1 b)
 
 -- the trees of the sentences that were read, and one more
-good_more : (done : List Sentence) (sentence : Sentence) (trees new : List Tree) → AllMean (filter has_tokens done) trees
+good_more : (done : List Sentence) (sentence : Sentence) (trees new : List Tree)
+    → AllMean (filter has_tokens done) trees
     → Adds sentence trees new → AllMean (filter has_tokens (done ++ sentence ∷ [])) new
 good_more done sentence trees new good adds =
     rw (adds.all, filter-append has_tokens done (sentence ∷ []))
@@ -111,7 +114,8 @@ sentence_read text place end (Some next) tokens trees new p plain cut adds =
 sentence_read text place end None tokens trees new p plain cut adds = (
   p.found ++ tokens,
   cut.1 p.found p.reached,
-  rw (sym cut.0, last_one text place trees p tokens end plain) (good_more p.done (sentence_of tokens end) trees new p.good adds),
+  rw (sym cut.0, last_one text place trees p tokens end plain) (good_more p.done (sentence_of tokens end) trees new
+      p.good adds),
 )
 
 -- the same of a cut
@@ -131,7 +135,11 @@ wrong_read text place trees new OutOfMemory p is = tt
 -- a place behind a sentence was reached
 some_reachable : (text : List ℕ) (place end : ℕ) (behind : Option ℕ) (tokens : List Placed) (trees : List Tree)
     → Progress text place trees → CutsAt text place tokens end behind → IsSomeReachable text behind
-some_reachable text place end (Some next) tokens trees p cut = (p.found ++ (tokens ++ cut.1 ∷ []), cut.4 p.found p.reached)
+some_reachable text place end (Some next) tokens trees p cut = (
+  p.found ++ (tokens ++ cut.1 ∷ []),
+  cut.4 p.found
+      p.reached,
+)
 some_reachable text place end None tokens trees p cut = tt
 
 -- the same of a cut
@@ -184,13 +192,6 @@ fails_before text place next end tokens more trees fault p plain cut is f =
     ∙ ap (λ more. p.done ++ more) (sentences_cut tokens semicolon more last plain cut.2
     ∙ ap (λ at. sentence_of tokens at ∷ sentences last more) cut.3)) f
 
--- a fact of a fault that isn't want of memory
-or_memory : (P Q : ReadFault → Type 0) → ((fault : ReadFault) → P fault → Q fault) → (fault : ReadFault)
-    → OrMemory P fault → OrMemory Q fault
-or_memory P Q f (Syntax place) h = f (Syntax place) h
-or_memory P Q f TooDeep h = f TooDeep h
-or_memory P Q f OutOfMemory h = h
-
 -- the fault that is told of a sentence that has one
 told_read : (text : List ℕ) (place end : ℕ) (behind : Option ℕ) (tokens : List Placed) (trees new : List Tree)
     (fault told : ReadFault) → Progress text place trees
@@ -198,7 +199,7 @@ told_read : (text : List ℕ) (place end : ℕ) (behind : Option ℕ) (tokens : 
     → OrMemory (Fails (sentence_of tokens end)) fault → IsTold text behind fault told
     → ReadsOn text place (Err told) new
 told_read text place end None tokens trees new fault told p plain cut fails is =
-    rw is (or_memory (Fails (sentence_of tokens end)) (λ f. CellMeans (chars text) (Err f))
+    rw is (OrMemory-map (Fails (sentence_of tokens end)) (λ f. CellMeans (chars text) (Err f))
     (λ f h. fails_last text place end tokens trees f p plain cut h) fault fails)
 told_read text place end (Some next) tokens trees new fault (Syntax wrong) p plain cut fails (inl is) =
     inl (is (p.found ++ (tokens ++ cut.1 ∷ [])) (cut.4 p.found p.reached))
@@ -206,7 +207,7 @@ told_read text place end (Some next) tokens trees new fault TooDeep p plain cut 
 told_read text place end (Some next) tokens trees new fault OutOfMemory p plain cut fails (inl is) = tt
 told_read text place end (Some next) tokens trees new fault told p plain cut fails (inr (same, behind)) =
     let more = behind (p.found ++ (tokens ++ cut.1 ∷ [])) (cut.4 p.found p.reached) in
-    rw same (or_memory (Fails (sentence_of tokens end)) (λ f. CellMeans (chars text) (Err f))
+    rw same (OrMemory-map (Fails (sentence_of tokens end)) (λ f. CellMeans (chars text) (Err f))
     (λ f h. fails_before text place next end tokens more.0 trees f p plain cut more.1 h) fault fails)
 
 -- the same of a cut

@@ -1,5 +1,6 @@
 -- The stack of frames, its innermost last, with the innermost first.
-use Rattle.std.proofs.Common.{◌≡◌, ℕ, suc, ◌+◌, ◌-◌, List, [], ◌∷◌, ◌++◌, length, Option, Some, None, nat_le, true, false}
+use Rattle.std.proofs.Common.{◌≡◌, ℕ, suc, ◌+◌, ◌-◌, List, [], ◌∷◌, ◌++◌, length, Option, Some, None, nat_le, true}
+use Rattle.std.proofs.Common.{false}
 use Rattle.std.proofs.Common.{refl, sym, ap, ◌∙◌, arith}
 use Rattle.std.specs.Bool.{◌==◌}
 use Rattle.std.proofs.lemmas.Bool.{ne_eqb, leb-true}
@@ -7,7 +8,7 @@ use Rattle.std.specs.Option.{MatchOption, option_to_list}
 use Rattle.std.specs.List.{slice_get}
 use Rattle.arith_syntax.specs.declared.parser.Frame.{Frame}
 use Rattle.arith_syntax.specs.Grammar.{Tree}
-use Rattle.arith_syntax.specs.Machine.{Begun, begun_of, left_by, begun_by, stack_of, turned, rank, room, room_of}
+use Rattle.arith_syntax.specs.Machine.{begun_of, begun_by, stack_of, turned, rank, room, room_of}
 use Rattle.arith_syntax.specs.Machine.{ends_at, outermost, Pops, PopsEnding, IsWholeStack}
 
 -- a frame more is the innermost
@@ -30,7 +31,8 @@ turned-pop old new None before after old_count new_count all counts =
 turned-pop old new (Some f) before after old_count new_count all counts = ap turned all ∙ turned-push new f
 
 -- a construct is no end
-not_outermost : (fs : List Frame) (f : Frame) (trees : List Tree) (u : Tree) → outermost (begun_by (fs ++ (f ∷ [])) trees) u ≡ None
+not_outermost : (fs : List Frame) (f : Frame) (trees : List Tree) (u : Tree)
+    → outermost (begun_by (fs ++ (f ∷ [])) trees) u ≡ None
 not_outermost [] f trees u = refl
 not_outermost (g ∷ fs) f trees u = refl
 

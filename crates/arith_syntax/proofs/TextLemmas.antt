@@ -1,11 +1,11 @@
 -- From what tokens mean to what their text means.
-use Rattle.std.proofs.Common.{◌≡◌, ℕ, List, filter, length, Result, Ok, Err, MatchResult, inr, sym, ap, subst}
+use Rattle.std.proofs.Common.{◌≡◌, ℕ, List, length, Result, Ok, Err, MatchResult, inr, sym, ap, subst}
 use Rattle.std.specs.Str.{IsUtf8, chars}
 use Rattle.arith_syntax.specs.declared.fault.ReadFault.{ReadFault}
 use Rattle.arith_syntax.specs.declared.token.Placed.{Placed}
 use Rattle.arith_syntax.specs.Grammar.{Tree}
 use Rattle.arith_syntax.specs.Tokens.{IsTokens}
-use Rattle.arith_syntax.specs.Reading.{sentence_of, sentences, has_tokens, AllMean, CellMeans, FailsFirst, Means}
+use Rattle.arith_syntax.specs.Reading.{sentence_of, Means}
 use Rattle.arith_syntax.specs.Reading.{OrMemory, StatementMeans}
 use Rattle.arith_syntax.proofs.OctetLemmas.{octets}
 use Rattle.arith_syntax.proofs.ReadingLemmas.{OrMemory-map}

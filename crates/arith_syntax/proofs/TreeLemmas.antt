@@ -1,5 +1,6 @@
 -- The trees that parts are, part by part.
-use Rattle.std.proofs.Common.{◌≡◌, ℕ, zero, suc, ◌+◌, ◌-◌, ◌<◌, ◌≤◌, ◌⊎◌, inl, inr, Some, List, [], ◌∷◌, ◌++◌, length, take, get_or, refl, sym, ap, ◌∙◌, arith}
+use Rattle.std.proofs.Common.{◌≡◌, ℕ, zero, suc, ◌+◌, ◌-◌, ◌<◌, ◌≤◌, ◌⊎◌, inl, inr, Some, List, [], ◌∷◌, ◌++◌, length}
+use Rattle.std.proofs.Common.{take, get_or, refl, sym, ap, ◌∙◌, arith}
 use Rattle.std.specs.List.{slice_get}
 use Rattle.std.proofs.lemmas.List.{take_all, take_more}
 use Rattle.arith_syntax.specs.declared.part.Part.{Part}
@@ -8,7 +9,8 @@ use Rattle.arith_syntax.specs.Grammar.{Tree}
 use Rattle.arith_syntax.specs.Parts.{assembled, before, grown, last, name_of, operand_count, tree_of, trees_in}
 
 -- the trees after one part more
-pub assembled-push : (text : List ℕ) (trees : List Tree) (ps : List Part) (p : Part) → assembled text trees (ps ++ p ∷ [])
+pub assembled-push : (text : List ℕ) (trees : List Tree) (ps : List Part) (p : Part)
+    → assembled text trees (ps ++ p ∷ [])
     ≡ grown text p (assembled text trees ps)
 assembled-push text trees [] p = refl
 assembled-push text trees (q ∷ ps) p = assembled-push text (grown text q trees) ps p

@@ -249,7 +249,8 @@ Pops old (Some f) new = turned old ≡ f ∷ turned new
 -- the innermost frame, taken off unless it is weaker than a level
 abbrev pub PopsEnding : ℕ → List Frame → Option Frame → List Frame → Type 0
 PopsEnding weak old None new = (turned new ≡ turned old) × ((trees : List Tree) → StopsAt weak (stack_of old trees))
-PopsEnding weak old (Some f) new = (turned old ≡ f ∷ turned new) × ((trees : List Tree) → rank (begun_of f trees) ≤ weak)
+PopsEnding weak old (Some f) new = (turned old ≡ f ∷ turned new) × ((trees : List Tree)
+    → rank (begun_of f trees) ≤ weak)
 
 -- the innermost frame, taken off, which is a `?`, or `:` can't follow
 abbrev pub PopsCondition : List Frame → Bool → List Frame → Type 0

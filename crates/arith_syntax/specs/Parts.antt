@@ -1,12 +1,11 @@
 -- Trees as the program keeps them: their parts in a row, each behind the parts that it is made of. A name is the place
 -- of its word in the text.
-use Rattle.std.specs.Prelude.{◌≡◌, ℕ, Bool, ◌||◌, ◌&&◌, ◌==◌, ⊤, List, [], ◌∷◌, drop, map}
+use Rattle.std.specs.Prelude.{◌≡◌, ℕ, Bool, ◌||◌, ◌&&◌, ◌==◌, List, [], ◌∷◌, drop, map}
 use Rattle.std.specs.Bool.{nat_le}
 use Rattle.std.specs.Global.{Vec}
 use Rattle.std.specs.List.{take_while}
 use Rattle.arith_syntax.specs.declared.part.Part.{Part}
 use Rattle.arith_syntax.specs.declared.part.Part.TheVariants as part
-use Rattle.arith_syntax.specs.declared.token.Token.{Token}
 use Rattle.arith_syntax.specs.declared.token.Token.TheVariants.{Name}
 use Rattle.arith_syntax.specs.declared.token.Placed.{Placed}
 use Rattle.arith_syntax.specs.Grammar.{Tree, Number, Variable, Group, Unary, Binary, Conditional, Assignment}

@@ -1,5 +1,6 @@
 -- Evaluations one after the other: how a program's answers join to that of the whole.
-use Rattle.std.proofs.Common.{◌≡◌, ℕ, List, Some, ℤ, [], ◌∷◌, ◌++◌, Result, Ok, Err, Option, None, refl, ap, sym, subst, ◌∙◌}
+use Rattle.std.proofs.Common.{◌≡◌, ℕ, List, Some, ℤ, [], ◌∷◌, ◌++◌, Result, Ok, Err, Option, None, refl, ap, sym}
+use Rattle.std.proofs.Common.{subst, ◌∙◌}
 use Rattle.std.proofs.Common.{append_assoc, Bool, FitsSigned, w64, to_z, of_z}
 use Rattle.std.specs.Prelude.{if◌then◌else◌}
 use Rattle.std.proofs.lemmas.Int.{to_z-of_z}

@@ -1,4 +1,4 @@
-use Rattle.std.proofs.Common.{◌≡◌, List}
+use Rattle.std.proofs.Common.{List}
 use Rattle.arith_syntax.specs.declared.part.Part.{Part}
 use Rattle.arith_syntax.specs.Parts.{tree_of}
 use Rattle.arith_shell.specs.ShellArithmetic.{IsPrintedValue}

@@ -1,6 +1,7 @@
 use Rattle.std.proofs.Common.{sym, ◌∙◌}
 use Rattle.std.proofs.lemmas.Result.{err_from_is_err_and}
-use Rattle.arith_syntax.proofs.CutLemmas.{cut_ended, cut_fault, cut_whole, cutting_more, cutting_none, cutting_reachable}
+use Rattle.arith_syntax.proofs.CutLemmas.{cut_ended, cut_fault, cut_whole, cutting_more, cutting_none}
+use Rattle.arith_syntax.proofs.CutLemmas.{cutting_reachable}
 use Rattle.arith_syntax.proofs.cutting.cut_sentence.Goals as goal
 
 pub loop-at-init : goal.loop-at-init

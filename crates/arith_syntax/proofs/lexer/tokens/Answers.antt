@@ -1,4 +1,3 @@
-use Rattle.std.proofs.Common.{◌≡◌, ◌<◌, ◌∙◌, length, arith}
 use Rattle.std.proofs.lemmas.Result.{err_from_is_err_and}
 use Rattle.arith_syntax.specs.Tokens.{IsWhite}
 use Rattle.arith_syntax.specs.Lexed.{IsRun}

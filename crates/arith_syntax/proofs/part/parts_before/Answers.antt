@@ -1,7 +1,7 @@
-use Rattle.std.proofs.Common.{◌≡◌, ◌≤◌, ◌<◌, ◌+◌, ◌-◌, ◌*◌, ℕ, List, inl, inr, length, take, get_or, subst, sym, arith}
+use Rattle.std.proofs.Common.{◌≡◌, ◌≤◌, ◌<◌, ◌+◌, ◌-◌, ◌*◌, inl, inr, length, get_or, arith}
 use Rattle.arith_syntax.specs.declared.part.Part.TheVariants as part
-use Rattle.arith_syntax.specs.Parts.{before, operand_count, trees_in}
-use Rattle.arith_syntax.proofs.TreeLemmas.{dropped, dropped-end, dropped-first, dropped-part, operand_count-most}
+use Rattle.arith_syntax.specs.Parts.{operand_count}
+use Rattle.arith_syntax.proofs.TreeLemmas.{dropped-end, dropped-first, dropped-part, operand_count-most}
 use Rattle.arith_syntax.proofs.part.parts_before.Goals as goal
 use Rattle.arith_syntax.proofs.part.parts_before.Goals.{then-loop-due-test+else-size-ne0, else-loop-due-test}
 

@@ -1,4 +1,4 @@
-use Rattle.std.proofs.Common.{◌≡◌, ◌≤◌, ◌+◌, ◌*◌, ◌-◌, ℕ, List, length, take}
+use Rattle.std.proofs.Common.{◌≡◌, ◌≤◌, ◌+◌, ◌*◌, ℕ, List, length, take}
 use Rattle.arith_syntax.specs.Parts.{before, trees_in}
 use Rattle.arith_syntax.proofs.TreeLemmas.{dropped}
 use Rattle.arith_syntax.proofs.part.parts_before.Given as goal

@@ -1,4 +1,3 @@
-use Rattle.std.proofs.Common.{[]}
 use Rattle.arith_syntax.specs.Lexed.{IsRun}
 use Rattle.arith_syntax.specs.Parts.{trees_of}
 use Rattle.arith_syntax.specs.Tokens.{IsWhite}

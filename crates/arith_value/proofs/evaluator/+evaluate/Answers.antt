@@ -1,12 +1,11 @@
-use Rattle.std.proofs.Common.{rules, ◌≡◌, ℕ, List, Err, ap, subst, sym, ◌∙◌, true, false, FitsSigned, w64, to_z, of_z, arith}
+use Rattle.std.proofs.Common.{rules, ◌≡◌, ap, ◌∙◌, true, false, FitsSigned, w64, to_z, of_z, arith}
 use Rattle.std.proofs.lemmas.Result.{err_from_is_err_and}
 use Rattle.std.proofs.lemmas.Int.{to_z-of_z}
-use Rattle.arith_syntax.specs.Grammar.{Tree}
-use Rattle.arith_syntax.specs.Parts.{before, grown, last, name_of, tree_of, trees_in}
-use Rattle.arith_syntax.proofs.TreeLemmas.{tree_behind}
+use Rattle.arith_syntax.specs.Parts.{before, last, name_of, tree_of, trees_in}
 use Rattle.arith_value.specs.Operators.{apply, unary}
-use Rattle.arith_value.specs.Value.{Evaluates, value, assignment_of, give}
-use Rattle.arith_value.proofs.EvaluateLemmas.{branched, broken, chained, evaluations, given, operated, settled, tree_ends}
+use Rattle.arith_value.specs.Value.{value, assignment_of, give}
+use Rattle.arith_value.proofs.EvaluateLemmas.{branched, broken, chained, evaluations, given, operated, settled}
+use Rattle.arith_value.proofs.EvaluateLemmas.{tree_ends}
 use Rattle.arith_value.proofs.evaluator.+evaluate.Goals as goal
 
 pub returns-in_err-value-in-Unary : goal.returns-in_err-value-in-Unary
@@ -19,7 +18,8 @@ pub returns-in_err-first-in-Binary : goal.returns-in_err-first-in-Binary
 returns-in_err-first-in-Binary t c =
     let tree = tree_ends c.args.text.now c.args.parts.now c.in-Some.operands.now c.in-Some.part.now _
     c.in-Some.ensures.cases.0 c.in-Binary.is in
-    let left : tree_of c.args.text.now c.parts_before.result.now ≡ last (before (trees_in c.args.text.now c.in-Some.operands.now)) =
+    let left : tree_of c.args.text.now c.parts_before.result.now
+    ≡ last (before (trees_in c.args.text.now c.in-Some.operands.now)) =
     ap last (c.parts_before.ensures.trees c.args.text.now) in
     rw (tree, ← left) (grind (arith, evaluations))
 
@@ -27,7 +27,8 @@ pub returns-in-Some-decided : goal.returns-in-Some-decided
 returns-in-Some-decided t c =
     let tree = tree_ends c.args.text.now c.args.parts.now c.in-Some.operands.now c.in-Some.part.now _
     c.in-Some.ensures.cases.0 c.in-Binary.is in
-    let left : tree_of c.args.text.now c.parts_before.result.now ≡ last (before (trees_in c.args.text.now c.in-Some.operands.now)) =
+    let left : tree_of c.args.text.now c.parts_before.result.now
+    ≡ last (before (trees_in c.args.text.now c.in-Some.operands.now)) =
     ap last (c.parts_before.ensures.trees c.args.text.now) in
     let fits : FitsSigned w64 c.in_ok-first-in-Binary.first = search rules in
     let fits_too : FitsSigned w64 c.in-Some-decided.value = search rules in
@@ -41,7 +42,8 @@ pub returns-in_err-second-in-Binary : goal.returns-in_err-second-in-Binary
 returns-in_err-second-in-Binary t c =
     let tree = tree_ends c.args.text.now c.args.parts.now c.in-Some.operands.now c.in-Some.part.now _
     c.in-Some.ensures.cases.0 c.in-Binary.is in
-    let left : tree_of c.args.text.now c.parts_before.result.now ≡ last (before (trees_in c.args.text.now c.in-Some.operands.now)) =
+    let left : tree_of c.args.text.now c.parts_before.result.now
+    ≡ last (before (trees_in c.args.text.now c.in-Some.operands.now)) =
     ap last (c.parts_before.ensures.trees c.args.text.now) in
     let fits : FitsSigned w64 c.in_ok-first-in-Binary.first = search rules in
     let fault = err_from_is_err_and c.from_residual-in_err-second-in-Binary.result
@@ -109,7 +111,8 @@ pub returns-in_ok-second-in-Binary : goal.returns-in_ok-second-in-Binary
 returns-in_ok-second-in-Binary t c =
     let tree = tree_ends c.args.text.now c.args.parts.now c.in-Some.operands.now c.in-Some.part.now _
     c.in-Some.ensures.cases.0 c.in-Binary.is in
-    let left : tree_of c.args.text.now c.parts_before.result.now ≡ last (before (trees_in c.args.text.now c.in-Some.operands.now)) =
+    let left : tree_of c.args.text.now c.parts_before.result.now
+    ≡ last (before (trees_in c.args.text.now c.in-Some.operands.now)) =
     ap last (c.parts_before.ensures.trees c.args.text.now) in
     let fits : FitsSigned w64 c.in_ok-first-in-Binary.first = search rules in
     let fits_too : FitsSigned w64 c.in_ok-second-in-Binary.second = search rules in
@@ -176,7 +179,8 @@ returns-in_ok-assigned-in-Assignment t c =
     c.in-Some.ensures.cases.0 c.in-Assignment.is in
     let fits : FitsSigned w64 c.in_ok-assigned-in-Assignment.assigned = search rules in
     let name : c.name_of.result.now ≡ name_of (last (before (trees_in c.args.text.now c.in-Some.operands.now))) =
-    c.name_of.ensures ∙ ap (λ trees. name_of (last trees)) (c.parts_before-in-Assignment.ensures.trees c.args.text.now) in
+    c.name_of.ensures ∙ ap (λ trees. name_of (last trees)) (c.parts_before-in-Assignment.ensures.trees
+    c.args.text.now) in
     rw (tree, ← name)
     (chained (value (tree_of c.args.text.now c.in-Some.operands.now))
     (λ a. assignment_of c.name_of.result.now c.in-Assignment.op a)

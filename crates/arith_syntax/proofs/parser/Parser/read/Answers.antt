@@ -1,4 +1,4 @@
-use Rattle.std.proofs.Common.{ap, ◌∙◌, inl, inr}
+use Rattle.std.proofs.Common.{inl, inr}
 use Rattle.arith_syntax.specs.Machine.{state_of, advance, close}
 use Rattle.arith_syntax.specs.Parts.{tree_of}
 use Rattle.arith_syntax.proofs.ParsingLemmas.{one_more_taken, taken_leads, refused_leads, refused_at, all_taken}

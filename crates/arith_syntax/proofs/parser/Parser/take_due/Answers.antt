@@ -1,5 +1,4 @@
 use Rattle.std.proofs.Common.{ap, sym, Some}
-use Rattle.arith_syntax.specs.Grammar.{Number, Variable}
 use Rattle.arith_syntax.specs.declared.part.Part.TheVariants as part
 use Rattle.arith_syntax.proofs.PartLemmas.{state_held}
 use Rattle.arith_syntax.proofs.parser.Parser.take_due.Goals as goal
