@@ -25,10 +25,10 @@ fn word_of(alloc: Global, placed: &Placed) -> Result<String, AllocError> {
     }
 }
 
-/// The tree of a statement, or its fault.
+/// The tree of a statement as its parts in a row, or its fault.
 pub(crate) fn tree(alloc: Global, statement: &str) -> Result<String, AllocError> {
     match read_statement(alloc, statement) {
-        Ok(tree) => format!(in alloc; "{tree:?}"),
+        Ok(parts) => format!(in alloc; "{parts:?}"),
         Err(fault) => format!(in alloc; "{fault}"),
     }
 }

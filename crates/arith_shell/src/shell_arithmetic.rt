@@ -10,7 +10,7 @@ ghost use Rattle.arith_shell.specs.ShellArithmetic.{GivesUp, IsEvaluated, IsRead
 use crate::cursor::{word_around, word_before};
 use crate::fault::{from_read, from_value};
 use crate::statement::{run_first, value_text};
-use arith_syntax::{Expression, ReadFault, read_cell, read_statement};
+use arith_syntax::{Part, ReadFault, read_cell, read_statement};
 use arith_value::Variables;
 use interp_core::{Completeness, Completion, Info, InterpFault, Interpreter, Stepped};
 use listed::{Row, Text};
@@ -21,21 +21,24 @@ use std::marker::Model;
 /// The statements of a cell that haven't run yet: a contract sees the list of their trees.
 #[derive(Drop)]
 pub struct Statements {
-    /// The trees, in their order.
-    waiting: VecDeque<Expression>,
+    /// The text of the cell, in which the names stand.
+    code: Text,
+    /// The parts of each tree, in their order.
+    waiting: VecDeque<Vec<Part>>,
 }
 
 impl Model for Statements {
-    ghost use Rattle.std.specs.Prelude.{List, map};
+    ghost use Rattle.std.specs.Prelude.{List};
     ghost use Rattle.std.specs.Coded.{coded_list};
-    ghost use Rattle.arith_syntax.specs.Grammar.{Tree, tree_of};
+    ghost use Rattle.arith_syntax.specs.Grammar.{Tree};
+    ghost use Rattle.arith_syntax.specs.Parts.{trees_of};
     ghost use Rattle.arith_syntax.specs.TreeCode.{tree_code};
 
     ghost Value = { List Tree };
 
     ghost coded = { coded_list tree_code };
 
-    ghost view = { λ s. map tree_of s.waiting.items };
+    ghost view = { λ s. trees_of s.code s.waiting.items };
 }
 
 /// POSIX shell arithmetic in 64 bits (POSIX.1-2017, XCU 2.6.4, in the profile of docs/ARITHMETIC.md): a contract sees
@@ -85,7 +88,12 @@ impl Interpreter for ShellArith {
     }
 
     fn step(&mut self, alloc: Global, cell: &mut Statements) -> Stepped {
-        run_first(alloc, &mut self.variables, &mut cell.waiting)
+        run_first(
+            alloc,
+            &mut self.variables,
+            cell.code.as_str(),
+            &mut cell.waiting,
+        )
     }
 
     fn complete(&self, alloc: Global, code: &str, cursor: u64) -> Result<Completion, InterpFault> {
@@ -162,7 +170,13 @@ fn read(alloc: Global, code: &str) -> Result<Statements, InterpFault>
     ensures { Answers (IsRead code.now) result }
 {
     match read_cell(alloc, code) {
-        Ok(waiting) => Ok(Statements { waiting }),
+        Ok(waiting) => match text(alloc, code) {
+            Ok(code) => Ok(Statements { code, waiting }),
+            Err(fault) => {
+                drop(waiting);
+                Err(fault)
+            }
+        },
         Err(fault) => Err(from_read(fault)),
     }
 }
@@ -173,7 +187,7 @@ fn evaluate_text(alloc: Global, variables: &mut Variables, text: &str) -> Result
     ensures refused { OnMemory result (GivesUp variables.old text.now variables.new) }
 {
     match read_statement(alloc, text) {
-        Ok(tree) => value_text(alloc, variables, &tree),
+        Ok(parts) => value_text(alloc, variables, text, parts.as_slice()),
         Err(fault) => Err(from_read(fault)),
     }
 }

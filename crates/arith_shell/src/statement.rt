@@ -1,7 +1,8 @@
 //! The statements of a cell, run one at a time.
 
-ghost use Rattle.std.specs.Prelude.{◌≡◌, ◌+◌, ◌<◌, List, [], ◌∷◌, ◌++◌, codes, map, length, MatchResult};
-ghost use Rattle.arith_syntax.specs.Grammar.{Tree, tree_of};
+ghost use Rattle.std.specs.Prelude.{◌≡◌, ◌+◌, ◌<◌, List, [], ◌∷◌, ◌++◌, codes, length, MatchResult};
+ghost use Rattle.arith_syntax.specs.Grammar.{Tree};
+ghost use Rattle.arith_syntax.specs.Parts.{tree_of, trees_of};
 ghost use Rattle.arith_value.specs.Value.{Stops, value};
 ghost use Rattle.interp_core.specs.declared.answer.Next.TheVariants.{Failed};
 ghost use Rattle.interp_core.specs.declared.answer.Output.TheVariants.{Stdout};
@@ -10,39 +11,50 @@ ghost use Rattle.interp_core.specs.Interpreter.{ByMemory};
 ghost use Rattle.arith_shell.specs.ShellArithmetic.{BreaksOff, IsLast, IsPrintedValue, Runs};
 
 use crate::fault::from_value;
-use arith_syntax::Expression;
+use arith_syntax::Part;
 use arith_value::{Variables, evaluate};
 use interp_core::{InterpFault, Next, Output, Stepped};
 use listed::{Row, Text};
 use std::alloc::Global;
 use std::collections::VecDeque;
 
-/// Runs the first of some statements, of which there is one.
+/// Runs the first of some statements of a text, of which there is one.
 pub(crate) fn run_first(
     alloc: Global,
     variables: &mut Variables,
-    waiting: &mut VecDeque<Expression>,
+    code: &str,
+    waiting: &mut VecDeque<Vec<Part>>,
 ) -> Stepped
     requires { 0 < length waiting.old.items }
     ensures stepped { ByMemory result.next
-        ((result.outputs ≡ []) × BreaksOff variables.old (map tree_of waiting.old.items) variables.new)
-        (Runs variables.old (map tree_of waiting.old.items) result variables.new (map tree_of waiting.new.items)) }
+        ((result.outputs ≡ []) × BreaksOff variables.old (trees_of code.now waiting.old.items) variables.new)
+        (Runs variables.old (trees_of code.now waiting.old.items) result variables.new
+        (trees_of code.now waiting.new.items)) }
     ensures lessened { length waiting.new.items + 1 ≡ length waiting.old.items }
 {
     match waiting.pop_front() {
-        Some(statement) => run(alloc, variables, &statement, waiting.is_empty()),
+        Some(statement) => {
+            let last = waiting.is_empty();
+            run(alloc, variables, code, statement.as_slice(), last)
+        }
         None => unreachable!(),
     }
 }
 
 /// Runs a statement, which may be the last of its cell.
-fn run(alloc: Global, variables: &mut Variables, statement: &Expression, last: bool) -> Stepped
+fn run(
+    alloc: Global,
+    variables: &mut Variables,
+    code: &str,
+    statement: &[Part],
+    last: bool,
+) -> Stepped
     ensures { ByMemory result.next
-        ((result.outputs ≡ []) × Stops (value (tree_of statement.now)) variables.old variables.new)
-        ((left : List Tree) → IsLast last left → Runs variables.old (tree_of statement.now ∷ left) result variables.new
-        left) }
+        ((result.outputs ≡ []) × Stops (value (tree_of code.now statement.now)) variables.old variables.new)
+        ((left : List Tree) → IsLast last left → Runs variables.old (tree_of code.now statement.now ∷ left) result
+        variables.new left) }
 {
-    match value_text(alloc, variables, statement) {
+    match value_text(alloc, variables, code, statement) {
         Ok(text) if last => Stepped {
             outputs: Row::new(Vec::new(alloc)),
             next: Next::Done(Some(text)),
@@ -80,15 +92,16 @@ fn failed(alloc: Global, fault: InterpFault) -> Stepped
     }
 }
 
-/// The value of an expression as it is printed.
+/// The value of a statement of a text as it is printed.
 pub(crate) fn value_text(
     alloc: Global,
     variables: &mut Variables,
-    expression: &Expression,
+    code: &str,
+    statement: &[Part],
 ) -> Result<Text, InterpFault>
-    ensures { IsPrintedValue (tree_of expression.now) variables.old result variables.new }
+    ensures { IsPrintedValue (tree_of code.now statement.now) variables.old result variables.new }
 {
-    let value = evaluate(alloc, expression, variables).map_err(from_value)?;
+    let value = evaluate(alloc, code, statement, variables).map_err(from_value)?;
     let text = format!(in alloc; "{value}")?;
     Ok(Text::new(text))
 }

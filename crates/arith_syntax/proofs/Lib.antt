@@ -1,14 +1,18 @@
 mod AsciiLemmas
 mod CharsLemmas
 mod CompleteLemmas
+mod CutLemmas
 mod ConstantLemmas
 mod LexerLemmas
 mod MachineLemmas
+mod NamedLemmas
 mod NumberLemmas
 mod OctetLemmas
 mod OnceLemmas
 mod ParsingLemmas
+mod PartLemmas
 mod ReadingLemmas
+mod SentenceLemmas
 mod TokensReadLemmas
 mod SignLemmas
 mod SoundLemmas
@@ -18,3 +22,4 @@ mod TextLemmas
 mod TokenLawLemmas
 mod TokenLemmas
 pub mod Theorems
+pub mod TreeLemmas

@@ -7,7 +7,7 @@ use Rattle.arith_syntax.specs.declared.token.Placed.{Placed}
 use Rattle.arith_syntax.specs.Grammar.{Tree, IsStatement}
 use Rattle.arith_syntax.specs.Reading.{Sentence, FailsAtToken, FailsAtEnd, tokens_of}
 use Rattle.arith_syntax.specs.Parsing.{HaveOneTree}
-use Rattle.arith_syntax.specs.Machine.{State, advance, start, run, close, LeadsTo}
+use Rattle.arith_syntax.specs.Machine.{State, advance, start, run, close, ClosesTo, LeadsTo}
 use Rattle.arith_syntax.proofs.MachineLemmas.{run_none, run_append}
 use Rattle.arith_syntax.proofs.CompleteLemmas.{statement_taken}
 use Rattle.arith_syntax.proofs.TakenLemmas.{IsSound, run_sound, sound_begins, ClosesWell, close_well}
@@ -105,6 +105,18 @@ pub refused_leads : (took : Bool) (next : Option State) (new : State) → LeadsT
     ≡ None
 refused_leads true next new leads took = absurd (cc)
 refused_leads false next new leads took = leads
+
+-- where the end came, the tree is that of the end
+pub closes_leads : (whole : Bool) (end : Option Tree) (u : Tree) → ClosesTo end (Ok whole) u → whole ≡ true
+    → end ≡ Some u
+closes_leads true end u closes is = closes
+closes_leads false end u closes is = absurd (cc)
+
+-- where it didn't, there is none
+pub unclosed_leads : (whole : Bool) (end : Option Tree) (u : Tree) → ClosesTo end (Ok whole) u → whole ≡ false
+    → end ≡ None
+unclosed_leads true end u closes is = absurd (cc)
+unclosed_leads false end u closes is = closes
 
 -- the token at which the parser stops is the first fault
 pub refused_at : (tokens : List Placed) (end i : ℕ) (token : Placed) (s : State) → i < length tokens → token

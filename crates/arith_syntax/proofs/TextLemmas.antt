@@ -1,11 +1,11 @@
 -- From what tokens mean to what their text means.
-use Rattle.std.proofs.Common.{◌≡◌, ℕ, List, filter, length, Result, Ok, Err, MatchResult, inr, sym, ap, subst}
+use Rattle.std.proofs.Common.{◌≡◌, ℕ, List, length, Result, Ok, Err, MatchResult, inr, sym, ap, subst}
 use Rattle.std.specs.Str.{IsUtf8, chars}
 use Rattle.arith_syntax.specs.declared.fault.ReadFault.{ReadFault}
 use Rattle.arith_syntax.specs.declared.token.Placed.{Placed}
 use Rattle.arith_syntax.specs.Grammar.{Tree}
 use Rattle.arith_syntax.specs.Tokens.{IsTokens}
-use Rattle.arith_syntax.specs.Reading.{sentence_of, sentences, has_tokens, AllMean, CellMeans, FailsFirst, Means}
+use Rattle.arith_syntax.specs.Reading.{sentence_of, Means}
 use Rattle.arith_syntax.specs.Reading.{OrMemory, StatementMeans}
 use Rattle.arith_syntax.proofs.OctetLemmas.{octets}
 use Rattle.arith_syntax.proofs.ReadingLemmas.{OrMemory-map}
@@ -32,20 +32,3 @@ statement_means tree text read tokens utf8 same is r =
     (λ fault. Means (sentence_of read (length text)) (Err fault)) (λ fault. StatementMeans (chars text) (Err fault))
     (λ t h. (read, is_read, subst (λ n. Means (sentence_of read n) (Ok (tree t))) long h))
     (λ fault h. inr (read, is_read, subst (λ n. Means (sentence_of read n) (Err fault)) long h))
-
--- a cell
-pub cell_means : {T : Type 0} (trees : T → List Tree) (text : List ℕ) (read tokens : List Placed) → IsUtf8 text → read
-    ≡ tokens → IsTokens (chars text) tokens → (r : Result T ReadFault)
-    → MatchResult r (λ t. AllMean (filter has_tokens (sentences (length text) read)) (trees t))
-    (OrMemory (FailsFirst (filter has_tokens (sentences (length text) read))))
-    → MatchResult r (λ t. CellMeans (chars text) (Ok (trees t)))
-    (OrMemory (λ fault. CellMeans (chars text) (Err fault)))
-cell_means trees text read tokens utf8 same is r =
-    let is_read : IsTokens (chars text) read = subst (IsTokens (chars text)) (sym same) is in
-    let long : length text ≡ length (chars text) = ap length (sym (octets text read utf8 is_read)) in
-    result_map r
-    (λ t. AllMean (filter has_tokens (sentences (length text) read)) (trees t))
-    (λ t. CellMeans (chars text) (Ok (trees t)))
-    (FailsFirst (filter has_tokens (sentences (length text) read))) (λ fault. CellMeans (chars text) (Err fault))
-    (λ t h. (read, is_read, subst (λ n. AllMean (filter has_tokens (sentences n read)) (trees t)) long h))
-    (λ fault h. inr (read, is_read, subst (λ n. FailsFirst (filter has_tokens (sentences n read)) fault) long h))

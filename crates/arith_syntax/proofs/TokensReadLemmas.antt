@@ -10,20 +10,9 @@ use Rattle.arith_syntax.specs.declared.spelled.Spelled.{Spelled}
 use Rattle.arith_syntax.specs.declared.token.Token.{Token}
 use Rattle.arith_syntax.specs.declared.token.Placed.{Placed}
 use Rattle.arith_syntax.specs.Tokens.{FirstCharacterIs, IsWhite, IsToken, ReadsTokens, IsTokens, IsWrongAt}
-use Rattle.arith_syntax.specs.Lexed.{IsRun, BeginsWithToken}
+use Rattle.arith_syntax.specs.Lexed.{IsReached, IsRun, BeginsWithToken}
 use Rattle.arith_syntax.proofs.AsciiLemmas.{IsAsciiCharacter, utf8_behind}
 use Rattle.arith_syntax.proofs.TokenLemmas.{token_ascii}
-
--- the tokens of a text up to a place at which no white space stands
-pub record IsReached (text : List ℕ) (found : List Placed) (place : ℕ) : Type 0 where
-  pub fits : place ≤ length text
-  pub end : ℕ
-  pub white : List ℕ
-  pub reads : ReadsTokens 0 text found end (white ++ drop place text)
-  pub blank : All IsWhite white
-  pub there : place ≡ end + length white
-  pub visible : FirstCharacterIs IsWhite (drop place text) → ⊥
-  pub utf8 : IsUtf8 (drop place text)
 
 -- white space is ASCII
 pub white_ascii : (c : ℕ) → IsWhite c → IsAsciiCharacter c

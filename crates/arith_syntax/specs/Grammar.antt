@@ -19,8 +19,6 @@ use Rattle.arith_syntax.specs.declared.operator.BinaryOperator.TheVariants as bi
 use Rattle.arith_syntax.specs.declared.operator.UnaryOperator.{UnaryOperator}
 use Rattle.arith_syntax.specs.declared.operator.UnaryOperator.TheVariants as unary
 use Rattle.arith_syntax.specs.declared.operator.AssignmentOperator.{AssignmentOperator}
-use Rattle.arith_syntax.specs.declared.expression.Expression.{Expression}
-use Rattle.arith_syntax.specs.declared.expression.Expression.TheVariants as expression
 use Rattle.arith_syntax.specs.declared.token.Token.{Token}
 use Rattle.arith_syntax.specs.declared.token.Token.TheVariants.{Constant, Name, Operator, Assign, Complement, Not}
 use Rattle.arith_syntax.specs.declared.token.Token.TheVariants.{Question, Colon, Open, Close}
@@ -110,13 +108,3 @@ pub record BeginsStatement (tokens : List Token) : Type 0 where
   pub more : List Token
   pub tree : Tree
   pub statement : IsStatement (tokens ++ more) tree
-
--- the tree that an expression of the program stands for
-abbrev pub tree_of : Expression → Tree
-tree_of (expression.Constant n) = Number n
-tree_of (expression.Variable x) = Variable x
-tree_of (expression.Group' p e) = Group (tree_of e)
-tree_of (expression.Unary' op p e) = Unary op (tree_of e)
-tree_of (expression.Binary' p a op q b) = Binary (tree_of a) op (tree_of b)
-tree_of (expression.Conditional' p c q a r b) = Conditional (tree_of c) (tree_of a) (tree_of b)
-tree_of (expression.Assignment' x op p e) = Assignment x op (tree_of e)

@@ -1,15 +1,18 @@
 -- What the lexer answers, whole and in parts.
-use Rattle.std.specs.Prelude.{◌≡◌, ℕ, ◌≤◌, ◌<◌, ◌^◌, ⊤, List, ◌++◌, length, take, drop, Option, Some, None, Result, Ok}
+use Rattle.std.specs.Prelude.{◌≡◌, ℕ, ◌≤◌, ◌<◌, ◌^◌, ⊤, List, [], ◌∷◌, ◌+◌, ◌++◌, length, take, drop, Option, Some}
+use Rattle.std.specs.Prelude.{None, Result, Ok}
 use Rattle.std.specs.Prelude.{Err}
 use Rattle.std.specs.List.{All}
 use Rattle.std.specs.Global.{Vec}
+use Rattle.std.specs.Str.{IsUtf8, chars}
 use Rattle.arith_syntax.specs.declared.fault.ReadFault.{ReadFault}
 use Rattle.arith_syntax.specs.declared.fault.ReadFault.TheVariants.{Syntax, TooDeep, OutOfMemory}
 use Rattle.arith_syntax.specs.declared.token.Token.{Token}
 use Rattle.arith_syntax.specs.declared.token.Placed.{Placed}
+use Rattle.arith_syntax.specs.declared.lexer.Next.{Next}
 use Rattle.arith_syntax.specs.declared.spelled.Spelled.{Spelled}
 use Rattle.arith_syntax.specs.Tokens.{FirstCharacterIs, IsHexadecimalDigit, digit_value, in_base, IsConstant, IsSign}
-use Rattle.arith_syntax.specs.Tokens.{IsLongestSign, IsToken, IsTokens, IsWrongAt}
+use Rattle.arith_syntax.specs.Tokens.{IsLongestSign, IsToken, IsTokens, IsWhite, IsWrongAt, ReadsTokens}
 
 -- what a text is as tokens: these, or wrong at a place
 abbrev pub Lexes : List ℕ → Result (Vec Placed) ReadFault → Type 0
@@ -62,3 +65,28 @@ BeginsWithToken text (Ok (Some s)) =
 BeginsWithToken text (Ok None) =
     (token : Token) (spelled rest : List ℕ) → text ≡ spelled ++ rest → IsToken token spelled rest → ⊥
 BeginsWithToken text (Err fault) = fault ≡ OutOfMemory
+
+-- the tokens of a text up to a place at which no white space stands
+pub record IsReached (text : List ℕ) (found : List Placed) (place : ℕ) : Type 0 where
+  pub fits : place ≤ length text
+  pub end : ℕ
+  pub white : List ℕ
+  pub reads : ReadsTokens 0 text found end (white ++ drop place text)
+  pub blank : All IsWhite white
+  pub there : place ≡ end + length white
+  pub visible : FirstCharacterIs IsWhite (drop place text) → ⊥
+  pub utf8 : IsUtf8 (drop place text)
+
+-- some tokens lead to a place
+abbrev pub IsReachable : List ℕ → ℕ → Type 0
+IsReachable text place = (found : List Placed) × IsReached text found place
+
+-- the token at a place that was reached, and the place behind it; or none is there
+abbrev pub ReadsNext : List ℕ → ℕ → Result Next ReadFault → Type 0
+ReadsNext text place (Ok next) =
+    (place < next.behind)
+    × ((found : List Placed) → IsReached text found place → IsReached text (found ++ next.placed ∷ []) next.behind)
+ReadsNext text place (Err (Syntax wrong)) = (found : List Placed) → IsReached text found place
+    → IsWrongAt (chars text) wrong
+ReadsNext text place (Err TooDeep) = ⊥
+ReadsNext text place (Err OutOfMemory) = ⊤

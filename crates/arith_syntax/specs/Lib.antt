@@ -1,8 +1,10 @@
+pub mod Cut
 pub mod Grammar
 pub mod Lexed
 pub mod Machine
 pub mod Once
 pub mod Parsing
+pub mod Parts
 pub mod Reading
 pub mod TokenLaws
 pub mod Tokens

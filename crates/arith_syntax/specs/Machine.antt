@@ -11,14 +11,15 @@ use Rattle.arith_syntax.specs.declared.operator.AssignmentOperator.{AssignmentOp
 use Rattle.arith_syntax.specs.declared.token.Token.{Token}
 use Rattle.arith_syntax.specs.declared.token.Token.TheVariants.{Constant, Name, Operator, Assign, Complement, Not}
 use Rattle.arith_syntax.specs.declared.token.Token.TheVariants.{Question, Colon, Open, Close}
-use Rattle.arith_syntax.specs.declared.expression.Expression.{Expression}
+use Rattle.arith_syntax.specs.declared.part.Part.{Part}
 use Rattle.arith_syntax.specs.declared.fault.ReadFault.{ReadFault}
 use Rattle.arith_syntax.specs.declared.fault.ReadFault.TheVariants.{Syntax, TooDeep, OutOfMemory}
 use Rattle.arith_syntax.specs.declared.parser.Frame.{Frame}
 use Rattle.arith_syntax.specs.declared.parser.Frame.TheVariants as frame
 use Rattle.arith_syntax.specs.declared.parser.Parser.{Parser}
 use Rattle.arith_syntax.specs.Grammar.{Tree, Number, Variable, Group, Unary, Binary, Conditional, Assignment}
-use Rattle.arith_syntax.specs.Grammar.{operator_level, tree_of}
+use Rattle.arith_syntax.specs.Grammar.{operator_level}
+use Rattle.arith_syntax.specs.Parts.{before, grown, last, name_of, tree_of, trees_in}
 
 -- a construct that has begun and waits for the operand that ends it, or for the middle of `?` and `:`
 pub data Begun : Type 0 where
@@ -165,28 +166,54 @@ close_at bs (Some u) = let s = settle 13 bs u in outermost s.begun s.operand
 abbrev pub close : State → Option Tree
 close s = close_at s.begun s.operand
 
--- the construct that a frame of the parser stands for
-abbrev pub begun_of : Frame → Begun
-begun_of frame.Open = Opened
-begun_of (frame.Unary sign) = Signed sign
-begun_of (frame.Binary a op) = Operated (tree_of a) op
-begun_of (frame.Question c) = Questioned (tree_of c)
-begun_of (frame.Colon c a) = Divided (tree_of c) (tree_of a)
-begun_of (frame.Assign x op) = Named x op
+-- the construct that a frame of the parser stands for, where the trees before it are these
+abbrev pub begun_of : Frame → List Tree → Begun
+begun_of frame.Open trees = Opened
+begun_of (frame.Unary sign) trees = Signed sign
+begun_of (frame.Binary op) trees = Operated (last trees) op
+begun_of frame.Question trees = Questioned (last trees)
+begun_of frame.Colon trees = Divided (last (before trees)) (last trees)
+begun_of (frame.Assign op) trees = Named (name_of (last trees)) op
+
+-- the trees that aren't in it
+abbrev pub left_by : Frame → List Tree → List Tree
+left_by frame.Open trees = trees
+left_by (frame.Unary sign) trees = trees
+left_by (frame.Binary op) trees = before trees
+left_by frame.Question trees = before trees
+left_by frame.Colon trees = before (before trees)
+left_by (frame.Assign op) trees = before trees
+
+-- frames with the innermost first; a parser has it last
+abbrev pub turned : List Frame → List Frame
+turned [] = []
+turned (f ∷ fs) = turned fs ++ (f ∷ [])
+
+-- the constructs that frames stand for, the innermost first
+abbrev pub begun_by : List Frame → List Tree → List Begun
+begun_by [] trees = []
+begun_by (f ∷ fs) trees = begun_of f trees ∷ begun_by fs (left_by f trees)
 
 -- the constructs that a stack of frames stands for; its innermost is its last
-abbrev pub stack_of : List Frame → List Begun
-stack_of [] = []
-stack_of (f ∷ fs) = stack_of fs ++ (begun_of f ∷ [])
+abbrev pub stack_of : List Frame → List Tree → List Begun
+stack_of frames trees = begun_by (turned frames) trees
 
--- the tree that an operand stands for
-abbrev pub operand_of : Option Expression → Option Tree
-operand_of None = None
-operand_of (Some e) = Some (tree_of e)
+-- the state that frames and trees stand for, the last of which is the operand, or none where one is due
+abbrev pub state_at : List Frame → Bool → List Tree → State
+state_at frames false trees = record { begun = stack_of frames trees; operand = None }
+state_at frames true trees = record { begun = stack_of frames (before trees); operand = Some (last trees) }
 
--- the state that a parser stands for
-abbrev pub state_of : Parser → State
-state_of parser = record { begun = stack_of parser.frames.items; operand = operand_of parser.operand }
+-- the state that a parser of a text stands for
+abbrev pub state_of : List ℕ → Parser → State
+state_of text parser = state_at parser.frames.items parser.held (trees_in text parser.parts.items)
+
+-- the constructs that a parser of a text stands for that holds an operand
+abbrev pub around : List ℕ → Parser → List Begun
+around text parser = stack_of parser.frames.items (before (trees_in text parser.parts.items))
+
+-- and that operand
+abbrev pub operand_of : List ℕ → Parser → Tree
+operand_of text parser = tree_of text parser.parts.items
 
 -- want of memory, the one fault that the parser's steps have
 abbrev pub IsMemory : ReadFault → Type 0
@@ -194,15 +221,10 @@ IsMemory (Syntax place) = ⊥
 IsMemory TooDeep = ⊥
 IsMemory OutOfMemory = ⊤
 
--- what a construct becomes
-abbrev pub IsBuilt : Begun → Tree → Result Expression ReadFault → Type 0
-IsBuilt b u (Ok e) = tree_of e ≡ built b u
-IsBuilt b u (Err fault) = IsMemory fault
-
--- a copy
-abbrev pub IsCopied : List ℕ → Result (List ℕ) ReadFault → Type 0
-IsCopied x (Ok copy) = copy ≡ x
-IsCopied x (Err fault) = IsMemory fault
+-- the part that a construct becomes
+abbrev pub IsBuilt : Frame → Part → Type 0
+IsBuilt f p = (text : List ℕ) (trees : List Tree) → grown text p trees
+    ≡ built (begun_of f (before trees)) (last trees) ∷ left_by f (before trees)
 
 -- the innermost construct is weaker than a level
 abbrev pub StopsAt : ℕ → List Begun → Type 0
@@ -214,50 +236,52 @@ abbrev pub ends_at : ℕ → List Begun → Bool
 ends_at weak [] = false
 ends_at weak (b ∷ bs) = nat_le (rank b) weak
 
--- a construct is a `?` with its condition, or `:` can't follow in it
-abbrev pub IsCondition : Begun → Option Expression → Type 0
-IsCondition b None = (bs : List Begun) (u : Tree) → take_colon (b ∷ bs) u ≡ None
-IsCondition b (Some c) = b ≡ Questioned (tree_of c)
+-- a frame more
+abbrev pub PushesTo : Frame → List Frame → Result (Unit {0}) ReadFault → List Frame → Type 0
+PushesTo f old (Ok done) new = turned new ≡ f ∷ turned old
+PushesTo f old (Err fault) new = IsMemory fault
 
--- a construct is a `(`, or `)` can't follow in it
-abbrev pub IsOpen : Begun → Bool → Type 0
-IsOpen b true = b ≡ Opened
-IsOpen b false = (bs : List Begun) (u : Tree) → take_close (b ∷ bs) u ≡ None
+-- the innermost frame, taken off
+abbrev pub Pops : List Frame → Option Frame → List Frame → Type 0
+Pops old None new = (turned old ≡ []) × (turned new ≡ [])
+Pops old (Some f) new = turned old ≡ f ∷ turned new
 
--- a construct more
-abbrev pub PushesTo : Begun → List Begun → Result (Unit {0}) ReadFault → List Begun → Type 0
-PushesTo b old (Ok done) new = new ≡ b ∷ old
-PushesTo b old (Err fault) new = IsMemory fault
+-- the innermost frame, taken off unless it is weaker than a level
+abbrev pub PopsEnding : ℕ → List Frame → Option Frame → List Frame → Type 0
+PopsEnding weak old None new = (turned new ≡ turned old) × ((trees : List Tree) → StopsAt weak (stack_of old trees))
+PopsEnding weak old (Some f) new = (turned old ≡ f ∷ turned new) × ((trees : List Tree)
+    → rank (begun_of f trees) ≤ weak)
 
--- the innermost construct, taken off
-abbrev pub Pops : List Begun → Option Frame → List Begun → Type 0
-Pops old None new = (old ≡ []) × (new ≡ [])
-Pops old (Some f) new = old ≡ begun_of f ∷ new
+-- the innermost frame, taken off, which is a `?`, or `:` can't follow
+abbrev pub PopsCondition : List Frame → Bool → List Frame → Type 0
+PopsCondition old true new = turned old ≡ frame.Question ∷ turned new
+PopsCondition old false new = (trees : List Tree) (u : Tree) → take_colon (stack_of old trees) u ≡ None
 
--- the innermost construct, taken off unless it is weaker than a level
-abbrev pub PopsEnding : ℕ → List Begun → Option Frame → List Begun → Type 0
-PopsEnding weak old None new = (new ≡ old) × StopsAt weak old
-PopsEnding weak old (Some f) new = (old ≡ begun_of f ∷ new) × (rank (begun_of f) ≤ weak)
+-- the innermost frame, taken off, which is a `(`, or `)` can't follow
+abbrev pub PopsOpen : List Frame → Bool → List Frame → Type 0
+PopsOpen old true new = turned old ≡ frame.Open ∷ turned new
+PopsOpen old false new = (trees : List Tree) (u : Tree) → take_close (stack_of old trees) u ≡ None
 
--- the innermost construct, taken off, which is a `?` with its condition, or `:` can't follow
-abbrev pub PopsCondition : List Begun → Option Expression → List Begun → Type 0
-PopsCondition old None new = (u : Tree) → take_colon old u ≡ None
-PopsCondition old (Some c) new = old ≡ Questioned (tree_of c) ∷ new
+-- no frame is left, or the end can't follow
+abbrev pub IsWholeStack : List Frame → Bool → Type 0
+IsWholeStack frames true = (trees : List Tree) → stack_of frames trees ≡ []
+IsWholeStack frames false = (trees : List Tree) (u : Tree) → outermost (stack_of frames trees) u ≡ None
 
--- the innermost construct, taken off, which is a `(`, or `)` can't follow
-abbrev pub PopsOpen : List Begun → Bool → List Begun → Type 0
-PopsOpen old true new = old ≡ Opened ∷ new
-PopsOpen old false new = (u : Tree) → take_close old u ≡ None
+-- a tree is a name, or no assignment's sign can follow
+abbrev pub IsNameOf : Tree → Bool → Type 0
+IsNameOf u true = u ≡ Variable (name_of u)
+IsNameOf u false = (op : AssignmentOperator) (bs : List Begun) → take_assign op bs u ≡ None
 
--- no construct is left, or the end can't follow
-abbrev pub IsWholeStack : List Begun → Bool → Type 0
-IsWholeStack bs true = bs ≡ []
-IsWholeStack bs false = (u : Tree) → outermost bs u ≡ None
+-- a part more, behind which an operand was read
+abbrev pub HoldsMore : Part → Parser → Result (Unit {0}) ReadFault → Parser → Type 0
+HoldsMore p old (Ok done) new =
+    (new.frames ≡ old.frames) × (new.parts.items ≡ old.parts.items ++ (p ∷ [])) × (new.held ≡ true)
+HoldsMore p old (Err fault) new = IsMemory fault
 
 -- what has settled
-abbrev pub SettlesTo : Settled → Result Expression ReadFault → List Begun → Type 0
-SettlesTo settled (Ok e) new = settled ≡ record { begun = new; operand = tree_of e }
-SettlesTo settled (Err fault) new = IsMemory fault
+abbrev pub SettlesTo : Settled → Result (Unit {0}) ReadFault → List Begun → Tree → Type 0
+SettlesTo settled (Ok done) begun operand = settled ≡ record { begun = begun; operand = operand }
+SettlesTo settled (Err fault) begun operand = IsMemory fault
 
 -- the state that a token leads to, or none
 abbrev pub LeadsTo : Option State → Result Bool ReadFault → State → Type 0
@@ -266,6 +290,7 @@ LeadsTo next (Ok false) new = next ≡ None
 LeadsTo next (Err fault) new = IsMemory fault
 
 -- the tree at the end, or none
-abbrev pub ClosesTo : Option Tree → Result (Option Expression) ReadFault → Type 0
-ClosesTo tree (Ok e) = tree ≡ operand_of e
-ClosesTo tree (Err fault) = IsMemory fault
+abbrev pub ClosesTo : Option Tree → Result Bool ReadFault → Tree → Type 0
+ClosesTo tree (Ok true) u = tree ≡ Some u
+ClosesTo tree (Ok false) u = tree ≡ None
+ClosesTo tree (Err fault) u = IsMemory fault

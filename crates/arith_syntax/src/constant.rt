@@ -10,6 +10,7 @@ use crate::octet::octet_at;
 const GREATEST: u64 = 0x7FFF_FFFF_FFFF_FFFF;
 
 /// The constant that a word is: decimal, octal behind `0` or hexadecimal behind `0x`, and at most 2^63 - 1.
+#[inline(always)]
 pub(crate) fn constant(word: &[u8]) -> Option<u64>
     ensures { ReadsConstant word.now result }
 {

@@ -2,24 +2,25 @@
 #![tactic(auto)]
 
 mod constant;
-mod expression;
+mod cutting;
 mod fault;
 mod laws;
 mod lexer;
 mod octet;
 mod operator;
 mod parser;
+mod part;
 mod reading;
 mod sign;
 mod spelled;
 mod token;
 mod token_laws;
 
-pub use expression::Expression;
 pub use fault::ReadFault;
 pub use laws::{law_one_reading, law_one_tree};
-pub use lexer::tokens;
+pub use lexer::{tokens, word_at};
 pub use operator::{AssignmentOperator, BinaryOperator, UnaryOperator};
+pub use part::{Part, name_of, parts_before};
 pub use reading::{read_cell, read_statement};
 pub use token::{Placed, Token};
 pub use token_laws::{law_one_lexing, law_one_wrong_place, law_tokens_are_nowhere_wrong};

@@ -1,22 +1,23 @@
-//! Parsing by precedence: constructs that have begun wait on a stack for the operands that end them.
+//! Parsing by precedence: constructs that have begun wait on a stack for the operands that end them, and each leaves
+//! its part behind those that it is made of.
 
 ghost use Rattle.std.specs.Bool.{nat_le};
-ghost use Rattle.std.specs.Prelude.{◌≡◌, ◌≤◌, IfOk, IfErr, None, Some};
-ghost use Rattle.arith_syntax.specs.Grammar.{tree_of};
+ghost use Rattle.std.specs.Prelude.{◌≡◌, ◌≤◌, ℕ, List, [], false, true, MatchResult};
+ghost use Rattle.std.specs.List.{All};
+ghost use Rattle.arith_syntax.specs.Grammar.{Tree};
 ghost use Rattle.arith_syntax.specs.Machine.{rank, room, room_of, settle, start, advance, sign_of, take_due};
 ghost use Rattle.arith_syntax.specs.Machine.{take_behind, take_colon, take_close, take_assign, close, begun_of};
-ghost use Rattle.arith_syntax.specs.Machine.{stack_of, state_of};
-ghost use Rattle.arith_syntax.specs.Machine.{ends_at, IsBuilt, IsCopied, IsCondition, IsOpen, IsWholeStack, PushesTo};
-ghost use Rattle.arith_syntax.specs.Machine.{IsMemory, Divided};
+ghost use Rattle.arith_syntax.specs.Machine.{stack_of, state_of, around, turned};
+ghost use Rattle.arith_syntax.specs.Machine.{ends_at, IsBuilt, IsWholeStack, PushesTo, IsMemory, IsNameOf, HoldsMore};
 ghost use Rattle.arith_syntax.specs.Machine.{Pops, PopsEnding, PopsCondition, PopsOpen, SettlesTo, LeadsTo, ClosesTo};
-ghost use Rattle.arith_syntax.specs.Parsing.{Parses};
+ghost use Rattle.arith_syntax.specs.Parsing.{IsParsed, Parses};
+ghost use Rattle.arith_syntax.specs.Parts.{IsNamed, trees_in, tree_of};
 ghost use Rattle.arith_syntax.specs.declared.token.Token.TheVariants.{Operator, Question};
 
-use crate::expression::Expression;
 use crate::fault::ReadFault;
 use crate::operator::{AssignmentOperator, BinaryOperator, UnaryOperator};
+use crate::part::Part;
 use crate::token::{Placed, Token};
-use listed::Text;
 use std::alloc::Global;
 
 /// The level of `||`, the weakest of the operators with two operands.
@@ -31,186 +32,109 @@ const ASSIGNMENT: u8 = 13;
 /// The rank of what no operator ends.
 const NEVER: u8 = 14;
 
-/// A construct that has begun, with what has been read of it.
-#[derive(Drop)]
+/// A construct that has begun; what has been read of it are the last trees.
+#[derive(Clone, Copy)]
 enum Frame {
     /// `(`
     Open,
     /// An operator in front of its operand.
     Unary(UnaryOperator),
-    /// The left operand and its operator.
-    Binary(Expression, BinaryOperator),
-    /// The condition in front of a `?`.
-    Question(Expression),
-    /// The condition, and the middle that stands in front of the `:`.
-    Colon(Expression, Expression),
-    /// A name and the operator that assigns to it.
-    Assign(Text, AssignmentOperator),
+    /// An operator behind its left operand.
+    Binary(BinaryOperator),
+    /// `?` behind its condition.
+    Question,
+    /// `:` behind the condition and the middle.
+    Colon,
+    /// An operator that assigns, behind its name.
+    Assign(AssignmentOperator),
 }
 
 impl Frame {
     /// The level of the strongest operator that ends the construct.
-    fn rank(&self) -> u8
-        ensures { result ≡ rank (begun_of self.now) }
+    #[inline(always)]
+    fn rank(self) -> u8
+        ensures { (trees : List Tree) → result ≡ rank (begun_of self trees) }
     {
         match self {
-            Frame::Open | Frame::Question(_) => NEVER,
+            Frame::Open | Frame::Question => NEVER,
             Frame::Unary(_) => 1,
-            Frame::Binary(_, operator) => operator.level(),
-            Frame::Colon(..) => CONDITIONAL,
-            Frame::Assign(..) => ASSIGNMENT,
+            Frame::Binary(operator) => operator.level(),
+            Frame::Colon => CONDITIONAL,
+            Frame::Assign(_) => ASSIGNMENT,
         }
     }
 
     /// Whether an assignment fits into the construct.
-    fn takes_assignment(&self) -> bool
-        ensures { result ≡ nat_le 13 (room (begun_of self.now)) }
+    fn takes_assignment(self) -> bool
+        ensures { (trees : List Tree) → result ≡ nat_le 13 (room (begun_of self trees)) }
     {
         match self {
-            Frame::Open | Frame::Question(_) | Frame::Assign(..) => true,
-            Frame::Unary(_) | Frame::Binary(..) | Frame::Colon(..) => false,
+            Frame::Open | Frame::Question | Frame::Assign(_) => true,
+            Frame::Unary(_) | Frame::Binary(_) | Frame::Colon => false,
         }
     }
 
-    /// The condition of a `?` that waits for its `:`.
-    fn into_condition(self) -> Option<Expression>
-        ensures { IsCondition (begun_of self) result }
+    /// The part that the construct becomes behind its last operand.
+    fn part(self) -> Part
+        requires { rank (begun_of self []) ≤ 13 }
+        ensures { IsBuilt self result }
     {
         match self {
-            Frame::Question(condition) => Some(condition),
-            other @ (Frame::Open
-            | Frame::Unary(_)
-            | Frame::Binary(..)
-            | Frame::Colon(..)
-            | Frame::Assign(..)) => {
-                drop(other);
-                None
-            }
-        }
-    }
-
-    /// Whether the construct is a `(`.
-    fn is_open(&self) -> bool
-        ensures { IsOpen (begun_of self.now) result }
-    {
-        match self {
-            Frame::Open => true,
-            Frame::Unary(_)
-            | Frame::Binary(..)
-            | Frame::Question(_)
-            | Frame::Colon(..)
-            | Frame::Assign(..) => false,
-        }
-    }
-
-    /// The tree of the construct with its last operand.
-    fn complete(self, alloc: Global, operand: Expression) -> Result<Expression, ReadFault>
-        requires { rank (begun_of self) ≤ 13 }
-        ensures { IsBuilt (begun_of self) (tree_of operand) result }
-    {
-        match self {
-            Frame::Unary(operator) => Ok(Expression::Unary(operator, Box::new(alloc, operand)?)),
-            Frame::Binary(left, operator) => {
-                let (left, right) = both_boxed(alloc, left, operand)?;
-                Ok(Expression::Binary(left, operator, right))
-            }
-            Frame::Colon(condition, middle) => conditional(alloc, condition, middle, operand),
-            Frame::Assign(name, operator) => {
-                Ok(Expression::Assignment(name, operator, Box::new(alloc, operand)?))
-            }
-            Frame::Open | Frame::Question(_) => unreachable!(),
+            Frame::Unary(operator) => Part::Unary(operator),
+            Frame::Binary(operator) => Part::Binary(operator),
+            Frame::Colon => Part::Conditional,
+            Frame::Assign(operator) => Part::Assignment(operator),
+            Frame::Open | Frame::Question => unreachable!(),
         }
     }
 }
 
-/// Two trees in boxes.
-fn both_boxed(
-    alloc: Global,
-    one: Expression,
-    other: Expression,
-) -> Result<(Box<Expression>, Box<Expression>), ReadFault>
-    ensures ok { IfOk result (λ both. (tree_of both.0.value ≡ tree_of one)
-        × (tree_of both.1.value ≡ tree_of other)) }
-    ensures err { IfErr result IsMemory }
-{
-    match Box::new(alloc, one) {
-        Ok(one) => match Box::new(alloc, other) {
-            Ok(other) => Ok((one, other)),
-            Err(refused) => {
-                drop(one);
-                Err(ReadFault::from(refused))
-            }
-        },
-        Err(refused) => {
-            drop(other);
-            Err(ReadFault::from(refused))
-        }
-    }
-}
-
-/// The tree of a conditional.
-fn conditional(
-    alloc: Global,
-    condition: Expression,
-    if_so: Expression,
-    if_not: Expression,
-) -> Result<Expression, ReadFault>
-    ensures { IsBuilt (Divided (tree_of condition) (tree_of if_so)) (tree_of if_not) result }
-{
-    match both_boxed(alloc, condition, if_so) {
-        Ok((condition, if_so)) => match Box::new(alloc, if_not) {
-            Ok(if_not) => Ok(Expression::Conditional(condition, if_so, if_not)),
-            Err(refused) => {
-                drop(condition);
-                drop(if_so);
-                Err(ReadFault::from(refused))
-            }
-        },
-        Err(fault) => {
-            drop(if_not);
-            Err(fault)
-        }
-    }
-}
-
-/// What has been read of a statement.
+/// What has been read of a statement. Its contracts name the text that the places of names are in.
 #[derive(Drop)]
 struct Parser {
     /// The constructs that have begun, the innermost last.
     frames: Vec<Frame>,
-    /// The operand that was read last; none where one is due.
-    operand: Option<Expression>,
+    /// The parts of what was read.
+    parts: Vec<Part>,
+    /// Whether an operand was read last; else one is due.
+    held: bool,
 }
 
 impl Parser {
-    /// A parser that has read nothing.
-    fn new(alloc: Global) -> Parser
-        ensures { state_of result ≡ start }
+    /// A parser that has read nothing, with room for so many parts.
+    fn new(alloc: Global, room: usize) -> Result<Parser, ReadFault>
+        ensures { MatchResult result (λ parser. (text : List ℕ) → state_of text parser ≡ start) IsMemory }
     {
-        Parser {
+        Ok(Parser {
+            parts: Vec::with_capacity(alloc, room)?,
             frames: Vec::new(alloc),
-            operand: None,
-        }
+            held: false,
+        })
     }
 
     /// Takes a token, or says that no statement goes on with it.
-    fn take(&mut self, alloc: Global, token: &Token) -> Result<bool, ReadFault>
-        ensures { LeadsTo (advance (state_of self.old) token.now) result (state_of self.new) }
+    fn take(&mut self, text: &str, placed: &Placed) -> Result<bool, ReadFault>
+        requires { IsNamed text.now placed.now }
+        ensures { LeadsTo (advance (state_of text.now self.old) placed.now.token) result
+            (state_of text.now self.new) }
     {
-        match self.operand.take() {
-            None => self.take_due(alloc, token),
-            Some(operand) => self.take_behind(alloc, operand, token),
+        if self.held {
+            self.take_behind(text, &placed.token)
+        } else {
+            self.take_due(text, placed)
         }
     }
 
     /// Takes a token where an operand is due.
-    fn take_due(&mut self, alloc: Global, token: &Token) -> Result<bool, ReadFault>
-        requires { self.old.operand ≡ None }
-        ensures { LeadsTo (take_due (stack_of self.old.frames.items) token.now) result (state_of self.new) }
+    fn take_due(&mut self, text: &str, placed: &Placed) -> Result<bool, ReadFault>
+        requires due { self.old.held ≡ false }
+        requires named { IsNamed text.now placed.now }
+        ensures { LeadsTo (take_due (stack_of self.old.frames.items (trees_in text.now self.old.parts.items))
+            placed.now.token) result (state_of text.now self.new) }
     {
-        match token {
-            Token::Constant(value) => self.hold(Expression::Constant(*value)),
-            Token::Name(name) => self.hold(Expression::Variable(copied(alloc, name)?)),
+        match &placed.token {
+            Token::Constant(value) => self.hold(Part::Constant(*value))?,
+            Token::Name(_) => self.hold(Part::Variable(placed.place))?,
             Token::Open => self.push(Frame::Open)?,
             Token::Operator(_)
             | Token::Assign(_)
@@ -222,7 +146,7 @@ impl Parser {
             | Token::Colon
             | Token::Close
             | Token::Semicolon => {
-                let Some(operator) = unary_operator(token) else {
+                let Some(operator) = unary_operator(&placed.token) else {
                     return Ok(false)
                 };
                 self.push(Frame::Unary(operator))?;
@@ -231,35 +155,32 @@ impl Parser {
         Ok(true)
     }
 
-    /// Holds an operand.
-    fn hold(&mut self, operand: Expression)
-        ensures { self.new ≡ record self.old { operand = Some operand } }
+    /// Adds a part, behind which an operand was read.
+    fn hold(&mut self, part: Part) -> Result<(), ReadFault>
+        ensures { HoldsMore part self.old result self.new }
     {
-        self.operand = Some(operand);
+        self.parts.push(part)?;
+        self.held = true;
+        Ok(())
     }
 
     /// Takes a token behind an operand.
-    fn take_behind(
-        &mut self,
-        alloc: Global,
-        operand: Expression,
-        token: &Token,
-    ) -> Result<bool, ReadFault>
-        requires { self.old.operand ≡ None }
-        ensures { LeadsTo (take_behind (stack_of self.old.frames.items) (tree_of operand) token.now) result
-            (state_of self.new) }
+    fn take_behind(&mut self, text: &str, token: &Token) -> Result<bool, ReadFault>
+        requires { self.old.held ≡ true }
+        ensures { LeadsTo (take_behind (around text.now self.old) (tree_of text.now self.old.parts.items) token.now)
+            result (state_of text.now self.new) }
     {
         match token {
-            Token::Operator(operator) => self.take_operator(alloc, *operator, operand),
-            Token::Assign(operator) => self.take_assign(*operator, operand),
-            Token::Question => self.take_question(alloc, operand),
+            Token::Operator(operator) => self.take_operator(text, *operator),
+            Token::Assign(operator) => self.take_assign(text, *operator),
+            Token::Question => self.take_question(text),
             Token::Colon => {
-                let middle = self.settle(alloc, ASSIGNMENT, operand)?;
-                self.take_colon(middle)
+                self.settle(text, ASSIGNMENT)?;
+                self.take_colon(text)
             }
             Token::Close => {
-                let inner = self.settle(alloc, ASSIGNMENT, operand)?;
-                self.take_close(alloc, inner)
+                self.settle(text, ASSIGNMENT)?;
+                self.take_close(text)
             }
             Token::Constant(_)
             | Token::Name(_)
@@ -268,81 +189,67 @@ impl Parser {
             | Token::Increment
             | Token::Decrement
             | Token::Open
-            | Token::Semicolon => {
-                drop(operand);
-                Ok(false)
-            }
+            | Token::Semicolon => Ok(false),
         }
     }
 
     /// Takes an operator between two operands.
-    fn take_operator(
-        &mut self,
-        alloc: Global,
-        operator: BinaryOperator,
-        operand: Expression,
-    ) -> Result<bool, ReadFault>
-        requires { self.old.operand ≡ None }
-        ensures { LeadsTo (take_behind (stack_of self.old.frames.items) (tree_of operand) (Operator operator)) result
-            (state_of self.new) }
+    fn take_operator(&mut self, text: &str, operator: BinaryOperator) -> Result<bool, ReadFault>
+        ensures { LeadsTo (take_behind (around text.now self.old) (tree_of text.now self.old.parts.items)
+            (Operator operator)) result (state_of text.now self.new) }
     {
-        let left = self.settle(alloc, operator.level(), operand)?;
-        self.push(Frame::Binary(left, operator))?;
+        self.settle(text, operator.level())?;
+        self.push(Frame::Binary(operator))?;
         Ok(true)
     }
 
     /// Takes `?` behind a condition.
-    fn take_question(&mut self, alloc: Global, operand: Expression) -> Result<bool, ReadFault>
-        requires { self.old.operand ≡ None }
-        ensures { LeadsTo (take_behind (stack_of self.old.frames.items) (tree_of operand) Question) result
-            (state_of self.new) }
+    fn take_question(&mut self, text: &str) -> Result<bool, ReadFault>
+        ensures { LeadsTo (take_behind (around text.now self.old) (tree_of text.now self.old.parts.items) Question)
+            result (state_of text.now self.new) }
     {
-        let condition = self.settle(alloc, WEAKEST_OPERATOR, operand)?;
-        self.push(Frame::Question(condition))?;
+        self.settle(text, WEAKEST_OPERATOR)?;
+        self.push(Frame::Question)?;
         Ok(true)
     }
 
     /// Ends the innermost constructs that aren't weaker than a level; the operand becomes their tree.
-    fn settle(
-        &mut self,
-        alloc: Global,
-        weakest: u8,
-        operand: Expression,
-    ) -> Result<Expression, ReadFault>
+    #[inline(always)]
+    fn settle(&mut self, text: &str, weakest: u8) -> Result<(), ReadFault>
         requires { weakest ≤ 13 }
-        ensures tree { SettlesTo (settle weakest (stack_of self.old.frames.items) (tree_of operand)) result
-            (stack_of self.new.frames.items) }
-        ensures operand { self.new.operand ≡ self.old.operand }
+        ensures { SettlesTo (settle weakest (around text.now self.old) (tree_of text.now self.old.parts.items)) result
+            (around text.now self.new) (tree_of text.now self.new.parts.items) }
     {
-        let mut operand = operand;
         while let Some(frame) = self.pop_ending(weakest) {
-            operand = frame.complete(alloc, operand)?;
+            self.parts.push(frame.part())?;
         }
-        Ok(operand)
+        Ok(())
     }
 
-    /// Begins a construct.
+    /// Begins a construct, in which an operand is due.
     fn push(&mut self, frame: Frame) -> Result<(), ReadFault>
-        ensures frame { PushesTo (begun_of frame) (stack_of self.old.frames.items) result
-            (stack_of self.new.frames.items) }
-        ensures operand { self.new.operand ≡ self.old.operand }
+        ensures frame { PushesTo frame self.old.frames.items result self.new.frames.items }
+        ensures parts { self.new.parts ≡ self.old.parts }
+        ensures due { MatchResult result (λ _. self.new.held ≡ false) IsMemory }
     {
         self.frames.push(frame)?;
+        self.held = false;
         Ok(())
     }
 
     /// Takes the innermost construct off.
     fn pop(&mut self) -> Option<Frame>
-        ensures frame { Pops (stack_of self.old.frames.items) result (stack_of self.new.frames.items) }
-        ensures operand { self.new.operand ≡ self.old.operand }
+        ensures frame { Pops self.old.frames.items result self.new.frames.items }
+        ensures parts { self.new.parts ≡ self.old.parts }
     {
         self.frames.pop()
     }
 
     /// Takes the innermost construct off, unless it is weaker than a level.
+    #[inline(always)]
     fn pop_ending(&mut self, weakest: u8) -> Option<Frame>
-        ensures frame { PopsEnding weakest (stack_of self.old.frames.items) result (stack_of self.new.frames.items) }
-        ensures operand { self.new.operand ≡ self.old.operand }
+        ensures frame { PopsEnding weakest self.old.frames.items result self.new.frames.items }
+        ensures parts { self.new.parts ≡ self.old.parts }
     {
         if self.ends_at(weakest) {
             self.pop()
@@ -352,8 +259,9 @@ impl Parser {
     }
 
     /// Whether the innermost construct isn't weaker than a level.
+    #[inline(always)]
     fn ends_at(&self, weakest: u8) -> bool
-        ensures { result ≡ ends_at weakest (stack_of self.now.frames.items) }
+        ensures { (trees : List Tree) → result ≡ ends_at weakest (stack_of self.now.frames.items trees) }
     {
         match self.frames.last() {
             Some(frame) => frame.rank() <= weakest,
@@ -361,78 +269,71 @@ impl Parser {
         }
     }
 
-    /// Takes a `?` off that waits for its `:`, and gives its condition.
-    fn pop_condition(&mut self) -> Option<Expression>
-        ensures frame { PopsCondition (stack_of self.old.frames.items) result (stack_of self.new.frames.items) }
-        ensures operand { self.new.operand ≡ self.old.operand }
+    /// Takes a `?` off that waits for its `:`, or says that the innermost construct is none.
+    fn pop_condition(&mut self) -> bool
+        ensures frame { PopsCondition self.old.frames.items result self.new.frames.items }
+        ensures parts { self.new.parts ≡ self.old.parts }
     {
-        let frame = self.pop()?;
-        frame.into_condition()
+        matches!(self.pop(), Some(Frame::Question))
     }
 
     /// Takes a `(` off, or says that the innermost construct is none.
     fn pop_open(&mut self) -> bool
-        ensures { PopsOpen (stack_of self.old.frames.items) result (stack_of self.new.frames.items) }
+        ensures frame { PopsOpen self.old.frames.items result self.new.frames.items }
+        ensures parts { self.new.parts ≡ self.old.parts }
     {
-        match self.pop() {
-            Some(frame) => {
-                let is_open = frame.is_open();
-                drop(frame);
-                is_open
-            }
-            None => false,
-        }
+        matches!(self.pop(), Some(Frame::Open))
     }
 
     /// Takes `:` behind the middle of a conditional.
-    fn take_colon(&mut self, middle: Expression) -> Result<bool, ReadFault>
-        requires { self.old.operand ≡ None }
-        ensures { LeadsTo (take_colon (stack_of self.old.frames.items) (tree_of middle)) result (state_of self.new) }
+    fn take_colon(&mut self, text: &str) -> Result<bool, ReadFault>
+        ensures { LeadsTo (take_colon (around text.now self.old) (tree_of text.now self.old.parts.items)) result
+            (state_of text.now self.new) }
     {
-        match self.pop_condition() {
-            Some(condition) => {
-                self.push(Frame::Colon(condition, middle))?;
-                Ok(true)
-            }
-            None => Ok(false),
+        if !self.pop_condition() {
+            return Ok(false);
         }
+        self.push(Frame::Colon)?;
+        Ok(true)
     }
 
     /// Takes `)` behind what stands in parentheses.
-    fn take_close(&mut self, alloc: Global, inner: Expression) -> Result<bool, ReadFault>
-        ensures { LeadsTo (take_close (stack_of self.old.frames.items) (tree_of inner)) result (state_of self.new) }
+    fn take_close(&mut self, text: &str) -> Result<bool, ReadFault>
+        ensures { LeadsTo (take_close (around text.now self.old) (tree_of text.now self.old.parts.items)) result
+            (state_of text.now self.new) }
     {
         if !self.pop_open() {
-            drop(inner);
             return Ok(false);
         }
-        self.hold(Expression::Group(Box::new(alloc, inner)?));
+        self.hold(Part::Group)?;
         Ok(true)
     }
 
     /// Takes an operator that assigns, behind a name.
-    fn take_assign(
-        &mut self,
-        operator: AssignmentOperator,
-        operand: Expression,
-    ) -> Result<bool, ReadFault>
-        requires { self.old.operand ≡ None }
-        ensures { LeadsTo (take_assign operator (stack_of self.old.frames.items) (tree_of operand)) result
-            (state_of self.new) }
+    fn take_assign(&mut self, text: &str, operator: AssignmentOperator) -> Result<bool, ReadFault>
+        ensures { LeadsTo (take_assign operator (around text.now self.old) (tree_of text.now self.old.parts.items))
+            result (state_of text.now self.new) }
     {
-        let Expression::Variable(name) = operand else {
-            return Ok(false)
-        };
-        if !self.takes_assignment() {
+        if !self.ends_with_name(text) || !self.takes_assignment() {
             return Ok(false);
         }
-        self.push(Frame::Assign(name, operator))?;
+        self.push(Frame::Assign(operator))?;
         Ok(true)
+    }
+
+    /// Whether what was read last is a name.
+    fn ends_with_name(&self, text: &str) -> bool
+        ensures { IsNameOf (tree_of text.now self.now.parts.items) result }
+    {
+        match self.parts.last() {
+            Some(part) => part.is_variable(),
+            None => false,
+        }
     }
 
     /// Whether an assignment fits into the innermost construct.
     fn takes_assignment(&self) -> bool
-        ensures { result ≡ nat_le 13 (room_of (stack_of self.now.frames.items)) }
+        ensures { (trees : List Tree) → result ≡ nat_le 13 (room_of (stack_of self.now.frames.items trees)) }
     {
         match self.frames.last() {
             Some(frame) => frame.takes_assignment(),
@@ -442,40 +343,37 @@ impl Parser {
 
     /// Whether no construct waits for its end.
     fn is_whole(&self) -> bool
-        ensures { IsWholeStack (stack_of self.now.frames.items) result }
+        ensures { IsWholeStack self.now.frames.items result }
     {
         self.frames.is_empty()
     }
 
-    /// The tree of all that was read, or none where it is no statement.
-    fn finish(&mut self, alloc: Global) -> Result<Option<Expression>, ReadFault>
-        ensures { ClosesTo (close (state_of self.old)) result }
+    /// Ends a statement, or says that what was read is none.
+    fn finish(&mut self, text: &str) -> Result<bool, ReadFault>
+        ensures { ClosesTo (close (state_of text.now self.old)) result (tree_of text.now self.new.parts.items) }
     {
-        let Some(operand) = self.operand.take() else {
-            return Ok(None)
-        };
-        let tree = self.settle(alloc, ASSIGNMENT, operand)?;
-        if self.is_whole() {
-            Ok(Some(tree))
-        } else {
-            drop(tree);
-            Ok(None)
+        if !self.held {
+            return Ok(false);
         }
+        self.settle(text, ASSIGNMENT)?;
+        Ok(self.is_whole())
     }
 
     /// Reads a statement's tokens from the first to the last, which ends at `end`.
-    fn read(&mut self, alloc: Global, tokens: &[Placed], end: u64) -> Result<Expression, ReadFault>
-        requires { state_of self.old ≡ start }
-        ensures { Parses (record { tokens = tokens.now; end = end }) result }
+    fn read(&mut self, text: &str, tokens: &[Placed], end: u64) -> Result<(), ReadFault>
+        requires start { state_of text.now self.old ≡ start }
+        requires named { All (IsNamed text.now) tokens.now }
+        ensures { Parses (record { tokens = tokens.now; end = end }) (tree_of text.now self.new.parts.items) result }
     {
         for placed in tokens {
-            if !self.take(alloc, &placed.token)? {
+            if !self.take(text, placed)? {
                 return Err(ReadFault::Syntax(placed.place));
             }
         }
-        match self.finish(alloc)? {
-            Some(tree) => Ok(tree),
-            None => Err(ReadFault::Syntax(end)),
+        if self.finish(text)? {
+            Ok(())
+        } else {
+            Err(ReadFault::Syntax(end))
         }
     }
 }
@@ -503,24 +401,24 @@ fn unary_operator(token: &Token) -> Option<UnaryOperator>
     }
 }
 
-/// A copy of a name.
-fn copied(alloc: Global, name: &Text) -> Result<Text, ReadFault>
-    ensures { IsCopied name.now result }
-{
-    Ok(Text::new(String::from_str(alloc, name.as_str())?))
-}
-
-/// The tree of a statement's tokens; `end` is the place of its end.
+/// The parts of the tree of a statement's tokens, which stand in `text`; `end` is the place of its end.
 ///
 /// # Errors
 ///
 /// `Syntax` with the place of the first token with which no statement goes on, or of the end where the tokens are no
 /// whole statement; `OutOfMemory` where no memory was left.
-pub(crate) fn parse(alloc: Global, tokens: &[Placed], end: u64) -> Result<Expression, ReadFault>
-    ensures { Parses (record { tokens = tokens.now; end = end }) result }
+pub(crate) fn parse(
+    alloc: Global,
+    text: &str,
+    tokens: &[Placed],
+    end: u64,
+) -> Result<Vec<Part>, ReadFault>
+    requires { All (IsNamed text.now) tokens.now }
+    ensures { IsParsed (record { tokens = tokens.now; end = end }) text.now result }
 {
-    let mut parser = Parser::new(alloc);
-    let tree = parser.read(alloc, tokens, end);
-    drop(parser);
-    tree
+    let mut parser = Parser::new(alloc, tokens.len())?;
+    match parser.read(text, tokens, end) {
+        Ok(()) => Ok(parser.parts),
+        Err(fault) => Err(fault),
+    }
 }

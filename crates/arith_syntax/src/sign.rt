@@ -9,6 +9,7 @@ use crate::spelled::Spelled;
 use crate::token::Token;
 
 /// The longest sign that a text begins with.
+#[inline(always)]
 pub(crate) fn sign(text: &[u8]) -> Option<Spelled>
     ensures { BeginsWithSign text.now result }
 {
@@ -28,6 +29,7 @@ pub(crate) fn sign(text: &[u8]) -> Option<Spelled>
 }
 
 /// The sign of three characters.
+#[inline(always)]
 fn three(first: u8, second: u8, third: u8) -> Option<Token>
     ensures { SpellsSign (first ∷ second ∷ third ∷ []) result }
 {
@@ -42,6 +44,7 @@ fn three(first: u8, second: u8, third: u8) -> Option<Token>
 }
 
 /// The sign of two characters.
+#[inline(always)]
 fn two(first: u8, second: u8) -> Option<Token>
     ensures { SpellsSign (first ∷ second ∷ []) result }
 {
@@ -92,6 +95,7 @@ fn doubled(first: u8) -> Option<Token>
 }
 
 /// The sign of one character.
+#[inline(always)]
 fn one(first: u8) -> Option<Token>
     ensures { SpellsSign (first ∷ []) result }
 {

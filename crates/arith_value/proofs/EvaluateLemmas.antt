@@ -1,9 +1,13 @@
 -- Evaluations one after the other: how a program's answers join to that of the whole.
-use Rattle.std.proofs.Common.{◌≡◌, ℤ, [], ◌∷◌, ◌++◌, Result, Ok, Err, Option, None, refl, ap, sym, subst, ◌∙◌}
+use Rattle.std.proofs.Common.{◌≡◌, ℕ, List, Some, ℤ, [], ◌∷◌, ◌++◌, Result, Ok, Err, Option, None, refl, ap, sym}
+use Rattle.std.proofs.Common.{subst, ◌∙◌}
 use Rattle.std.proofs.Common.{append_assoc, Bool, FitsSigned, w64, to_z, of_z}
 use Rattle.std.specs.Prelude.{if◌then◌else◌}
 use Rattle.std.proofs.lemmas.Int.{to_z-of_z}
 use Rattle.arith_syntax.specs.Grammar.{Tree, Binary, Conditional}
+use Rattle.arith_syntax.specs.declared.part.Part.{Part}
+use Rattle.arith_syntax.specs.Parts.{grown, last, tree_of, trees_in}
+use Rattle.arith_syntax.proofs.TreeLemmas.{tree_behind}
 use Rattle.arith_syntax.specs.declared.operator.BinaryOperator.{BinaryOperator}
 use Rattle.arith_value.specs.Operators.{apply, is_true}
 use Rattle.arith_value.specs.declared.fault.ValueFault.{ValueFault}
@@ -148,6 +152,21 @@ operated op left right old mid new a said answer fits found none before behind =
     let undecided : decided op a ≡ None = ap (decided op) (sym (to_z-of_z w64 a fits)) ∙ sym found ∙ none in
     chained (value left) (λ n. operate op n (value right)) old mid new a answer before
     (goes_on op a (value right) mid new answer undecided behind)
+
+-- an operator that the left operand decides
+pub settled : (op : BinaryOperator) (left right : Tree) (old mid : Bindings) (a : ℤ) (said : Option ℤ) (v : ℤ)
+    → FitsSigned w64 a → said ≡ decided op (to_z w64 (of_z w64 a)) → said ≡ Some v
+    → Evaluates (value left) old (Ok a) mid → Evaluates (value (Binary left op right)) old (Ok v) mid
+settled op left right old mid a said v fits found some before =
+    let is : decided op a ≡ Some v = ap (decided op) (sym (to_z-of_z w64 a fits)) ∙ sym found ∙ some in
+    let next : Evaluates (operate op a (value right)) mid (Ok v) mid = rw is (given (Ok v) mid) in
+    chained (value left) (λ n. operate op n (value right)) old mid mid a (Ok v) before next
+
+-- the tree that ends with this part
+pub tree_ends : (text : List ℕ) (parts operands : List Part) (p q : Part) → parts ≡ operands ++ p ∷ [] → p ≡ q
+    → tree_of text parts ≡ last (grown text q (trees_in text operands))
+tree_ends text parts operands p q ends is =
+    tree_behind text parts operands p ends ∙ ap (λ r. last (grown text r (trees_in text operands))) is
 
 -- what the parts of an evaluation come to
 pub ruleset evaluations = (chained, broken, given)

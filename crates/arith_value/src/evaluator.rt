@@ -1,13 +1,13 @@
 //! The value of an expression.
 
 ghost use Rattle.std.specs.Prelude.{◌≡◌};
-ghost use Rattle.arith_syntax.specs.Grammar.{tree_of};
+ghost use Rattle.arith_syntax.specs.Parts.{tree_of};
 ghost use Rattle.arith_value.specs.Value.{Evaluates, assignment_of, combined, operator_of, value};
 
 use crate::fault::ValueFault;
 use crate::operators::{apply, constant, decided, is_true, unary};
 use crate::variables::Variables;
-use arith_syntax::{AssignmentOperator, BinaryOperator, Expression};
+use arith_syntax::{AssignmentOperator, BinaryOperator, Part, name_of, parts_before, word_at};
 use std::alloc::Global;
 
 /// The operator that an assignment applies before it assigns, where it has one.
@@ -31,6 +31,7 @@ fn operator_of(op: AssignmentOperator) -> Option<BinaryOperator>
 
 /// What an assignment assigns: its operand, or what its operator gives of the name's value and the operand.
 #[tactic(auto, using(crate::proofs::EvaluateLemmas::chained, crate::proofs::EvaluateLemmas::given))]
+#[inline(always)]
 fn combined(
     op: AssignmentOperator,
     name: &str,
@@ -47,6 +48,7 @@ fn combined(
 
 /// An assignment whose operand has the value `operand`; its value is what was assigned.
 #[tactic(auto, using(crate::proofs::EvaluateLemmas::chained, crate::proofs::EvaluateLemmas::broken))]
+#[inline(always)]
 fn assign(
     alloc: Global,
     name: &str,
@@ -61,42 +63,54 @@ fn assign(
     Ok(value)
 }
 
-/// The value of an expression; its assignments are made in the variables, also those before a fault.
+/// The value of the tree that some parts of a text are; its assignments are made in the variables, also those before a
+/// fault.
 #[tactic(auto, using(crate::proofs::EvaluateLemmas::evaluations))]
 pub fn evaluate(
     alloc: Global,
-    expression: &Expression,
+    text: &str,
+    parts: &[Part],
     variables: &mut Variables,
 ) -> Result<i64, ValueFault>
-    ensures { Evaluates (value (tree_of expression.now)) variables.old result variables.new }
+    ensures { Evaluates (value (tree_of text.now parts.now)) variables.old result variables.new }
 {
-    match expression {
-        Expression::Constant(n) => constant(*n),
-        Expression::Variable(name) => Ok(variables.read(name.as_str())),
-        Expression::Group(inner) => evaluate(alloc, inner, variables),
-        Expression::Unary(op, operand) => {
-            let value = evaluate(alloc, operand, variables)?;
-            unary(*op, value)
+    let Some((part, operands)) = parts.split_last() else {
+        return Ok(0);
+    };
+    match *part {
+        Part::Constant(n) => constant(n),
+        Part::Variable(place) => Ok(variables.read(word_at(text, place))),
+        Part::Group => evaluate(alloc, text, operands, variables),
+        Part::Unary(op) => {
+            let value = evaluate(alloc, text, operands, variables)?;
+            unary(op, value)
         }
-        Expression::Binary(left, op, right) => {
-            let first = evaluate(alloc, left, variables)?;
-            if let Some(value) = decided(*op, first) {
+        Part::Binary(op) => {
+            let first = evaluate(alloc, text, parts_before(operands), variables)?;
+            if let Some(value) = decided(op, first) {
                 return Ok(value);
             }
-            let second = evaluate(alloc, right, variables)?;
-            apply(*op, first, second)
+            let second = evaluate(alloc, text, operands, variables)?;
+            apply(op, first, second)
         }
-        Expression::Conditional(condition, if_so, if_not) => {
-            let tested = evaluate(alloc, condition, variables)?;
+        Part::Conditional => {
+            let if_so = parts_before(operands);
+            let tested = evaluate(alloc, text, parts_before(if_so), variables)?;
             if is_true(tested) {
-                evaluate(alloc, if_so, variables)
+                evaluate(alloc, text, if_so, variables)
             } else {
-                evaluate(alloc, if_not, variables)
+                evaluate(alloc, text, operands, variables)
             }
         }
-        Expression::Assignment(name, op, operand) => {
-            let assigned = evaluate(alloc, operand, variables)?;
-            assign(alloc, name.as_str(), *op, assigned, variables)
+        Part::Assignment(op) => {
+            let assigned = evaluate(alloc, text, operands, variables)?;
+            assign(
+                alloc,
+                name_of(text, parts_before(operands)),
+                op,
+                assigned,
+                variables,
+            )
         }
     }
 }

@@ -97,6 +97,7 @@ fn shift_right(left: i64, right: i64) -> Result<i64, ValueFault>
 }
 
 /// The value of an operator in front of its operand.
+#[inline(always)]
 pub fn unary(op: UnaryOperator, operand: i64) -> Result<i64, ValueFault>
     ensures { result ≡ unary op operand }
 {
@@ -109,6 +110,7 @@ pub fn unary(op: UnaryOperator, operand: i64) -> Result<i64, ValueFault>
 }
 
 /// The value of an operator between its operands.
+#[inline(always)]
 pub fn apply(op: BinaryOperator, left: i64, right: i64) -> Result<i64, ValueFault>
     ensures { result ≡ apply op left right }
 {
@@ -135,6 +137,7 @@ pub fn apply(op: BinaryOperator, left: i64, right: i64) -> Result<i64, ValueFaul
 }
 
 /// The value that the left operand decides by itself: a false one that of `&&`, and a true one that of `||`.
+#[inline(always)]
 pub(crate) fn decided(op: BinaryOperator, left: i64) -> Option<i64>
     ensures { result ≡ decided op left }
 {

@@ -50,6 +50,7 @@ impl Variables {
     }
 
     /// Assigns a value to a name. Where no memory is left, the variables are as they were.
+    #[inline(never)]
     pub fn set(&mut self, alloc: Global, name: &str, value: i64) -> Result<(), ValueFault>
         ensures { IsSet name.now value self.old result self.new }
     {

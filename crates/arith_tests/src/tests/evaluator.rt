@@ -1,50 +1,27 @@
 //! The values of expressions, and the variables after them.
 
-use arith_syntax::{AssignmentOperator, BinaryOperator, Expression, UnaryOperator};
+use arith_syntax::{AssignmentOperator, BinaryOperator, Part, UnaryOperator};
 use arith_value::{ValueFault, Variables, evaluate};
-use listed::Text;
-use std::alloc::{AllocFailed, Global};
+use std::alloc::Global;
 use std::test::Fail;
 
-/// A constant.
-fn constant(alloc: Global, n: u64) -> Result<Box<Expression>, AllocFailed<Expression>> {
-    Box::new(alloc, Expression::Constant(n))
-}
+/// The text whose words are the names `x` and `y`.
+const NAMES: &str = "x y";
 
-/// An operator between two operands.
-fn binary(
-    alloc: Global,
-    left: Box<Expression>,
-    op: BinaryOperator,
-    right: Box<Expression>,
-) -> Result<Box<Expression>, AllocFailed<Expression>> {
-    Box::new(alloc, Expression::Binary(left, op, right))
-}
+/// The name `x`, which stands at 0.
+const X: Part = Part::Variable(0);
 
-/// An assignment to a name.
-fn assignment(
-    alloc: Global,
-    name: &str,
-    op: AssignmentOperator,
-    operand: Box<Expression>,
-) -> Result<Box<Expression>, Fail> {
-    let name = Text::new(String::from_str(alloc, name)?);
-    Ok(Box::new(alloc, Expression::Assignment(name, op, operand))?)
-}
+/// The name `y`, which stands at 2.
+const Y: Part = Part::Variable(2);
 
-/// `x = n`
-fn x_is(alloc: Global, n: u64) -> Result<Box<Expression>, Fail> {
-    assignment(alloc, "x", AssignmentOperator::Assign, constant(alloc, n)?)
-}
+/// An assignment with no further operator.
+const ASSIGN: Part = Part::Assignment(AssignmentOperator::Assign);
 
-/// What an expression gives where `x` is 1, and what `x` is after it.
-fn given(
-    alloc: Global,
-    expression: &Expression,
-) -> Result<(Result<i64, ValueFault>, Option<i64>), Fail> {
+/// What the tree of these parts gives where `x` is 1, and what `x` is after it.
+fn given(alloc: Global, parts: &[Part]) -> Result<(Result<i64, ValueFault>, Option<i64>), Fail> {
     let mut variables = Variables::new(alloc);
     variables.set(alloc, "x", 1)?;
-    let answer = evaluate(alloc, expression, &mut variables);
+    let answer = evaluate(alloc, NAMES, parts, &mut variables);
     Ok((answer, variables.get("x")))
 }
 
@@ -58,17 +35,31 @@ fn operands_are_evaluated_where_they_are_needed(rt: HostRuntime) -> Result<(), F
         (0, BinaryOperator::Or, 1, 5),
         (7, BinaryOperator::Add, 12, 5),
     ] {
-        let tree = binary(alloc, constant(alloc, left)?, op, x_is(alloc, 5)?)?;
+        let parts = [
+            Part::Constant(left),
+            X,
+            Part::Constant(5),
+            ASSIGN,
+            Part::Binary(op),
+        ];
         assert_eq!(rt;
-            given(alloc, &tree)?,
+            given(alloc, &parts)?,
             (Ok(wanted), Some(x)),
             "{left} {op:?} (x = 5)"
         );
     }
     for (condition, wanted) in [(2, 5), (0, 6)] {
-        let condition = constant(alloc, condition)?;
-        let tree = Expression::Conditional(condition, x_is(alloc, 5)?, x_is(alloc, 6)?);
-        assert_eq!(rt; given(alloc, &tree)?, (Ok(wanted), Some(wanted)));
+        let parts = [
+            Part::Constant(condition),
+            X,
+            Part::Constant(5),
+            ASSIGN,
+            X,
+            Part::Constant(6),
+            ASSIGN,
+            Part::Conditional,
+        ];
+        assert_eq!(rt; given(alloc, &parts)?, (Ok(wanted), Some(wanted)));
     }
     Ok(())
 }
@@ -89,9 +80,9 @@ fn a_name_is_read_after_the_operand(rt: HostRuntime) -> Result<(), Fail> {
         (AssignmentOperator::BitXor, 0),
         (AssignmentOperator::BitOr, 5),
     ] {
-        let tree = assignment(alloc, "x", op, x_is(alloc, 5)?)?;
+        let parts = [X, X, Part::Constant(5), ASSIGN, Part::Assignment(op)];
         assert_eq!(rt;
-            given(alloc, &tree)?,
+            given(alloc, &parts)?,
             (Ok(wanted), Some(wanted)),
             "x {op:?} (x = 5)"
         );
@@ -102,18 +93,18 @@ fn a_name_is_read_after_the_operand(rt: HostRuntime) -> Result<(), Fail> {
 #[test]
 fn assignments_before_a_fault_stay(rt: HostRuntime) -> Result<(), Fail> {
     let alloc = rt.alloc();
-    let zero = constant(alloc, 0)?;
-    let tree = binary(alloc, x_is(alloc, 5)?, BinaryOperator::Divide, zero)?;
+    let divided = [
+        X,
+        Part::Constant(5),
+        ASSIGN,
+        Part::Constant(0),
+        Part::Binary(BinaryOperator::Divide),
+    ];
     assert_eq!(rt;
-        given(alloc, &tree)?,
+        given(alloc, &divided)?,
         (Err(ValueFault::ZeroDivision), Some(5))
     );
-    let large = assignment(
-        alloc,
-        "x",
-        AssignmentOperator::Assign,
-        constant(alloc, 1 << 63)?,
-    )?;
+    let large = [X, Part::Constant(1 << 63), ASSIGN];
     assert_eq!(rt; given(alloc, &large)?, (Err(ValueFault::Overflow), Some(1)));
     Ok(())
 }
@@ -121,14 +112,7 @@ fn assignments_before_a_fault_stay(rt: HostRuntime) -> Result<(), Fail> {
 #[test]
 fn an_unset_variable_is_0(rt: HostRuntime) -> Result<(), Fail> {
     let alloc = rt.alloc();
-    let name = Text::new(String::from_str(alloc, "y")?);
-    let tree = Expression::Unary(
-        UnaryOperator::Not,
-        Box::new(
-            alloc,
-            Expression::Group(Box::new(alloc, Expression::Variable(name))?),
-        )?,
-    );
-    assert_eq!(rt; given(alloc, &tree)?, (Ok(1), Some(1)));
+    let parts = [Y, Part::Group, Part::Unary(UnaryOperator::Not)];
+    assert_eq!(rt; given(alloc, &parts)?, (Ok(1), Some(1)));
     Ok(())
 }

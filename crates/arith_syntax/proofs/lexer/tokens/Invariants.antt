@@ -1,5 +1,5 @@
 use Rattle.std.proofs.Common.{length, ◌-◌}
-use Rattle.arith_syntax.proofs.TokensReadLemmas.{IsReached}
+use Rattle.arith_syntax.specs.Lexed.{IsReached}
 use Rattle.arith_syntax.proofs.lexer.tokens.Given as goal
 
 abbrev pub invariant-loop-place : goal.invariant-loop-place

@@ -4,4 +4,4 @@ use Rattle.arith_syntax.specs.Reading.{tokens_of}
 use Rattle.arith_syntax.proofs.parser.Parser.read.Given as goal
 
 abbrev pub invariant-loop-placed : goal.invariant-loop-placed
-invariant-loop-placed l = run (Some start) (tokens_of (take l.placed-index l.tokens)) ≡ Some (state_of l.self)
+invariant-loop-placed l = run (Some start) (tokens_of (take l.placed-index l.tokens)) ≡ Some (state_of l.text l.self)
