@@ -11,14 +11,14 @@ from concurrent.futures import ThreadPoolExecutor
 
 FILES = {
     "HANDLES": "Handles allowed: Threads, Wait, Net.\n",
-    "crates.txt": "base_sample:\nsample: base_sample\nsample_tests: sample\n",
-    "crates/sample_tests/src/lib.rt": """//! Tests of the sample.
+    "crates.txt": "base_sample:\nsample: base_sample\ntest_sample: sample\n",
+    "crates/test_sample/src/lib.rt": """//! Tests of the sample.
 #![tactic(auto)]
 
 #[cfg(test)]
 mod tests;
 """,
-    "crates/sample_tests/src/tests.rt": """//! What the sample comes to.
+    "crates/test_sample/src/tests.rt": """//! What the sample comes to.
 
 use sample::twice;
 use std::test::Fail;
@@ -185,19 +185,19 @@ KINDS = {
     ),
     "harmless": (("sample", "file: src/lib.rt", "old: cap(n) + 1", "new: 1 + cap(n)"), "sample/harmless: FAILED: not refused: "),
     "seen_by_a_test": (
-        ("sample", "test: sample_tests tests::twice_three_is_six", "file: src/lib.rt", "old: k + k", "new: k + k + 1"),
-        "sample/seen_by_a_test: refused by its test: sample_tests tests::twice_three_is_six",
+        ("sample", "test: test_sample tests::twice_three_is_six", "file: src/lib.rt", "old: k + k", "new: k + k + 1"),
+        "sample/seen_by_a_test: refused by its test: test_sample tests::twice_three_is_six",
     ),
     "unseen_by_a_test": (
-        ("sample", "test: sample_tests tests::twice_three_is_six", "file: src/lib.rt", "old:     5 * n", "new:     4 * n"),
-        "sample/unseen_by_a_test: FAILED: not refused: sample_tests tests::twice_three_is_six passes with it",
+        ("sample", "test: test_sample tests::twice_three_is_six", "file: src/lib.rt", "old:     5 * n", "new:     4 * n"),
+        "sample/unseen_by_a_test: FAILED: not refused: test_sample tests::twice_three_is_six passes with it",
     ),
     "no_code_for_a_test": (
-        ("sample", "test: sample_tests tests::twice_three_is_six", "file: src/lib.rt", "old: k + k", "new: k + thrive"),
+        ("sample", "test: test_sample tests::twice_three_is_six", "file: src/lib.rt", "old: k + k", "new: k + thrive"),
         "sample/no_code_for_a_test: FAILED: bad edit: its test was not run: ",
     ),
     "by_no_test": (
-        ("sample", "test: sample_tests tests::twice_four", "file: src/lib.rt", "old: k + k", "new: k"),
+        ("sample", "test: test_sample tests::twice_four", "file: src/lib.rt", "old: k + k", "new: k"),
         "sample/by_no_test: FAILED: bad edit: its line 'test:' names no crate with a test of this name",
     ),
     "no_code": (("sample", "file: src/lib.rt", "old: 2 * twice(n)", "new: 2 * thrive(n)"), "sample/no_code: FAILED: bad edit: it did not reach the prover"),

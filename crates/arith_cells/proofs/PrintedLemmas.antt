@@ -25,6 +25,7 @@ of_answered (Failed fault.Shift) memory other is known = known
 of_answered (Failed fault.TooDeep) memory other is known = known
 of_answered (Failed fault.Interrupted) memory other is known = known
 of_answered (Failed fault.OutOfMemory) memory other is known = absurd is
+of_answered (Failed (fault.Raised name value)) memory other is known = known
 
 -- what is known of a refusal that isn't want of memory
 pub of_reported : (f : InterpFault) (memory other : Type 0) → IsReported f → IfMemory f memory other → other
@@ -35,6 +36,7 @@ of_reported fault.Shift memory other is known = known
 of_reported fault.TooDeep memory other is known = known
 of_reported fault.Interrupted memory other is known = known
 of_reported fault.OutOfMemory memory other is known = absurd is
+of_reported (fault.Raised name value) memory other is known = known
 
 -- a cell that goes on has no end yet
 pub is_more : (next : Next) → goes_on next ≡ true → next ≡ More

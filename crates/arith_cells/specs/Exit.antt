@@ -9,7 +9,7 @@ exit_code Done = 0
 exit_code Failed = 1
 exit_code WordsRefused = 2
 
--- the line for a person on standard error, where there is one
+-- the line for a person on standard error, if there is one
 abbrev pub exit_line : Status → Option (List ℕ)
 exit_line Done = None
 exit_line Failed = Some (codes "arith_cells: failed")

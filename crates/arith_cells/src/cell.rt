@@ -83,7 +83,7 @@ fn print_outputs<W: Write>(outputs: &[Output], writer: &mut W) -> io::Result<()>
     for output in outputs {
         match output {
             Output::Stdout(text) => writer.write_all(text.as_str().as_bytes())?,
-            Output::Stderr(_) | Output::Display(..) => {}
+            Output::Stderr(_) | Output::Display(..) | Output::DisplayHtml { .. } => {}
         }
     }
     Ok(())
@@ -102,7 +102,7 @@ fn print_fault<W: Write>(alloc: Global, fault: &InterpFault, writer: &mut W) -> 
     ensures line { OnOk result (Appends (W.contents writer.old) (W.contents writer.new) (fault_line fault.now)) }
     ensures reported { OnOk result (IsReported fault.now) }
 {
-    if *fault == InterpFault::OutOfMemory {
+    if let InterpFault::OutOfMemory = fault {
         return Err(io::Error::from(AllocError));
     }
     let Ok((name, value)) = fault_words(alloc, fault) else {

@@ -44,6 +44,8 @@ answered old new text tree means (Err fault.TooDeep) h = record { statement = Ok
 answered old new text tree means (Err fault.Interrupted) h =
     record { statement = Ok tree; means = means; evaluates = h }
 answered old new text tree means (Err fault.OutOfMemory) h = tt
+answered old new text tree means (Err (fault.Raised name words)) h =
+    record { statement = Ok tree; means = means; evaluates = h }
 
 -- a statement whose evaluation found no memory
 pub gave_up : (old new : Bindings) (text : List ℕ) (tree : Tree) → StatementMeans (chars text) (Ok tree)
@@ -57,3 +59,4 @@ gave_up old new text tree means (Err fault.Shift) h = tt
 gave_up old new text tree means (Err fault.TooDeep) h = tt
 gave_up old new text tree means (Err fault.Interrupted) h = tt
 gave_up old new text tree means (Err fault.OutOfMemory) h = inr (tree, means, h)
+gave_up old new text tree means (Err (fault.Raised name words)) h = tt

@@ -1,4 +1,5 @@
--- What shell arithmetic answers as an interpreter: its state is its variables, and a cell the trees of its statements.
+-- What shell arithmetic (POSIX, Shell and Utilities, 2.6.4) answers as an interpreter. Its state is its variables, and
+-- a cell is the trees of its statements.
 use Rattle.std.specs.Prelude.{◌≡◌, ◌≢◌, ℕ, ℤ, ◌<◌, Bool, true, false, List, [], ◌∷◌, ◌++◌, ◌⊎◌, length, take, filter}
 use Rattle.std.specs.Prelude.{codes, Option, Some, None, Result, Ok, Err}
 use Rattle.std.specs.Fmt.{signed_decimal}
@@ -33,13 +34,13 @@ shell_info = record {
   version = codes "1.0";
 }
 
--- a fault of a text
+-- a fault of a text's reading, as one of an interpreter
 abbrev pub from_read : ReadFault → InterpFault
 from_read (read_fault.Syntax place) = fault.Syntax place
 from_read read_fault.TooDeep = fault.TooDeep
 from_read read_fault.OutOfMemory = fault.OutOfMemory
 
--- a fault of a value
+-- a fault of a value, as one of an interpreter
 abbrev pub from_value : ValueFault → InterpFault
 from_value value_fault.Overflow = fault.Overflow
 from_value value_fault.ZeroDivision = fault.ZeroDivision
@@ -56,8 +57,8 @@ abbrev pub printed : Result ℤ ValueFault → Result (List ℕ) InterpFault
 printed (Ok n) = Ok (signed_decimal n)
 printed (Err fault) = Err (from_value fault)
 
--- an expression's value as it is printed, or its fault, with the variables after it; where no memory was found, the
--- variables after a beginning of its assignments
+-- An expression's value as it is printed, or its fault, with the variables after it. If no memory was found, the
+-- variables are those after a beginning of its assignments.
 abbrev pub IsPrintedValue : Tree → Bindings → Result (List ℕ) InterpFault → Bindings → Type 0
 IsPrintedValue tree old (Ok text) new = (Ok text ≡ printed (value tree old).result)
     × (new ≡ after old (value tree old).made)
@@ -75,7 +76,7 @@ pub record IsRead (text : List ℕ) (answer : Result (List Tree) InterpFault) : 
 abbrev pub Begins : Bindings → List ℕ → Result (List Tree) InterpFault → Bindings → Type 0
 Begins old text answer new = IsRead text answer × (new ≡ old)
 
--- what a statement's value shows: a line on standard output, or the cell's value where it is the last
+-- what a statement's value shows: it is the cell's value if no statement is left, and else a line on standard output
 abbrev pub shows : Result (List ℕ) InterpFault → List Tree → Stepped
 shows (Ok text) [] = record { outputs = []; next = Done (Some text) }
 shows (Ok text) (tree ∷ trees) = record { outputs = Stdout (text ++ codes "\n") ∷ []; next = More }
@@ -87,7 +88,7 @@ Runs old [] stepped new left = ⊥
 Runs old (tree ∷ trees) stepped new left =
     (stepped ≡ shows (printed (value tree old).result) trees) × (new ≡ after old (value tree old).made) × (left ≡ trees)
 
--- whether a statement is the last, the ones behind it being these
+-- whether a statement is the last, if these come after it
 abbrev pub IsLast : Bool → List Tree → Type 0
 IsLast true left = left ≡ []
 IsLast false left = 0 < length left
@@ -97,7 +98,7 @@ abbrev pub BreaksOff : Bindings → List Tree → Bindings → Type 0
 BreaksOff old [] new = ⊥
 BreaksOff old (tree ∷ trees) new = Stops (value tree) old new
 
--- the names that begin with the word before the cursor, which counts up to the text's end
+-- the names that begin with the word before the cursor; a cursor past the text's end counts as the end
 abbrev pub completion : Bindings → List ℕ → ℕ → Completion
 completion variables text cursor = record {
   matches = filter (begins (word_before text cursor)) (names variables);
@@ -116,12 +117,12 @@ abbrev pub shown_variable : List ℕ → Option ℤ → Option (List ℕ)
 shown_variable name None = None
 shown_variable name (Some n) = Some (name ++ (codes " = " ++ signed_decimal n))
 
--- the variable at the cursor
+-- the variable whose name is the word at the cursor, as it is shown, or none if it is unset
 abbrev pub inspection : Bindings → List ℕ → ℕ → Option (List ℕ)
 inspection variables text cursor =
     shown_variable (word_around text cursor) (find (word_around text cursor) variables)
 
--- whether a text is a whole cell: where its fault is one of syntax at its end, a longer one might be
+-- Whether a text is a whole cell. It may become one by more text exactly if its fault is one of syntax at its end.
 abbrev pub Judges : List ℕ → Result Completeness InterpFault → Type 0
 Judges text (Ok Complete) = (trees : List Tree) × CellMeans text (Ok trees)
 Judges text (Ok Incomplete) = CellMeans text (Err (read_fault.Syntax (length text)))

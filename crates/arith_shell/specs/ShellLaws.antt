@@ -1,4 +1,4 @@
--- The laws of shell arithmetic as an interpreter, where a text has one reading.
+-- The laws of shell arithmetic as an interpreter, if a text has one reading.
 use Rattle.std.proofs.Common.{◌≡◌, ℕ, zero, suc, List, [], ◌∷◌, length, Result, Ok, Err, inl, inr, refl, sym, ◌∙◌, ap}
 use Rattle.std.proofs.Common.{subst, ℤ}
 use Rattle.std.specs.Str.{chars}
@@ -17,7 +17,7 @@ use Rattle.arith_value.specs.declared.fault.ValueFault.{ValueFault}
 use Rattle.arith_value.specs.declared.fault.ValueFault.TheVariants as value_fault
 use Rattle.arith_value.specs.Own as values
 use Rattle.arith_value.proofs.Theorems.{values_are_their_own}
-use Rattle.interp_core.specs.Interpreter.{FailsOwn, HasOwn, IsEnd, Laws}
+use Rattle.interp_core.specs.Interpreter.{FailsOwn, HasOneValue, HasOwn, IsEnd, Laws}
 use Rattle.arith_shell.specs.ShellArithmetic.{Begins, IsWorth, IsEvaluated, Judges, Runs, printed, read_answer}
 use Rattle.arith_shell.specs.ShellArithmetic.{shell_meaning, shows}
 
@@ -166,15 +166,8 @@ module _ (reads : HasOneReading) where
 
   pub shell_laws : Laws shell_meaning
   shell_laws = record {
-    one_info = λ state a b p q. p ∙ sym q;
-    one_begin = begun_once;
-    one_step = step_once;
     lessened = step_lessens;
     ended = step_ends;
-    one_completion = λ state text cursor a b p q. p.answers ∙ sym q.answers;
-    one_inspection = λ state text cursor a b p q. p ∙ sym q;
-    one_judgement = λ state text. judged_once (chars text);
-    one_evaluation = evaluated_once;
     own_info = λ state answer p. subst HasOwn (sym p) tt;
     own_begin = λ state text answer after p. subst HasOwn (sym p.0.answers) (own_cell (chars text) p.0.cell p.0.means);
     own_step = step_own;
@@ -182,4 +175,16 @@ module _ (reads : HasOneReading) where
     own_inspection = λ state text cursor answer p. subst HasOwn (sym p) tt;
     own_judgement = λ state text. own_judged (chars text);
     own_evaluation = λ state text answer after p. own_statement state text p.statement answer after p.means p.evaluates;
+  }
+
+  -- each definition of shell arithmetic has one value
+  pub shell_once : HasOneValue shell_meaning
+  shell_once = record {
+    one_info = λ state a b p q. p ∙ sym q;
+    one_begin = begun_once;
+    one_step = step_once;
+    one_completion = λ state text cursor a b p q. p.answers ∙ sym q.answers;
+    one_inspection = λ state text cursor a b p q. p ∙ sym q;
+    one_judgement = λ state text. judged_once (chars text);
+    one_evaluation = evaluated_once;
   }

@@ -9,7 +9,7 @@ abbrev pub is_word_character : ℕ → Bool
 is_word_character c =
     (nat_le 48 c && nat_le c 57) || (nat_le 65 c && nat_le c 90) || (nat_le 97 c && nat_le c 122) || (c == 95)
 
--- where the longest run begins that ends a text
+-- the place at which the longest run begins that ends a text
 abbrev pub run_start : List ℕ → ℕ
 run_start text = length text - suffix_len is_word_character text
 

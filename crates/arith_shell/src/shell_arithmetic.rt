@@ -12,7 +12,7 @@ use crate::fault::{from_read, from_value};
 use crate::statement::{run_first, value_text};
 use arith_syntax::{Part, ReadFault, read_cell, read_statement};
 use arith_value::Variables;
-use interp_core::{Completeness, Completion, Info, InterpFault, Interpreter, Stepped};
+use interp_core::{Completeness, Completion, Determined, Info, InterpFault, Interpreter, Stepped};
 use listed::{Row, Text};
 use std::alloc::Global;
 use std::collections::VecDeque;
@@ -126,6 +126,13 @@ impl Interpreter for ShellArith {
     ghost use Rattle.arith_shell.specs.ShellLaws.{shell_laws};
 
     ghost laws = { shell_laws one_reading };
+}
+
+impl Determined for ShellArith {
+    ghost use Rattle.arith_syntax.proofs.Theorems.{one_reading};
+    ghost use Rattle.arith_shell.specs.ShellLaws.{shell_once};
+
+    ghost once = { shell_once one_reading };
 }
 
 /// What shell arithmetic says of itself.

@@ -13,14 +13,15 @@ use Rattle.arith_syntax.specs.Parts.{IsNamed}
 use Rattle.arith_syntax.specs.Reading.{Sentence, is_semicolon, sentences, has_tokens, AllMean, CellMeans, OrMemory}
 use Rattle.arith_syntax.specs.Tokens.{IsTokens, IsWrongAt}
 
--- the text is wrong at a place, where this place was reached
+-- the text is wrong at a place, if the place from which it was looked at was reached; want of memory says nothing
 abbrev pub IsWrongFrom : List ℕ → ℕ → ReadFault → Type 0
 IsWrongFrom text place (Syntax wrong) = (found : List Placed) → IsReached text found place
     → IsWrongAt (chars text) wrong
 IsWrongFrom text place TooDeep = ⊥
 IsWrongFrom text place OutOfMemory = ⊤
 
--- where a sentence ends that begins at a place that was reached: at a `;`, or at the end of the text
+-- A sentence that begins at a place that was reached ends at a `;`, after which the text goes on, or at the end of the
+-- text.
 abbrev pub CutsAt : List ℕ → ℕ → List Placed → ℕ → Option ℕ → Type 0
 CutsAt text place tokens end (Some next) = (place < next) × (semicolon : Placed) × (is_semicolon semicolon.token ≡ true)
     × (semicolon.place ≡ end)
@@ -28,7 +29,7 @@ CutsAt text place tokens end (Some next) = (place < next) × (semicolon : Placed
 CutsAt text place tokens end None = (end ≡ length (chars text))
     × ((found : List Placed) → IsReached text found place → IsTokens (chars text) (found ++ tokens))
 
--- the tokens of a sentence, none of which is `;`
+-- the tokens of a sentence: none is `;`, each name is the word at its place, and the sentence ends as it has to
 pub record IsCut (text : List ℕ) (place : ℕ) (tokens : List Placed) (cut : Cut) : Type 0 where
   pub plain : All (λ (p : Placed). is_semicolon p.token ≡ false) tokens
   pub named : All (IsNamed text) tokens
@@ -39,18 +40,18 @@ abbrev pub Cuts : List ℕ → ℕ → Result Cut ReadFault → List Placed → 
 Cuts text place (Ok cut) tokens = IsCut text place tokens cut
 Cuts text place (Err fault) tokens = IsWrongFrom text place fault
 
--- a text is tokens from a place on that was reached, or wrong
+-- from a place that was reached on, a text is tokens, or it is wrong
 abbrev pub Skips : List ℕ → ℕ → Result (Unit {0}) ReadFault → Type 0
 Skips text place (Ok done) = (found : List Placed) → IsReached text found place
     → (more : List Placed) × IsTokens (chars text) (found ++ more)
 Skips text place (Err fault) = IsWrongFrom text place fault
 
--- what comes behind a sentence was reached, if anything does
+-- the place after a sentence was reached, if there is one
 abbrev pub IsSomeReachable : List ℕ → Option ℕ → Type 0
 IsSomeReachable text None = ⊤
 IsSomeReachable text (Some place) = IsReachable text place
 
--- the fault of a sentence, or that of a wrong token behind it
+-- What is told of a sentence's fault. A wrong token after the sentence is told in its place, if there is one.
 abbrev pub IsTold : List ℕ → Option ℕ → ReadFault → ReadFault → Type 0
 IsTold text None fault told = told ≡ fault
 IsTold text (Some place) fault told = (IsWrongFrom text place told)

@@ -1,4 +1,5 @@
--- The grammar of POSIX shell arithmetic: which trees are statements, and which tokens spell them.
+-- The grammar of shell arithmetic (POSIX, Shell and Utilities, 2.6.4): which trees are statements, and which tokens
+-- spell them.
 --
 --   level 0       primary      constant; name; ( assignment )
 --   level 1       unary        + - ~ ! before a unary; primary
@@ -23,7 +24,9 @@ use Rattle.arith_syntax.specs.declared.token.Token.{Token}
 use Rattle.arith_syntax.specs.declared.token.Token.TheVariants.{Constant, Name, Operator, Assign, Complement, Not}
 use Rattle.arith_syntax.specs.declared.token.Token.TheVariants.{Question, Colon, Open, Close}
 
--- a tree of the grammar
+-- A tree of the grammar: what a statement means, without its white space. A constant has its number and a variable its
+-- name. A group is what stands in parentheses. An operator has its operands. A conditional has its condition, and its
+-- values if that is true and if it is false. An assignment has its name, its operator and its operand.
 pub data Tree : Type 0 where
   Number : ℕ → Tree
   Variable : List ℕ → Tree
@@ -54,7 +57,7 @@ operator_level binary.BitOr = 9
 operator_level binary.And = 10
 operator_level binary.Or = 11
 
--- the strongest level that has the form of a tree
+-- the level whose rule gives a tree its outermost form
 abbrev pub level : Tree → ℕ
 level (Number n) = 0
 level (Variable x) = 0
@@ -64,7 +67,9 @@ level (Binary a op b) = operator_level op
 level (Conditional c a b) = 12
 level (Assignment x op e) = 13
 
--- each part of a tree is of the level that the grammar asks for in its place
+-- A tree needs no more parentheses than it has: each part is of a level that the grammar allows in its place. Left of
+-- an operator with two operands the operator's own level is allowed, and right of it only stronger ones. So such
+-- operators group from the left, and `?:` and assignments from the right.
 abbrev pub IsGrammatical : Tree → Type 0
 IsGrammatical (Number n) = Unit {0}
 IsGrammatical (Variable x) = Unit {0}
@@ -93,13 +98,13 @@ spelled (Binary a op b) = spelled a ++ (Operator op ∷ spelled b)
 spelled (Conditional c a b) = spelled c ++ (Question ∷ (spelled a ++ (Colon ∷ spelled b)))
 spelled (Assignment x op e) = Name x ∷ Assign op ∷ spelled e
 
--- the grammar: tokens of a level, and their tree
+-- the grammar: these tokens spell this tree, whose level is this one or a stronger one
 pub record Derives (at_most : ℕ) (tokens : List Token) (tree : Tree) : Type 0 where
   pub spells : tokens ≡ spelled tree
   pub fits : level tree ≤ at_most
   pub grammatical : IsGrammatical tree
 
--- a statement: an assignment, and all that is stronger
+-- a statement: a tree of level 13, which an assignment has, or of a stronger level
 abbrev pub IsStatement : List Token → Tree → Type 0
 IsStatement tokens tree = Derives 13 tokens tree
 

@@ -21,7 +21,7 @@ Lexes text (Err (Syntax place)) = IsWrongAt text place
 Lexes text (Err TooDeep) = ⊥
 Lexes text (Err OutOfMemory) = ⊤
 
--- the longest run of characters of a kind that a text begins with has this size
+-- a text begins with so many characters of a kind, and another one of it doesn't follow
 pub record IsRun (P : ℕ → Type 0) (text : List ℕ) (size : ℕ) : Type 0 where
   pub fits : size ≤ length text
   pub inside : All P (take size text)
@@ -31,13 +31,13 @@ pub record IsRun (P : ℕ → Type 0) (text : List ℕ) (size : ℕ) : Type 0 wh
 abbrev pub IsDigitOf : ℕ → ℕ → Type 0
 IsDigitOf base c = IsHexadecimalDigit c × (digit_value c < base)
 
--- digits of a base, and what they are worth, in 63 bits
+-- what digits of a base are worth, if that is below 2^63
 pub record IsNumber (base : ℕ) (digits : List ℕ) (n : ℕ) : Type 0 where
   pub proper : All (IsDigitOf base) digits
   pub value : n ≡ in_base base digits
   pub fits : n < 2 ^ 63
 
--- what some digits are worth to a base, where they are its digits and fit
+-- what some characters are worth as digits of a base, or that they aren't such digits or are worth 2^63 or more
 abbrev pub ReadsNumber : ℕ → List ℕ → Option ℕ → Type 0
 ReadsNumber base digits (Some n) = IsNumber base digits n
 ReadsNumber base digits None = (n : ℕ) → IsNumber base digits n → ⊥
@@ -81,7 +81,7 @@ pub record IsReached (text : List ℕ) (found : List Placed) (place : ℕ) : Typ
 abbrev pub IsReachable : List ℕ → ℕ → Type 0
 IsReachable text place = (found : List Placed) × IsReached text found place
 
--- the token at a place that was reached, and the place behind it; or none is there
+-- the token at a place that was reached, and the place after it; or no token stands there
 abbrev pub ReadsNext : List ℕ → ℕ → Result Next ReadFault → Type 0
 ReadsNext text place (Ok next) =
     (place < next.behind)

@@ -30,7 +30,7 @@ pub data Begun : Type 0 where
   Divided : Tree → Tree → Begun
   Named : List ℕ → AssignmentOperator → Begun
 
--- how weak an operator has to be that ends a construct; 14 where none does
+-- the strongest level of an operator that ends a construct; 14 if none does
 abbrev pub rank : Begun → ℕ
 rank Opened = 14
 rank (Signed sign) = 1
@@ -62,7 +62,7 @@ built (Questioned c) u = Conditional c u (Number 0)
 built (Divided c a) u = Conditional c a u
 built (Named x op) u = Assignment x op u
 
--- constructs that have begun, the innermost first, and the operand that was read last; none where one is due
+-- constructs that have begun, the innermost first, and the operand that was read last, or none if one is due
 pub record State : Type 0 where
   pub begun : List Begun
   pub operand : Option Tree
@@ -72,7 +72,7 @@ pub record Settled : Type 0 where
   pub begun : List Begun
   pub operand : Tree
 
--- the innermost constructs end that aren't weaker than a level
+-- the innermost constructs end that aren't weaker than a level, and become the operand
 abbrev pub settle : ℕ → List Begun → Tree → Settled
 settle weak [] u = record { begun = []; operand = u }
 settle weak (b ∷ bs) u = cond (nat_le (rank b) weak) (settle weak bs (built b u))
@@ -95,31 +95,31 @@ abbrev pub begin_sign : Option UnaryOperator → List Begun → Option State
 begin_sign None bs = None
 begin_sign (Some sign) bs = begin (Signed sign) bs
 
--- a token where an operand is due
+-- what a token leads to if an operand is due
 abbrev pub take_due : List Begun → Token → Option State
 take_due bs (Constant n) = Some (record { begun = bs; operand = Some (Number n) })
 take_due bs (Name x) = Some (record { begun = bs; operand = Some (Variable x) })
 take_due bs Open = begin Opened bs
 take_due bs token = begin_sign (sign_of token) bs
 
--- `:` behind what has settled
+-- what `:` leads to after a settled operand
 abbrev pub take_colon : List Begun → Tree → Option State
 take_colon [] u = None
 take_colon (Questioned c ∷ bs) u = begin (Divided c u) bs
 take_colon (_ ∷ bs) u = None
 
--- `)` behind what has settled
+-- what `)` leads to after a settled operand
 abbrev pub take_close : List Begun → Tree → Option State
 take_close [] u = None
 take_close (Opened ∷ bs) u = Some (record { begun = bs; operand = Some (Group u) })
 take_close (_ ∷ bs) u = None
 
--- an assignment's sign behind an operand
+-- what an assignment's sign leads to after an operand, which has to be a name
 abbrev pub take_assign : AssignmentOperator → List Begun → Tree → Option State
 take_assign op bs (Variable x) = cond (nat_le 13 (room_of bs)) (begin (Named x op) bs) None
 take_assign op bs _ = None
 
--- a token behind an operand
+-- what a token leads to after an operand
 abbrev pub take_behind : List Begun → Tree → Token → Option State
 take_behind bs u (Operator op) =
     let s = settle (operator_level op) bs u in begin (Operated s.operand op) s.begun
@@ -129,12 +129,12 @@ take_behind bs u Colon = let s = settle 13 bs u in take_colon s.begun s.operand
 take_behind bs u Close = let s = settle 13 bs u in take_close s.begun s.operand
 take_behind bs u _ = None
 
--- a token behind an operand, or where one is due
+-- what a token leads to, after an operand or if one is due
 abbrev pub take_at : List Begun → Option Tree → Token → Option State
 take_at bs None token = take_due bs token
 take_at bs (Some u) token = take_behind bs u token
 
--- a token from a state; none where it doesn't fit
+-- the state that a token leads to, or none if it doesn't fit
 abbrev pub advance : State → Token → Option State
 advance s token = take_at s.begun s.operand token
 
@@ -142,31 +142,31 @@ advance s token = take_at s.begun s.operand token
 abbrev pub start : State
 start = record { begun = []; operand = None }
 
--- a token after others
+-- what a token leads to after others, if these fitted
 abbrev pub advance_on : Option State → Token → Option State
 advance_on None token = None
 advance_on (Some s) token = advance s token
 
--- tokens in turn
+-- what tokens lead to, one after the other
 abbrev pub run : Option State → List Token → Option State
 run s [] = s
 run s (token ∷ tokens) = run (advance_on s token) tokens
 
--- what is whole at the end, with no construct around it
+-- the tree at the end, if no construct around it is open
 abbrev pub outermost : List Begun → Tree → Option Tree
 outermost [] u = Some u
 outermost (b ∷ bs) u = None
 
--- the end behind an operand, or where one is due
+-- the tree at the end of the tokens, if an operand was read last and no construct is open
 abbrev pub close_at : List Begun → Option Tree → Option Tree
 close_at bs None = None
 close_at bs (Some u) = let s = settle 13 bs u in outermost s.begun s.operand
 
--- the end from a state
+-- the tree at the end of the tokens, from a state, if there is one
 abbrev pub close : State → Option Tree
 close s = close_at s.begun s.operand
 
--- the construct that a frame of the parser stands for, where the trees before it are these
+-- the construct that a frame of the parser stands for, if these trees were read before it, the last one first
 abbrev pub begun_of : Frame → List Tree → Begun
 begun_of frame.Open trees = Opened
 begun_of (frame.Unary sign) trees = Signed sign
@@ -175,7 +175,7 @@ begun_of frame.Question trees = Questioned (last trees)
 begun_of frame.Colon trees = Divided (last (before trees)) (last trees)
 begun_of (frame.Assign op) trees = Named (name_of (last trees)) op
 
--- the trees that aren't in it
+-- the trees that are no part of that construct
 abbrev pub left_by : Frame → List Tree → List Tree
 left_by frame.Open trees = trees
 left_by (frame.Unary sign) trees = trees
@@ -198,7 +198,7 @@ begun_by (f ∷ fs) trees = begun_of f trees ∷ begun_by fs (left_by f trees)
 abbrev pub stack_of : List Frame → List Tree → List Begun
 stack_of frames trees = begun_by (turned frames) trees
 
--- the state that frames and trees stand for, the last of which is the operand, or none where one is due
+-- The state that frames and trees stand for. If an operand was read last it is the last tree, and else one is due.
 abbrev pub state_at : List Frame → Bool → List Tree → State
 state_at frames false trees = record { begun = stack_of frames trees; operand = None }
 state_at frames true trees = record { begun = stack_of frames (before trees); operand = Some (last trees) }
@@ -207,11 +207,11 @@ state_at frames true trees = record { begun = stack_of frames (before trees); op
 abbrev pub state_of : List ℕ → Parser → State
 state_of text parser = state_at parser.frames.items parser.held (trees_in text parser.parts.items)
 
--- the constructs that a parser of a text stands for that holds an operand
+-- the constructs around the operand that a parser of a text holds
 abbrev pub around : List ℕ → Parser → List Begun
 around text parser = stack_of parser.frames.items (before (trees_in text parser.parts.items))
 
--- and that operand
+-- the operand that a parser of a text holds
 abbrev pub operand_of : List ℕ → Parser → Tree
 operand_of text parser = tree_of text parser.parts.items
 
@@ -221,7 +221,7 @@ IsMemory (Syntax place) = ⊥
 IsMemory TooDeep = ⊥
 IsMemory OutOfMemory = ⊤
 
--- the part that a construct becomes
+-- the part that a construct becomes, whatever its text and its trees are
 abbrev pub IsBuilt : Frame → Part → Type 0
 IsBuilt f p = (text : List ℕ) (trees : List Tree) → grown text p trees
     ≡ built (begun_of f (before trees)) (last trees) ∷ left_by f (before trees)
@@ -236,60 +236,61 @@ abbrev pub ends_at : ℕ → List Begun → Bool
 ends_at weak [] = false
 ends_at weak (b ∷ bs) = nat_le (rank b) weak
 
--- a frame more
+-- a frame was put onto a stack as its innermost, or no memory was left
 abbrev pub PushesTo : Frame → List Frame → Result (Unit {0}) ReadFault → List Frame → Type 0
 PushesTo f old (Ok done) new = turned new ≡ f ∷ turned old
 PushesTo f old (Err fault) new = IsMemory fault
 
--- the innermost frame, taken off
+-- the innermost frame was taken off a stack, or there was none
 abbrev pub Pops : List Frame → Option Frame → List Frame → Type 0
 Pops old None new = (turned old ≡ []) × (turned new ≡ [])
 Pops old (Some f) new = turned old ≡ f ∷ turned new
 
--- the innermost frame, taken off unless it is weaker than a level
+-- the innermost frame was taken off a stack; or it is weaker than a level, or there is none, and it stayed
 abbrev pub PopsEnding : ℕ → List Frame → Option Frame → List Frame → Type 0
 PopsEnding weak old None new = (turned new ≡ turned old) × ((trees : List Tree) → StopsAt weak (stack_of old trees))
 PopsEnding weak old (Some f) new = (turned old ≡ f ∷ turned new) × ((trees : List Tree)
     → rank (begun_of f trees) ≤ weak)
 
--- the innermost frame, taken off, which is a `?`, or `:` can't follow
+-- the innermost frame was a `?` and was taken off, or `:` can't follow
 abbrev pub PopsCondition : List Frame → Bool → List Frame → Type 0
 PopsCondition old true new = turned old ≡ frame.Question ∷ turned new
 PopsCondition old false new = (trees : List Tree) (u : Tree) → take_colon (stack_of old trees) u ≡ None
 
--- the innermost frame, taken off, which is a `(`, or `)` can't follow
+-- the innermost frame was a `(` and was taken off, or `)` can't follow
 abbrev pub PopsOpen : List Frame → Bool → List Frame → Type 0
 PopsOpen old true new = turned old ≡ frame.Open ∷ turned new
 PopsOpen old false new = (trees : List Tree) (u : Tree) → take_close (stack_of old trees) u ≡ None
 
--- no frame is left, or the end can't follow
+-- no frame is left, or the tokens can't end here
 abbrev pub IsWholeStack : List Frame → Bool → Type 0
 IsWholeStack frames true = (trees : List Tree) → stack_of frames trees ≡ []
 IsWholeStack frames false = (trees : List Tree) (u : Tree) → outermost (stack_of frames trees) u ≡ None
 
--- a tree is a name, or no assignment's sign can follow
+-- a tree is a name, or an assignment's sign can't follow it
 abbrev pub IsNameOf : Tree → Bool → Type 0
 IsNameOf u true = u ≡ Variable (name_of u)
 IsNameOf u false = (op : AssignmentOperator) (bs : List Begun) → take_assign op bs u ≡ None
 
--- a part more, behind which an operand was read
+-- a parser got one part more, which is its operand; or no memory was left
 abbrev pub HoldsMore : Part → Parser → Result (Unit {0}) ReadFault → Parser → Type 0
 HoldsMore p old (Ok done) new =
     (new.frames ≡ old.frames) × (new.parts.items ≡ old.parts.items ++ (p ∷ [])) × (new.held ≡ true)
 HoldsMore p old (Err fault) new = IsMemory fault
 
--- what has settled
+-- the constructs and the operand are what has settled, or no memory was left
 abbrev pub SettlesTo : Settled → Result (Unit {0}) ReadFault → List Begun → Tree → Type 0
 SettlesTo settled (Ok done) begun operand = settled ≡ record { begun = begun; operand = operand }
 SettlesTo settled (Err fault) begun operand = IsMemory fault
 
--- the state that a token leads to, or none
+-- the parser's answer after a token: it is in the state that the token leads to, or the token doesn't fit, or no memory
+-- was left
 abbrev pub LeadsTo : Option State → Result Bool ReadFault → State → Type 0
 LeadsTo next (Ok true) new = next ≡ Some new
 LeadsTo next (Ok false) new = next ≡ None
 LeadsTo next (Err fault) new = IsMemory fault
 
--- the tree at the end, or none
+-- the parser's answer at the end: it has the tree, or there is none, or no memory was left
 abbrev pub ClosesTo : Option Tree → Result Bool ReadFault → Tree → Type 0
 ClosesTo tree (Ok true) u = tree ≡ Some u
 ClosesTo tree (Ok false) u = tree ≡ None

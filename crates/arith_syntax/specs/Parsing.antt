@@ -9,14 +9,15 @@ use Rattle.arith_syntax.specs.Grammar.{Tree, IsStatement}
 use Rattle.arith_syntax.specs.Parts.{tree_of}
 use Rattle.arith_syntax.specs.Reading.{Sentence, FailsAtToken, FailsAtEnd, tokens_of}
 
--- the tree of a sentence, or the first of its places that doesn't fit
+-- the tree of a sentence, or its first place that doesn't fit; want of memory says nothing
 abbrev pub Parses : Sentence → Tree → Result (Unit {0}) ReadFault → Type 0
 Parses sentence tree (Ok done) = IsStatement (tokens_of sentence.tokens) tree
 Parses sentence tree (Err (Syntax place)) = FailsAtToken sentence place ⊎ FailsAtEnd sentence place
 Parses sentence tree (Err TooDeep) = ⊥
 Parses sentence tree (Err OutOfMemory) = ⊤
 
--- the same of the parts of the tree, for a sentence of this text
+-- The parts of the tree of a sentence of this text, or the sentence's first place that doesn't fit. Want of memory says
+-- nothing.
 abbrev pub IsParsed : Sentence → List ℕ → Result (Vec Part) ReadFault → Type 0
 IsParsed sentence text (Ok parts) = IsStatement (tokens_of sentence.tokens) (tree_of text parts.items)
 IsParsed sentence text (Err (Syntax place)) = FailsAtToken sentence place ⊎ FailsAtEnd sentence place

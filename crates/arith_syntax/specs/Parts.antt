@@ -1,5 +1,5 @@
--- Trees as the program keeps them: their parts in a row, each behind the parts that it is made of. A name is the place
--- of its word in the text.
+-- Trees as the program keeps them: their parts in a row, each after the parts that it is made of. A name is kept as the
+-- place of its word in the text.
 use Rattle.std.specs.Prelude.{◌≡◌, ℕ, Bool, ◌||◌, ◌&&◌, ◌==◌, List, [], ◌∷◌, drop, map}
 use Rattle.std.specs.Bool.{nat_le}
 use Rattle.std.specs.Global.{Vec}
@@ -19,12 +19,12 @@ is_word_character c =
 abbrev pub word_at : List ℕ → ℕ → List ℕ
 word_at text place = take_while is_word_character (drop place text)
 
--- the last of some trees, the last one first
+-- the last of some trees, which are listed from the last to the first
 abbrev pub last : List Tree → Tree
 last [] = Number 0
 last (e ∷ trees) = e
 
--- the trees before it
+-- the trees before the last one
 abbrev pub before : List Tree → List Tree
 before [] = []
 before (e ∷ trees) = trees

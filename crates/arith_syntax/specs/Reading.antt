@@ -1,4 +1,5 @@
--- What a text means as statements: its trees, or its first fault.
+-- What a text means as statements of shell arithmetic (POSIX, Shell and Utilities, 2.6.4): its trees, or its first
+-- fault.
 use Rattle.std.specs.Bool.{nat_lt}
 use Rattle.std.specs.Prelude.{◌≡◌, ℕ, ◌<◌, ⊤, Bool, true, false, List, [], ◌∷◌, ◌++◌, ◌⊎◌, map, length, filter}
 use Rattle.std.specs.Prelude.{count_by, if◌then◌else◌, Result, Ok, Err}
@@ -33,7 +34,8 @@ sentence_of tokens end = record { tokens = tokens; end = end }
 abbrev pub IsTooDeep : Sentence → Type 0
 IsTooDeep sentence = 200 < count_by (λ (p : Placed). is_operator p.token) sentence.tokens
 
--- the first token with which no statement goes on: a statement begins with the tokens before it, none with it too
+-- the first token with which no statement goes on: some statement begins with the tokens before it, but none with these
+-- and it
 pub record FailsAtToken (sentence : Sentence) (place : ℕ) : Type 0 where
   pub before : List Placed
   pub token : Placed
@@ -43,13 +45,13 @@ pub record FailsAtToken (sentence : Sentence) (place : ℕ) : Type 0 where
   pub breaks : BeginsStatement (tokens_of before ++ token.token ∷ []) → ⊥
   pub there : place ≡ token.place
 
--- a statement begins with the tokens of a sentence, and they are none: its end is the first that doesn't fit
+-- some statement begins with the tokens of a sentence, but they aren't one: its end is the first place that doesn't fit
 pub record FailsAtEnd (sentence : Sentence) (place : ℕ) : Type 0 where
   pub begins : BeginsStatement (tokens_of sentence.tokens)
   pub breaks : (tree : Tree) → IsStatement (tokens_of sentence.tokens) tree → ⊥
   pub there : place ≡ sentence.end
 
--- what a sentence is: its tree, or its fault, that of too many operators before that of its syntax
+-- What a sentence is: its tree, or its fault. If it has too many operators that is its fault, whatever its syntax.
 abbrev pub Means : Sentence → Result Tree ReadFault → Type 0
 Means sentence (Ok tree) = (IsTooDeep sentence → ⊥) × IsStatement (tokens_of sentence.tokens) tree
 Means sentence (Err (Syntax place)) =
@@ -57,14 +59,14 @@ Means sentence (Err (Syntax place)) =
 Means sentence (Err TooDeep) = IsTooDeep sentence
 Means sentence (Err OutOfMemory) = ⊥
 
--- each sentence has its tree
+-- there are as many trees as sentences, and each sentence has its tree
 abbrev pub AllMean : List Sentence → List Tree → Type 0
 AllMean [] [] = Unit {0}
 AllMean [] (tree ∷ trees) = ⊥
 AllMean (sentence ∷ sentences) [] = ⊥
 AllMean (sentence ∷ sentences) (tree ∷ trees) = Means sentence (Ok tree) × AllMean sentences trees
 
--- the first of some sentences that has a fault, and that fault
+-- the fault of the first sentence that has one
 pub record FailsFirst (sentences : List Sentence) (fault : ReadFault) : Type 0 where
   pub before : List Sentence
   pub trees : List Tree
@@ -84,18 +86,18 @@ abbrev pub with_first : Placed → List Sentence → List Sentence
 with_first token [] = []
 with_first token (sentence ∷ sentences) = record sentence { tokens = token ∷ sentence.tokens } ∷ sentences
 
--- the sentences that `;` cuts tokens into, `end` being the place of the last one's end
+-- the sentences that tokens are cut into at each `;`; the last one ends at the place `end`
 abbrev pub sentences : ℕ → List Placed → List Sentence
 sentences end [] = sentence_of [] end ∷ []
 sentences end (token ∷ tokens) =
     (if is_semicolon token.token then sentence_of [] token.place ∷ sentences end tokens
     else with_first token (sentences end tokens))
 
--- a sentence that isn't empty
+-- whether a sentence has a token
 abbrev pub has_tokens : Sentence → Bool
 has_tokens sentence = nat_lt 0 (length sentence.tokens)
 
--- the statements of a cell: its sentences but the empty ones
+-- the statements of a cell: its sentences without the empty ones
 abbrev pub cell_sentences : List ℕ → List Placed → List Sentence
 cell_sentences text tokens = filter has_tokens (sentences (length text) tokens)
 
@@ -103,13 +105,13 @@ cell_sentences text tokens = filter has_tokens (sentences (length text) tokens)
 abbrev pub whole_sentence : List ℕ → List Placed → Sentence
 whole_sentence text tokens = sentence_of tokens (length text)
 
--- a place at which a text is no tokens, as a fault
+-- the fault of a text that isn't tokens: one of syntax, at the place at which it is wrong
 abbrev pub IsWrong : List ℕ → ReadFault → Type 0
 IsWrong text (Syntax place) = IsWrongAt text place
 IsWrong text TooDeep = ⊥
 IsWrong text OutOfMemory = ⊥
 
--- what a cell means: the trees of its statements, or the first fault. That of its tokens comes before any other
+-- What a cell means: the trees of its statements, or its first fault. If the text isn't tokens, that is its fault.
 abbrev pub CellMeans : List ℕ → Result (List Tree) ReadFault → Type 0
 CellMeans text (Ok trees) = (tokens : List Placed) × IsTokens text tokens × AllMean (cell_sentences text tokens) trees
 CellMeans text (Err fault) =
@@ -123,13 +125,13 @@ StatementMeans text (Err fault) =
     IsWrong text fault ⊎ ((tokens : List Placed) × IsTokens text tokens
     × Means (whole_sentence text tokens) (Err fault))
 
--- a fault that a definition has, or want of memory, of which none speaks
+-- a fault that has a property, or want of memory, about which no definition says anything
 abbrev pub OrMemory : (ReadFault → Type 0) → ReadFault → Type 0
 OrMemory P (Syntax place) = P (Syntax place)
 OrMemory P TooDeep = P TooDeep
 OrMemory P OutOfMemory = ⊤
 
--- a sentence adds its tree to some trees, or nothing where it is empty
+-- a sentence adds its tree to some trees, and an empty one adds nothing
 pub record Adds (sentence : Sentence) (old new : List Tree) : Type 0 where
   pub added : List Tree
   pub all : new ≡ old ++ added

@@ -1,5 +1,5 @@
--- The tokens of a text of POSIX shell arithmetic. At each place the longest token counts; a place is the number of code
--- points before it.
+-- The tokens of a text of shell arithmetic (POSIX, Shell and Utilities, 2.6.4). At each place the longest token counts.
+-- A place is the number of code points before it.
 use Rattle.std.specs.Prelude.{◌≡◌, ℕ, ◌+◌, ◌-◌, ◌*◌, ◌^◌, ◌≤◌, ◌<◌, ◌⊎◌, List, [], ◌∷◌, ◌++◌, length, codes}
 use Rattle.std.specs.Prelude.{if◌then◌else◌}
 use Rattle.std.specs.Bool.{nat_le}
@@ -47,7 +47,7 @@ FirstCharacterIs P (c ∷ cs) = P c
 abbrev pub digit_value : ℕ → ℕ
 digit_value c = (if nat_le c 57 then c - 48 else (if nat_le c 70 then c - 55 else c - 87))
 
--- what digits are worth to a base: each digit counts by its position
+-- the number that digits spell in a base: each digit counts by its position
 abbrev pub in_base : ℕ → List ℕ → ℕ
 in_base base [] = 0
 in_base base (d ∷ ds) = digit_value d * base ^ length ds + in_base base ds
@@ -58,7 +58,7 @@ pub record IsDecimal (word : List ℕ) (n : ℕ) : Type 0 where
   pub digits : All IsDigit word
   pub value : n ≡ in_base 10 word
 
--- an octal constant: `0` and octal digits, none of them where it is `0` alone
+-- an octal constant: `0`, and octal digits if there are more; `0` alone is one, too
 pub record IsOctal (word : List ℕ) (n : ℕ) : Type 0 where
   pub digits : List ℕ
   pub spelled : word ≡ 48 ∷ digits
@@ -75,11 +75,11 @@ pub record IsHexadecimal (word : List ℕ) (n : ℕ) : Type 0 where
   pub hexadecimal : All IsHexadecimalDigit digits
   pub value : n ≡ in_base 16 digits
 
--- a constant of 63 bits
+-- a constant, which has to be below 2^63: decimal, octal or hexadecimal
 abbrev pub IsConstant : List ℕ → ℕ → Type 0
 IsConstant word n = (n < 2 ^ 63) × (IsDecimal word n ⊎ IsOctal word n ⊎ IsHexadecimal word n)
 
--- a word: the longest run of letters, digits and `_` that stands here, `rest` being what follows it
+-- a word: a run of letters, digits and `_`; what follows it, `rest`, begins with none of these
 pub record IsWord (word rest : List ℕ) : Type 0 where
   pub characters : All IsWordCharacter word
   pub longest : FirstCharacterIs IsWordCharacter rest → ⊥
@@ -135,7 +135,7 @@ IsSign Open text = text ≡ codes "("
 IsSign Close text = text ≡ codes ")"
 IsSign Semicolon text = text ≡ codes ";"
 
--- the longest sign that stands here
+-- a sign that stands here, if no sign that stands here is longer; `rest` follows it
 pub record IsLongestSign (token : Token) (sign rest : List ℕ) : Type 0 where
   pub is_sign : IsSign token sign
   pub longest : (other : Token) (text more : List ℕ) → IsSign other text → sign ++ rest ≡ text ++ more
@@ -147,7 +147,8 @@ IsToken (Constant n) word rest = IsWord word rest × IsConstant word n
 IsToken (Name x) word rest = IsWord word rest × FirstCharacterIs IsLetter word × (x ≡ word)
 IsToken token sign rest = IsLongestSign token sign rest
 
--- the tokens that a text begins with, from a place on; `rest` is what is left behind them, at the place `end`
+-- the tokens that a text begins with; the text begins at the place `place`, and `rest` is what follows them, at the
+-- place `end`
 abbrev pub ReadsTokens : ℕ → List ℕ → List Placed → ℕ → List ℕ → Type 0
 ReadsTokens place text [] end rest = (end ≡ place) × (rest ≡ text)
 ReadsTokens place text (t ∷ ts) end rest =
@@ -163,7 +164,8 @@ pub record IsTokens (text : List ℕ) (tokens : List Placed) : Type 0 where
   pub reads : ReadsTokens 0 text tokens end rest
   pub white : All IsWhite rest
 
--- the character at this place begins no token, or a constant that is wrong; before it stand tokens and white space
+-- Before this place stand tokens and white space. At it stands a character that begins no token, or a constant that is
+-- wrong.
 pub record IsWrongAt (text : List ℕ) (place : ℕ) : Type 0 where
   pub tokens : List Placed
   pub end : ℕ

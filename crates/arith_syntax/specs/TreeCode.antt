@@ -1,5 +1,4 @@
--- Trees as lists, by which a proof tells them apart: the parts of a tree, each behind the parts that it is assembled
--- of.
+-- Trees as lists, by which a proof tells them apart: the parts of a tree, each after the parts that it is assembled of.
 use Rattle.std.specs.Prelude.{◌≡◌, ℕ, Bool, true, false, List, [], ◌∷◌, ◌++◌, ◌⊎◌, refl}
 use Rattle.std.specs.Coded.{Coded, code_by, coded_ℕ, coded_bool, coded_list, coded×, coded⊎}
 use Rattle.std.proofs.Common.{inl, inr, ap, sym, ◌∙◌, append_assoc, append-nil}
@@ -11,11 +10,12 @@ use Rattle.arith_syntax.specs.contracts.operator.UnaryOperator as unary
 use Rattle.arith_syntax.specs.contracts.operator.AssignmentOperator as assignment
 use Rattle.arith_syntax.specs.Grammar.{Tree, Number, Variable, Group, Unary, Binary, Conditional, Assignment}
 
--- a part of a tree without what it is assembled of; the last two are a group and a conditional
+-- A part of a tree, without what it is assembled of: a constant, a variable, a sign before an operand, an operator, an
+-- assignment, or a group or a conditional.
 abbrev pub Part : Type 0
 Part = ℕ ⊎ (List ℕ ⊎ (UnaryOperator ⊎ (BinaryOperator ⊎ ((List ℕ × AssignmentOperator) ⊎ Bool))))
 
--- the code of a part
+-- a code of parts: what tells two parts apart, and decides whether they are equal
 abbrev pub part_code : Coded Part
 part_code =
     coded⊎ coded_ℕ (coded⊎ (coded_list coded_ℕ) (coded⊎ unary.the_row.coded (coded⊎ binary.the_row.coded
@@ -31,22 +31,22 @@ parts (Binary a op b) = parts a ++ (parts b ++ (inr (inr (inr (inl op))) ∷ [])
 parts (Conditional c a b) = parts c ++ (parts a ++ (parts b ++ (inr (inr (inr (inr (inr true)))) ∷ [])))
 parts (Assignment x op e) = parts e ++ (inr (inr (inr (inr (inl (x, op))))) ∷ [])
 
--- the last tree becomes another
+-- the last of some trees is changed by `f`
 abbrev pub of_one : (Tree → Tree) → List Tree → List Tree
 of_one f [] = []
 of_one f (e ∷ trees) = f e ∷ trees
 
--- the last two become one
+-- the last two of some trees become one by `f`
 abbrev pub of_two : (Tree → Tree → Tree) → List Tree → List Tree
 of_two f [] = []
 of_two f (b ∷ trees) = of_one (λ a. f a b) trees
 
--- the last three become one
+-- the last three of some trees become one by `f`
 abbrev pub of_three : (Tree → Tree → Tree → Tree) → List Tree → List Tree
 of_three f [] = []
 of_three f (b ∷ trees) = of_two (λ c a. f c a b) trees
 
--- one part more
+-- the trees after one part more, the last one first
 abbrev pub grown : Part → List Tree → List Tree
 grown (inl n) trees = Number n ∷ trees
 grown (inr (inl x)) trees = Variable x ∷ trees
@@ -89,7 +89,8 @@ assembled-parts (Assignment x op e) trees more =
     ap (assembled trees) (append_assoc (parts e) (inr (inr (inr (inr (inl (x, op))))) ∷ []) more)
     ∙ assembled-parts e trees _
 
--- the code of trees
+-- A code of trees: a tree is coded as the list of its parts, from which it can be assembled again. So two trees are
+-- equal exactly if their parts are.
 abbrev pub tree_code : Coded Tree
 tree_code =
     code_by (List Part) (coded_list part_code) parts (λ ps. last_of (assembled [] ps))

@@ -1,4 +1,5 @@
 mod EvaluateLemmas
+mod OnePassLemmas
 mod OwnLemmas
 mod VariablesLemmas
 pub mod Theorems

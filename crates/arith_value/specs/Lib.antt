@@ -1,3 +1,4 @@
+pub mod OnePass
 pub mod Operators
 pub mod Own
 pub mod Value

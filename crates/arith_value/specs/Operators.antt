@@ -1,4 +1,5 @@
--- The operators of POSIX shell arithmetic over whole numbers, whose results 64 bits must hold.
+-- The operators of shell arithmetic (POSIX, Shell and Utilities, 2.6.4) over whole numbers. Their results have to fit
+-- into 64 bits with a sign.
 use Rattle.std.specs.Prelude.{ℕ, zero, suc, ◌*◌, ◌/◌, ◌^◌, Bool, true, false, ◌&&◌, ◌||◌, not, ℤ, pos, negsuc, ◌+ℤ◌}
 use Rattle.std.specs.Prelude.{◌-ℤ◌, ◌*ℤ◌, neg_ℤ, int_lt, int_le, int_div, int_rem, nat_lt, bit_and, bit_or, bit_xor}
 use Rattle.std.specs.Prelude.{if◌then◌else◌, Result, Ok, Err}
@@ -11,12 +12,12 @@ use Rattle.arith_syntax.specs.declared.operator.UnaryOperator.TheVariants as pre
 use Rattle.arith_value.specs.declared.fault.ValueFault.{ValueFault}
 use Rattle.arith_value.specs.declared.fault.ValueFault.TheVariants.{Overflow, ZeroDivision, Shift}
 
--- a result, from -2^63 to 2^63 - 1; `negsuc n` is -(n + 1)
+-- a result, which has to lie between -2^63 and 2^63 - 1; `negsuc n` is -(n + 1)
 abbrev pub checked : ℤ → Result ℤ ValueFault
 checked (pos n) = if nat_lt n (2 ^ 63) then Ok (pos n) else Err Overflow
 checked (negsuc n) = if nat_lt n (2 ^ 63) then Ok (negsuc n) else Err Overflow
 
--- a number is true where it is not 0
+-- a number is true unless it is 0
 abbrev pub is_true : ℤ → Bool
 is_true (pos zero) = false
 is_true (pos (suc n)) = true
@@ -27,25 +28,25 @@ abbrev pub truth : Bool → ℤ
 truth true = pos 1
 truth false = pos 0
 
--- the quotient, towards zero
+-- the quotient, rounded towards zero; a division by 0 is refused
 abbrev pub quotient : ℤ → ℤ → Result ℤ ValueFault
 quotient a b = if is_true b then checked (int_div a b) else Err ZeroDivision
 
--- a remainder stands where a quotient does
+-- a remainder, unless the quotient has a fault
 abbrev pub beside : Result ℤ ValueFault → ℤ → Result ℤ ValueFault
 beside (Ok q) r = Ok r
 beside (Err fault) r = Err fault
 
--- the remainder, with the dividend's sign or 0: refused where the quotient is
+-- the remainder, which is 0 or has the dividend's sign; it is refused if the quotient is
 abbrev pub remainder : ℤ → ℤ → Result ℤ ValueFault
 remainder a b = beside (quotient a b) (int_rem a b)
 
--- how far a shift goes: 0 to 63
+-- how far a shift goes: 0 to 63; any other count is a fault
 abbrev pub count_of : ℤ → Result ℕ ValueFault
 count_of (pos count) = if nat_lt count 64 then Ok count else Err Shift
 count_of (negsuc count) = Err Shift
 
--- a natural number times a power of two
+-- a natural number times a power of two, if the count of the shift has no fault
 abbrev pub raised : ℕ → Result ℕ ValueFault → Result ℤ ValueFault
 raised a (Ok count) = checked (pos (a * 2 ^ count))
 raised a (Err fault) = Err fault
@@ -60,7 +61,7 @@ abbrev pub rounded_down : ℤ → ℕ → ℤ
 rounded_down (pos a) d = pos (a / d)
 rounded_down (negsuc a) d = negsuc (a / d)
 
--- a number divided by a power of two and rounded down
+-- a number divided by a power of two and rounded down, if the count of the shift has no fault
 abbrev pub lowered : ℤ → Result ℕ ValueFault → Result ℤ ValueFault
 lowered a (Ok count) = Ok (rounded_down a (2 ^ count))
 lowered a (Err fault) = Err fault

@@ -1,4 +1,5 @@
--- The value of a statement's tree: a whole number or a fault, and the assignments that were made on the way.
+-- The value of a statement's tree (POSIX, Shell and Utilities, 2.6.4): a whole number or a fault, and the assignments
+-- that were made on the way.
 --
 -- Left operands are evaluated before right ones. `&&`, `||` and `?:` evaluate only what they need.
 use Rattle.std.specs.Prelude.{◌≡◌, ℕ, ℤ, pos, List, [], ◌∷◌, ◌++◌, Result, Ok, Err, Option, Some, None, if◌then◌else◌}
@@ -17,15 +18,15 @@ pub record Evaluation : Type 0 where
   pub result : Result ℤ ValueFault
   pub made : Bindings
 
--- a computation: its evaluation where the variables are these
+-- a computation: what it comes to, by the variables before it
 abbrev pub Computation : Type 0
 Computation = Bindings → Evaluation
 
--- a result with no assignment
+-- a computation that has this result and assigns nothing
 abbrev pub give : Result ℤ ValueFault → Computation
 give result variables = record { result = result; made = [] }
 
--- the value of a name
+-- a computation whose result is the value of a name, and that assigns nothing
 abbrev pub load : List ℕ → Computation
 load name variables = give (Ok (read name variables)) variables
 
@@ -33,7 +34,8 @@ load name variables = give (Ok (read name variables)) variables
 abbrev pub store : List ℕ → ℤ → Computation
 store name value variables = record { result = Ok value; made = (name, value) ∷ [] }
 
--- an evaluation, and where it has a value what comes of that, its assignments behind those already made
+-- what comes after an evaluation: if that has a value, the next one by this value, with the assignments of both; else
+-- its fault
 abbrev pub followed : Result ℤ ValueFault → Bindings → (ℤ → Evaluation) → Evaluation
 followed (Ok value) made next = record { result = (next value).result; made = made ++ (next value).made }
 followed (Err fault) made next = record { result = Err fault; made = made }
@@ -44,7 +46,8 @@ first_then first next variables =
     followed (first variables).result (first variables).made
     (λ value. next value (after variables (first variables).made))
 
--- the value that the left operand decides by itself: a false one that of `&&`, and a true one that of `||`
+-- the value that the left operand decides by itself: 0 if it is false and the operator is `&&`, 1 if it is true and
+-- that is `||`
 abbrev pub decided : BinaryOperator → ℤ → Option ℤ
 decided binary.And a = if is_true a then None else Some (pos 0)
 decided binary.Or a = if is_true a then Some (pos 1) else None
@@ -59,7 +62,7 @@ unless (Some value) step = give (Ok value)
 abbrev pub operate : BinaryOperator → ℤ → Computation → Computation
 operate op a right = unless (decided op a) (first_then right (λ b. give (apply op a b)))
 
--- the operator that an assignment applies before it assigns, where it has one
+-- the operator that an assignment applies before it assigns, if it has one
 abbrev pub operator_of : AssignmentOperator → Option BinaryOperator
 operator_of assignment.Assign = None
 operator_of assignment.Add = Some binary.Add
@@ -73,7 +76,8 @@ operator_of assignment.BitAnd = Some binary.BitAnd
 operator_of assignment.BitXor = Some binary.BitXor
 operator_of assignment.BitOr = Some binary.BitOr
 
--- what an assignment assigns: its operand, or what its operator gives of the name's value, read now, and the operand
+-- what an assignment assigns: its operand, or what its operator gives of the name's value and the operand; the name is
+-- read after the operand was evaluated
 abbrev pub combined : Option BinaryOperator → List ℕ → ℤ → Computation
 combined None name operand = give (Ok operand)
 combined (Some op) name operand = first_then (load name) (λ old. give (apply op old operand))
@@ -82,7 +86,9 @@ combined (Some op) name operand = first_then (load name) (λ old. give (apply op
 abbrev pub assignment_of : List ℕ → AssignmentOperator → ℤ → Computation
 assignment_of name op operand = first_then (combined (operator_of op) name operand) (λ value. store name value)
 
--- the value of a tree
+-- The value of a tree by its variables. A constant is worth itself, a name its variable's value, a group what is in it.
+-- An operator with one operand is applied to its value; one with two evaluates the left first. `?:` evaluates its
+-- condition, and then one of its two values. An assignment evaluates its operand and then assigns.
 abbrev pub value : Tree → Computation
 value (Number n) = give (checked (pos n))
 value (Variable name) = load name
@@ -105,8 +111,8 @@ pub record Stops (step : Computation) (old new : Bindings) : Type 0 where
   pub beginning : done ++ rest ≡ (step old).made
   pub assigned : new ≡ after old done
 
--- a program's answer and the variables that it leaves are those of a computation; want of memory leaves the variables
--- after a beginning of the assignments
+-- A program's answer and the variables that it leaves are those of a computation. If memory was wanting, it leaves the
+-- variables after a beginning of the assignments.
 abbrev pub Evaluates : Computation → Bindings → Result ℤ ValueFault → Bindings → Type 0
 Evaluates step old (Ok n) new = Comes step old (Ok n) new
 Evaluates step old (Err fault.Overflow) new = Comes step old (Err fault.Overflow) new

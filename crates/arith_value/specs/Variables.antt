@@ -16,7 +16,7 @@ use Rattle.std.specs.BTreeMap.{insert_entry}
 use Rattle.std.specs.Option.{unwrap_or}
 use Rattle.std.specs.Str.{bytes_eq}
 
--- names with their values
+-- variables: names with their values
 abbrev pub Bindings : Type 0
 Bindings = List (List ℕ × ℤ)
 
@@ -28,11 +28,11 @@ name_order = slice_cmp nat_cmp
 abbrev pub names : Bindings → List (List ℕ)
 names variables = keys_of variables
 
--- the value of a name, or none where it is unset
+-- the value of a name, or none if it is unset
 abbrev pub find : List ℕ → Bindings → Option ℤ
 find name variables = lookup (bytes_eq name) variables
 
--- the value of a name, which is 0 where it is unset
+-- the value of a name, which is 0 if it is unset
 abbrev pub read : List ℕ → Bindings → ℤ
 read name variables = unwrap_or (find name variables) (pos 0)
 
@@ -48,11 +48,12 @@ abbrev pub after : Bindings → Bindings → Bindings
 after variables [] = variables
 after variables (made ∷ more) = after (assign made.0 made.1 variables) more
 
--- the variables that the entries of a map hold
+-- The variables that a map of the program holds: each entry's text becomes the octets of a name. The entries stay in
+-- their order.
 abbrev pub shown : List (String Global × ℤ) → Bindings
 shown entries = map (λ e. (string_bytes e.0, e.1)) entries
 
--- a name was set; memory is wanted for a new name alone, and where none was left the variables are as they were
+-- A name was set. Only a new name needs memory, and if none was left the variables are as they were.
 abbrev pub IsSet : List ℕ → ℤ → Bindings → Result Unit ValueFault → Bindings → Type 0
 IsSet name value old (Ok done) new = new ≡ assign name value old
 IsSet name value old (Err OutOfMemory) new = (find name old ≡ None) × (new ≡ old)
@@ -68,7 +69,7 @@ begins beginning name = starts_with nat_eq name beginning
 abbrev pub IsAscending : List (List ℕ) → Type 0
 IsAscending found = IsStrictlySortedBy name_order found
 
--- the names that begin with a text, in their order; want of memory has no names
+-- the names that begin with a text, in their order; want of memory says nothing
 abbrev pub NamesBeginning : List ℕ → Bindings → Result (Vec (List ℕ) Global) ValueFault → Type 0
 NamesBeginning beginning variables (Ok found) = found.items ≡ filter (begins beginning) (names variables)
 NamesBeginning beginning variables (Err OutOfMemory) = ⊤

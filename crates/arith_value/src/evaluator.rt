@@ -1,4 +1,4 @@
-//! The value of an expression.
+//! The value of an expression, found by going down its tree.
 
 ghost use Rattle.std.specs.Prelude.{◌≡◌};
 ghost use Rattle.arith_syntax.specs.Parts.{tree_of};
@@ -49,7 +49,7 @@ fn combined(
 /// An assignment whose operand has the value `operand`; its value is what was assigned.
 #[tactic(auto, using(crate::proofs::EvaluateLemmas::chained, crate::proofs::EvaluateLemmas::broken))]
 #[inline(always)]
-fn assign(
+pub(crate) fn assign(
     alloc: Global,
     name: &str,
     op: AssignmentOperator,
@@ -66,7 +66,7 @@ fn assign(
 /// The value of the tree that some parts of a text are; its assignments are made in the variables, also those before a
 /// fault.
 #[tactic(auto, using(crate::proofs::EvaluateLemmas::evaluations))]
-pub fn evaluate(
+pub(crate) fn evaluate(
     alloc: Global,
     text: &str,
     parts: &[Part],

@@ -2,12 +2,14 @@
 #![tactic(auto)]
 
 mod evaluator;
+mod expression;
 mod fault;
 mod laws;
+mod one_pass;
 mod operators;
 mod variables;
 
-pub use evaluator::evaluate;
+pub use expression::evaluate;
 pub use fault::ValueFault;
 pub use laws::law_values_are_their_own;
 pub use operators::{apply, unary};

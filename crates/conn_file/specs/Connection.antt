@@ -1,5 +1,5 @@
--- What a connection file says ('Jupyter Client', "Connection files"), and for what it is refused: the first reason, in
--- the order of the fields.
+-- What a connection file says ('Jupyter Client', "Connection files"; its text is JSON, RFC 8259). If it is refused, the
+-- reason is the first one, in the order of the fields.
 use Rattle.std.specs.Prelude.{ℕ, List, ◌&&◌, nat_le, if◌then◌else◌, Option, Some, None, Result, Ok, Err, codes}
 use Rattle.std.specs.Prelude.{option_and_then, is_some}
 use Rattle.std.specs.Option.{ok_or, option_map_or}
@@ -13,7 +13,7 @@ use Rattle.conn_file.specs.declared.field.Field.TheVariants as fields
 use Rattle.conn_file.specs.declared.fault.ConnFault.{ConnFault}
 use Rattle.conn_file.specs.declared.fault.ConnFault.TheVariants.{NotJson, Missing, Port, Transport, Scheme, OutOfMemory}
 
--- the key of a field
+-- the key of a field that is read
 abbrev pub field_name : Field → List ℕ
 field_name fields.Transport = codes "transport"
 field_name fields.Ip = codes "ip"
@@ -28,7 +28,7 @@ field_name fields.Key = codes "key"
 abbrev pub known_transport : List ℕ
 known_transport = codes "tcp"
 
--- the scheme by which it signs
+-- the scheme by which a kernel signs
 abbrev pub known_scheme : List ℕ
 known_scheme = codes "hmac-sha256"
 
@@ -43,7 +43,7 @@ expected_words fields.HbPort = codes "a whole number from 1 to 65535"
 expected_words fields.SignatureScheme = known_scheme
 expected_words fields.Key = codes "a text"
 
--- the number of a fault, from 40 on in the order in which the faults are listed
+-- the number of a fault; they count from 40 on, in the order in which the faults are listed
 abbrev pub connection_fault_number : ConnFault → ℕ
 connection_fault_number NotJson = 40
 connection_fault_number (Missing field) = 41
@@ -52,7 +52,7 @@ connection_fault_number Transport = 43
 connection_fault_number Scheme = 44
 connection_fault_number OutOfMemory = 45
 
--- a field that has to be there and be a text
+-- the text of a field: without the field, or if it is no text, the field counts as missing
 abbrev pub text_in : Field → Data → Result (List ℕ) ConnFault
 text_in field file = ok_or (option_and_then as_str (get (field_name field) file)) (Missing field)
 
@@ -62,21 +62,21 @@ port_number value =
     option_and_then (λ port. if nat_le 1 port && nat_le port 65535 then Some port else None)
     (option_and_then as_u64 (as_number value))
 
--- a field that has to be there and be a port
+-- the port of a field, which has to be there and to hold a whole number from 1 to 65535
 abbrev pub port_in : Field → Data → Result ℕ ConnFault
 port_in field file =
     option_map_or (λ value. ok_or (port_number value) (Port field)) (get (field_name field) file) (Err (Missing field))
 
--- a text that has to be this one
+-- a text that has to be this one, or the fault is this
 abbrev pub expected : List ℕ → ConnFault → List ℕ → Result Unit ConnFault
 expected wanted fault text = if bytes_eq text wanted then Ok tt else Err fault
 
--- the first is judged, and the next where it isn't refused
+-- the first is judged, and the next if it isn't refused
 abbrev pub then_judged : {A B : Type 0} → Result A ConnFault → (A → Result B ConnFault) → Result B ConnFault
 then_judged (Ok value) next = next value
 then_judged (Err fault) next = Err fault
 
--- what the fields of a connection file say
+-- what the fields of a connection file say, judged in their order
 abbrev pub fields_in : Data → Result Connection ConnFault
 fields_in file =
     then_judged (text_in fields.Transport file) (λ transport.
@@ -103,10 +103,10 @@ abbrev pub object_in : Option Data → Result Data ConnFault
 object_in None = Err NotJson
 object_in (Some file) = if is_some (as_object file) then Ok file else Err NotJson
 
--- a text as an object of JSON
+-- a text as an object of JSON (RFC 8259), or that it is none
 abbrev pub object_of : List ℕ → Result Data ConnFault
 object_of text = object_in (read text)
 
--- what the text of a connection file says
+-- what the text of a connection file says, or the first reason why it is refused
 abbrev pub connection_of : List ℕ → Result Connection ConnFault
 connection_of text = then_judged (object_of text) fields_in

@@ -26,7 +26,7 @@ pub struct Connection {
     pub control_port: u16,
     /// The port of the heartbeat.
     pub hb_port: u16,
-    /// The key, empty where nothing is signed.
+    /// The key, empty if nothing is signed.
     pub key: Octets,
 }
 

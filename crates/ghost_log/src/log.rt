@@ -29,7 +29,7 @@ impl<T> Log<T> {
         Log { of: PhantomData }
     }
 
-    /// The list with this value behind all others.
+    /// The list with this value after all others.
     pub fn and(&self, item: &T) -> Log<T>
         ensures { result.items ≡ self.now.items ++ item.now ∷ [] }
     {

@@ -1,4 +1,4 @@
--- What is known of an interpreter: what each of its calls answers, and the laws of that.
+-- What is known of an interpreter: what each of its calls answers, and the laws of its definitions.
 use Rattle.std.specs.Prelude.{◌≡◌, ⊤, ℕ, suc, List, Option, Result, Ok, Err}
 use Rattle.interp_core.specs.declared.fault.InterpFault.{InterpFault}
 use Rattle.interp_core.specs.declared.fault.InterpFault.TheVariants as fault
@@ -32,7 +32,7 @@ pub record Meaning (State Cell : Type 0) : Type 1 where
   -- what `evaluate` may leave that found no memory
   pub gives_up : State → List ℕ → State → Type 0
 
--- one fact where a fault is want of memory, and another where it is any other
+-- one fact if a fault is want of memory, and another if it is any other
 abbrev pub IfMemory : InterpFault → Type 0 → Type 0 → Type 0
 IfMemory (fault.Syntax place) memory other = other
 IfMemory fault.Overflow memory other = other
@@ -41,13 +41,14 @@ IfMemory fault.Shift memory other = other
 IfMemory fault.TooDeep memory other = other
 IfMemory fault.Interrupted memory other = other
 IfMemory fault.OutOfMemory memory other = memory
+IfMemory (fault.Raised name value) memory other = other
 
 -- an answer is one that a definition has, or want of memory
 abbrev pub Answers : {T : Type 0} → (Result T InterpFault → Type 0) → Result T InterpFault → Type 0
 Answers Has (Ok answer) = Has (Ok answer)
 Answers Has (Err fault) = IfMemory fault ⊤ (Has (Err fault))
 
--- a fact of an answer that is want of memory
+-- a fact that has to hold if an answer is want of memory
 abbrev pub OnMemory : {T : Type 0} → Result T InterpFault → Type 0 → Type 0
 OnMemory (Ok answer) P = ⊤
 OnMemory (Err fault) P = IfMemory fault P ⊤
@@ -64,8 +65,8 @@ ByMemory More memory other = other
 ByMemory (Done value) memory other = other
 ByMemory (Failed fault) memory other = IfMemory fault memory other
 
--- a fault that a definition may have: an interruption is for who runs the cell to say, and want of memory for the
--- program
+-- A fault that a language's definition may have. It isn't an interruption, which is for whoever runs the cell to tell,
+-- nor want of memory, which is for the program.
 abbrev pub IsOwnFault : InterpFault → Type 0
 IsOwnFault (fault.Syntax place) = ⊤
 IsOwnFault fault.Overflow = ⊤
@@ -74,38 +75,26 @@ IsOwnFault fault.Shift = ⊤
 IsOwnFault fault.TooDeep = ⊤
 IsOwnFault fault.Interrupted = ⊥
 IsOwnFault fault.OutOfMemory = ⊥
+IsOwnFault (fault.Raised name value) = ⊤
 
--- an answer, or such a fault
+-- an answer that is no fault, or one that a definition may have
 abbrev pub HasOwn : {T : Type 0} → Result T InterpFault → Type 0
 HasOwn (Ok answer) = ⊤
 HasOwn (Err fault) = IsOwnFault fault
 
--- a step that failed has such a fault
+-- if a step failed, then by a fault that a definition may have
 abbrev pub FailsOwn : Next → Type 0
 FailsOwn More = ⊤
 FailsOwn (Done value) = ⊤
 FailsOwn (Failed fault) = IsOwnFault fault
 
--- the laws of an interpreter: each definition has at most one value, and no fault that isn't its own; a step lessens
--- the steps that are left by one, and the one that leaves none ends the cell
+-- The laws of an interpreter. A step takes one from the steps that are left. A step that leaves none ends the cell. No
+-- definition has a fault that isn't its own.
 pub record Laws {State Cell : Type 0} (m : Meaning State Cell) : Type 0 where
-  pub one_info : (state : State) (a b : Result Info InterpFault) → m.tells state a → m.tells state b → a ≡ b
-  pub one_begin : (state : State) (text : List ℕ) (a b : Result Cell InterpFault) (after other : State)
-      → m.begins state text a after → m.begins state text b other → (a ≡ b) × (after ≡ other)
-  pub one_step : (state : State) (cell : Cell) (a b : Stepped) (after other : State) (left rest : Cell)
-      → m.runs state cell a after left → m.runs state cell b other rest → (a ≡ b) × (after ≡ other) × (left ≡ rest)
   pub lessened : (state : State) (cell : Cell) (stepped : Stepped) (after : State) (left : Cell)
       → m.runs state cell stepped after left → m.steps cell ≡ suc (m.steps left)
   pub ended : (state : State) (cell : Cell) (stepped : Stepped) (after : State) (left : Cell)
       → m.runs state cell stepped after left → m.steps left ≡ 0 → IsEnd stepped.next
-  pub one_completion : (state : State) (text : List ℕ) (cursor : ℕ) (a b : Result Completion InterpFault)
-      → m.completes state text cursor a → m.completes state text cursor b → a ≡ b
-  pub one_inspection : (state : State) (text : List ℕ) (cursor : ℕ) (a b : Result (Option (List ℕ)) InterpFault)
-      → m.inspects state text cursor a → m.inspects state text cursor b → a ≡ b
-  pub one_judgement : (state : State) (text : List ℕ) (a b : Result Completeness InterpFault) → m.judges state text a
-      → m.judges state text b → a ≡ b
-  pub one_evaluation : (state : State) (text : List ℕ) (a b : Result (List ℕ) InterpFault) (after other : State)
-      → m.evaluates state text a after → m.evaluates state text b other → (a ≡ b) × (after ≡ other)
   pub own_info : (state : State) (answer : Result Info InterpFault) → m.tells state answer → HasOwn answer
   pub own_begin : (state : State) (text : List ℕ) (answer : Result Cell InterpFault) (after : State)
       → m.begins state text answer after → HasOwn answer
@@ -119,3 +108,19 @@ pub record Laws {State Cell : Type 0} (m : Meaning State Cell) : Type 0 where
       → m.judges state text answer → HasOwn answer
   pub own_evaluation : (state : State) (text : List ℕ) (answer : Result (List ℕ) InterpFault) (after : State)
       → m.evaluates state text answer after → HasOwn answer
+
+-- each definition of a language has at most one value
+pub record HasOneValue {State Cell : Type 0} (m : Meaning State Cell) : Type 0 where
+  pub one_info : (state : State) (a b : Result Info InterpFault) → m.tells state a → m.tells state b → a ≡ b
+  pub one_begin : (state : State) (text : List ℕ) (a b : Result Cell InterpFault) (after other : State)
+      → m.begins state text a after → m.begins state text b other → (a ≡ b) × (after ≡ other)
+  pub one_step : (state : State) (cell : Cell) (a b : Stepped) (after other : State) (left rest : Cell)
+      → m.runs state cell a after left → m.runs state cell b other rest → (a ≡ b) × (after ≡ other) × (left ≡ rest)
+  pub one_completion : (state : State) (text : List ℕ) (cursor : ℕ) (a b : Result Completion InterpFault)
+      → m.completes state text cursor a → m.completes state text cursor b → a ≡ b
+  pub one_inspection : (state : State) (text : List ℕ) (cursor : ℕ) (a b : Result (Option (List ℕ)) InterpFault)
+      → m.inspects state text cursor a → m.inspects state text cursor b → a ≡ b
+  pub one_judgement : (state : State) (text : List ℕ) (a b : Result Completeness InterpFault) → m.judges state text a
+      → m.judges state text b → a ≡ b
+  pub one_evaluation : (state : State) (text : List ℕ) (a b : Result (List ℕ) InterpFault) (after other : State)
+      → m.evaluates state text a after → m.evaluates state text b other → (a ≡ b) × (after ≡ other)

@@ -10,7 +10,7 @@ use std::error::Error;
 use std::fmt::{self, Display, Formatter};
 
 /// Why an interpreter has no answer.
-#[derive(Clone, Copy, Debug, PartialEq, Eq)]
+#[derive(Debug, Drop)]
 pub enum InterpFault {
     /// The text has no reading from this place on, which is a number of code points.
     Syntax(u64),
@@ -26,12 +26,19 @@ pub enum InterpFault {
     Interrupted,
     /// No memory was left.
     OutOfMemory,
+    /// What the language itself says.
+    Raised {
+        /// The name of the fault, its `ename`.
+        name: Text,
+        /// What is said of it, its `evalue`.
+        value: Text,
+    },
 }
 
 impl InterpFault {
     /// The number of the fault, from 50 on in the order of the variants.
-    pub fn number(self) -> u8
-        ensures { result ≡ interp_fault_number self }
+    pub fn number(&self) -> u8
+        ensures { result ≡ interp_fault_number self.now }
     {
         match self {
             InterpFault::Syntax(_) => 50,
@@ -41,12 +48,13 @@ impl InterpFault {
             InterpFault::TooDeep => 54,
             InterpFault::Interrupted => 55,
             InterpFault::OutOfMemory => 56,
+            InterpFault::Raised { .. } => 57,
         }
     }
 
     /// The name of the fault, an `ename`.
-    pub fn name(self) -> &'static str
-        ensures { result.now ≡ fault_name self }
+    pub fn name(&self) -> &str
+        ensures { result.now ≡ fault_name self.now }
     {
         match self {
             InterpFault::Syntax(_) => "SyntaxError",
@@ -56,6 +64,7 @@ impl InterpFault {
             InterpFault::TooDeep => "TooDeep",
             InterpFault::Interrupted => "Interrupted",
             InterpFault::OutOfMemory => "OutOfMemory",
+            InterpFault::Raised { name, .. } => name.as_str(),
         }
     }
 }
@@ -76,6 +85,7 @@ impl Display for InterpFault {
             InterpFault::TooDeep => f.write_str("more than 200 operators"),
             InterpFault::Interrupted => f.write_str("interrupted"),
             InterpFault::OutOfMemory => f.write_str("out of memory"),
+            InterpFault::Raised { value, .. } => f.write_str(value.as_str()),
         }
     }
 }
@@ -86,8 +96,8 @@ impl Error for InterpFault {}
 ///
 /// # Errors
 ///
-/// `OutOfMemory` where there is none for the words.
-pub fn fault_words(alloc: Global, fault: &InterpFault) -> Result<(&'static str, Text), InterpFault>
+/// `OutOfMemory` if there is none for the words.
+pub fn fault_words(alloc: Global, fault: &InterpFault) -> Result<(&str, Text), InterpFault>
     ensures { MatchResult result (λ words. (words.0.now ≡ fault_name fault.now) × (words.1 ≡ fault_value fault.now))
         (λ refused. refused ≡ OutOfMemory) }
 {

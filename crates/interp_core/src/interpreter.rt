@@ -1,7 +1,7 @@
 //! The interface of an interpreter.
 
 ghost use Rattle.std.specs.Prelude.{◌≡◌, ◌+◌, ◌<◌, []};
-ghost use Rattle.interp_core.specs.Interpreter.{Answers, ByMemory, IsEnd, Laws, Meaning, OnMemory};
+ghost use Rattle.interp_core.specs.Interpreter.{Answers, ByMemory, HasOneValue, IsEnd, Laws, Meaning, OnMemory};
 
 use crate::answer::{Completeness, Completion, Info, Stepped};
 use crate::fault::InterpFault;
@@ -10,7 +10,8 @@ use std::alloc::Global;
 
 /// An interpreter of some language, which runs cells step by step.
 ///
-/// What its calls answer are the values of the language's definitions, its `meaning`, or want of memory.
+/// What its calls answer are values of the language's definitions, its `meaning`, or want of memory. A definition may
+/// have several: rows of a table that nobody ordered, for one.
 pub trait Interpreter {
     /// A text that was read, with the steps that it has left.
     type Cell: Drop;
@@ -80,6 +81,13 @@ pub trait Interpreter {
         ensures answered { Answers (λ answer. meaning.evaluates self.old text.now answer self.new) result }
         ensures refused { OnMemory result (meaning.gives_up self.old text.now self.new) };
 
-    /// Each definition has at most one value, and a cell ends within the steps that it has left.
+    /// A cell ends within the steps that it has left, and each fault is one that a definition may have.
     ghost laws: { Laws meaning };
+}
+
+/// An interpreter of a language whose definitions each have at most one value, so that a cell comes to the same
+/// whenever it is run on the same state.
+pub trait Determined: Interpreter {
+    /// Each definition has at most one value.
+    ghost once: { HasOneValue Self.Interpreter.meaning };
 }

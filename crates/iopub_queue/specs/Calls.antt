@@ -13,17 +13,17 @@ use Rattle.iopub_queue.specs.Entries.{StartsWith, Agree, longer, of, HasNoClose,
 use Rattle.iopub_queue.specs.Entries.{IsComplete, StandsBehind}
 use Rattle.iopub_queue.specs.Values.{Publishing, Told, Taking}
 
--- how many publishers a queue may have
+-- a queue may have so many publishers: 1 to 64
 abbrev pub IsCount : ℕ → Type 0
 IsCount n = (1 ≤ n) × (n ≤ 64)
 
--- how many places a queue may have
+-- a queue may have so many places: 1 to 65,536
 abbrev pub IsCapacity : ℕ → Type 0
 IsCapacity capacity = (1 ≤ capacity) × (capacity ≤ 65536)
 
 module _ {T : Type 0} where
-  -- A publisher published one more: an item, or its close. It's the same publisher, and in the queue's order the entry
-  -- stands behind all that it had published or was told of.
+  -- A publisher published one entry more: an item, or its close. It is the same publisher. In the queue's order the
+  -- entry stands after all that it had published or was told of.
   pub record Adds (old : Publishing T) (part : Option T) (new : Publishing T) : Type 0 where
     pub queue : new.queue ≡ old.queue
     pub number : new.number ≡ old.number
@@ -31,8 +31,8 @@ module _ {T : Type 0} where
     pub behind : StandsBehind new.told (old.number, part) old.told
     pub own_part : of old.number new.told ≡ new.published
 
-  -- The taker took one entry, of a number whose close wasn't taken. Where it was told of more than it had taken, the
-  -- entry is the next of that; a close stands last in each part of what it took.
+  -- The taker took one entry, of a number whose close wasn't taken. If it was told of more than it had taken, the entry
+  -- is the next of that. In the part of each number a close stands last.
   pub record TakesOne (old : Taking T) (number : ℕ) (part : Option T) (new : Taking T) : Type 0 where
     pub added : new ≡ record old { taken = old.taken ++ (number, part) ∷ [] }
     pub known : number < old.count
@@ -40,21 +40,22 @@ module _ {T : Type 0} where
     pub next : Agree new.told new.taken
     pub closes : (other : ℕ) → CloseIsLast (of other new.taken)
 
-  -- the taker took nothing: all that it was told of has been taken, and not all closes were
+  -- the taker took nothing: all that it was told of has been taken, but not every number's close
   pub record FindsNothing (old new : Taking T) : Type 0 where
     pub same : new ≡ old
     pub told : StartsWith old.taken old.told
     pub incomplete : ¬ IsComplete old.count old.taken
 
-  -- what a take answers, and what it leaves; Complete exactly where the part of each number ends with its close
+  -- What a take answers, and what it leaves. It answers Complete exactly if the part of each number ends with its
+  -- close.
   abbrev pub TakeGives : Taking T → Taken T → Taking T → Type 0
   TakeGives old (Item number item) new = TakesOne old number (Some item) new
   TakeGives old (Closed number) new = TakesOne old number None new
   TakeGives old Empty new = FindsNothing old new
   TakeGives old Complete new = (new ≡ old) × IsComplete old.count old.taken
 
-  -- The taker learnt a word: what it is told is the longer of what it was told and of the word's list, and begins with
-  -- both. What it took agrees with that.
+  -- The taker learnt a word. It is then told the longer one of two lists: what it was told before, and the word's. Both
+  -- are beginnings of that, and what it took agrees with it.
   pub record Learns (old : Taking T) (word : Told T) (new : Taking T) : Type 0 where
     pub rest : new ≡ record old { told = new.told }
     pub longest : new.told ≡ longer old.told word.list
@@ -62,13 +63,14 @@ module _ {T : Type 0} where
     pub word_told : StartsWith new.told word.list
     pub agree : Agree new.told new.taken
 
-  -- Whole exactly where the taken part of a number ends with its close; then it's all that was published.
+  -- A number is settled as Whole exactly if the part of it that was taken ends with its close. That part is then all
+  -- that was published.
   abbrev pub IsSettledBy : Settled → List (Option T) → List (Option T) → Type 0
   IsSettledBy Whole part published = EndsWithClose part × (part ≡ published)
   IsSettledBy Beginning part published = ¬ EndsWithClose part
 
-  -- The taker settled with a closing token: of its number a beginning of what was published is taken, and what was
-  -- taken agrees with what the token was told of.
+  -- The taker settled with a closing token: of its number a beginning of what was published is taken. What was taken
+  -- agrees with what the token was told of.
   pub record Settles (taker : Taking T) (closed : Publishing T) (answer : Settled) : Type 0 where
     pub known : closed.number < taker.count
     pub beginning : StartsWith closed.published (of closed.number taker.taken)

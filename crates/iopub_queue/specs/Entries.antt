@@ -11,11 +11,11 @@ module _ {A : Type 0} where
   abbrev pub StartsWith : List A → List A → Type 0
   StartsWith all front = (rest : List A) × (all ≡ front ++ rest)
 
-  -- one of two lists is a beginning of the other
+  -- two lists agree: one of them is a beginning of the other
   abbrev pub Agree : List A → List A → Type 0
   Agree one other = StartsWith one other ⊎ StartsWith other one
 
-  -- the longer of two lists, the first where they are as long
+  -- the longer of two lists, or the first if they are of the same length
   abbrev pub longer : List A → List A → List A
   longer one other = if nat_lt (length one) (length other) then other else one
 
@@ -40,11 +40,11 @@ module _ {T : Type 0} where
   abbrev pub EndsWithClose : List (Option T) → Type 0
   EndsWithClose part = (front : List (Option T)) × (part ≡ front ++ None ∷ [])
 
-  -- entries are complete where the part of each number below n ends with a close
+  -- entries are complete if the part of each number below n ends with a close
   abbrev pub IsComplete : ℕ → List (Entry T) → Type 0
   IsComplete n entries = (number : ℕ) → number < n → EndsWithClose (of number entries)
 
-  -- a list ends with the entry, and begins with the front, which stands before the entry
+  -- an entry is the last of a list, and a front is a beginning of what stands before it
   abbrev pub StandsBehind : List (Entry T) → Entry T → List (Entry T) → Type 0
   StandsBehind entries entry front =
       (before : List (Entry T)) × (entries ≡ before ++ entry ∷ []) × StartsWith before front

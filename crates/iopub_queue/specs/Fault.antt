@@ -1,4 +1,4 @@
--- The numbers of the faults.
+-- The numbers of the queue's faults; they count from 60 on.
 use Rattle.std.specs.Prelude.{ℕ}
 use Rattle.iopub_queue.specs.declared.fault.OpenFault.{OpenFault}
 use Rattle.iopub_queue.specs.declared.fault.OpenFault.TheVariants.{Count, Capacity, OutOfMemory}

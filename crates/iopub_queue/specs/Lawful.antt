@@ -17,18 +17,19 @@ module _ {T : Type 0} where
   abbrev pub history : Lists T → List (Entry T)
   history state = state.taken ++ state.waiting
 
-  -- A state is lawful for n publishers where the part of each number in what was taken and what waits is what that
-  -- number published, a close stands in it at most once and last, and no entry has another number.
+  -- A state is lawful for n publishers if three things hold. What was taken and what waits have of each number just
+  -- what that number published. A number's close stands last, so that it stands there once at most. No entry has
+  -- another number.
   pub record Lawful (n : ℕ) (state : Lists T) : Type 0 where
     pub parts : (number : ℕ) → number < n → of number (history state) ≡ state.published number
     pub closes : (number : ℕ) → number < n → CloseIsLast (state.published number)
     pub others : (number : ℕ) → n ≤ number → of number (history state) ≡ []
 
-  -- at first every list is empty
+  -- the state at first: every list is empty
   abbrev pub start : Lists T
   start = record { taken = []; waiting = []; published = λ number. [] }
 
-  -- each number's list, with one more behind that of one number
+  -- the list of each number, if one part more stands at the end of one number's
   abbrev pub grown : (ℕ → List (Option T)) → ℕ → Option T → ℕ → List (Option T)
   grown published number part other =
       if number == other then published other ++ part ∷ [] else published other
@@ -42,7 +43,7 @@ module _ {T : Type 0} where
   }
 
   -- The state after an event. A take moves the first that waits to the end of what was taken, and changes nothing
-  -- where nothing waits.
+  -- if nothing waits.
   abbrev pub happened : Lists T → CoreEvent T → Lists T
   happened state (Publish number item) = entered state (number, Some item)
   happened state (Close number) = entered state (number, None)
@@ -52,12 +53,12 @@ module _ {T : Type 0} where
     published = state.published;
   }
 
-  -- a number may publish or close where it is one of n, and its list has no close
+  -- a number may publish or close if it is one of n, and its list has no close
   pub record IsOpen (n : ℕ) (state : Lists T) (number : ℕ) : Type 0 where
     pub known : number < n
     pub open_list : HasNoClose (state.published number)
 
-  -- an event is allowed in a state where its number may publish or close; a take always is
+  -- an event is allowed in a state if its number may publish or close; a take always is
   abbrev pub IsAllowed : ℕ → Lists T → CoreEvent T → Type 0
   IsAllowed n state (Publish number item) = IsOpen n state number
   IsAllowed n state (Close number) = IsOpen n state number

@@ -9,7 +9,7 @@ use Rattle.iopub_queue.specs.Entries.{HasNoClose, EndsWithClose}
 use Rattle.iopub_queue.specs.Lawful.{Lists, Lawful, happened, IsAllowed}
 
 module _ {T : Type 0} where
-  -- a part is marked where it ends with a close, and isn't where it has none
+  -- the mark of a part says yes if a close ends the part, and no if no close stands in it
   abbrev pub IsMarked : Bool → List (Option T) → Type 0
   IsMarked true part = EndsWithClose part
   IsMarked false part = HasNoClose part
@@ -27,7 +27,7 @@ module _ {T : Type 0} where
     pub waiting : state.waiting ≡ drop core.taken core.entries.items
     pub lawful : Lawful n state
 
-  -- a step does its event where it is allowed, memory aside, and refuses it where it isn't
+  -- A step does its event if that is allowed, and refuses it if it isn't. If memory was wanting nothing is said.
   abbrev pub Steps : ℕ → Core T → CoreEvent T → ℕ → Result (Unit {0}) CoreFault → Core T → Type 0
   Steps n old event place (Ok done) new =
       (state : Lists T) → Follows n state old → IsAllowed n state event × Follows n (happened state event) new

@@ -1,5 +1,5 @@
--- The rule of the queue: at each moment there is one lawful state of the core, whose waiting list is what the queue
--- holds, and each seat knows what its role lets it know of that state.
+-- The rule of the queue. At each moment there is one lawful state of the core, and what waits in it is what the queue
+-- holds. Each seat knows of that state what its role lets it know.
 use Rattle.std.specs.Prelude.{◌≡◌, ℕ, ◌<◌, ◌⊎◌, Option, List, map, All, Contains}
 use mathlib.Core.Option.{some}
 use lib.ListN.{get_elem?}
@@ -54,11 +54,12 @@ module _ {T : Type 0} where
   abbrev pub PublishesAs : ℕ → View T → Type 0
   PublishesAs number view = (view.role ≡ Publishes) × (view.number ≡ number)
 
-  -- the taker's seat, and it settled with the publisher of this number
+  -- the seat is the taker's, and the taker has settled with the publisher of this number
   abbrev pub SettledWith : ℕ → View T → Type 0
   SettledWith number view = (view.role ≡ Takes) × Contains (map (λ ended. ended.number) view.settled) number
 
-  -- A seat holds a number: it's a publisher's or a closing token's of this number, or the taker's that settled with it.
+  -- A seat holds a number: it is the seat of that number's publisher or closing token, or the taker's if the taker
+  -- settled with it.
   pub record IsHeldBy (views : List (View T)) (seat number : ℕ) : Type 0 where
     pub view : View T
     pub there : get_elem? views seat ≡ some view

@@ -14,7 +14,8 @@ module _ {T : Type 0} where
     pub waiting : ended.waiting ≡ (after start events).waiting
     pub lawful : Lawful n (after start events)
 
-  -- what the core answers: the lists after the events, or the first event that isn't allowed, memory aside
+  -- What the core answers: the lists after the events, or the first event that isn't allowed. If memory was wanting
+  -- nothing is said.
   abbrev pub Runs : ℕ → List (CoreEvent T) → Result (CoreState T) CoreFault → Type 0
   Runs n events (Ok ended) = EndsIn n events ended
   Runs n events (Err (NotAllowed place)) = IsFirstNotAllowed n events place

@@ -11,8 +11,8 @@ pub record Sink (Self Item : Type 0) : Type 1 where
   -- whether the second is the sink that the first was, whatever was published in between
   pub is_same : Self → Self → Type 0
 
--- The laws of a sink: each is the same as itself, what is the same as the same sink is the same, and while a sink is
--- the same, whether it may refuse stays.
+-- The laws of a sink. Each is the same as itself. If a second is the same as a first, and a third as the second, the
+-- third is the same as the first. As long as a sink is the same, whether it may refuse doesn't change.
 pub record SinkLaws {Self Item : Type 0} (sink : Sink Self Item) : Type 0 where
   pub same_itself : (a : Self) → sink.is_same a a
   pub same_on : (a b c : Self) → sink.is_same a b → sink.is_same b c → sink.is_same a c

@@ -1,4 +1,4 @@
--- What the steps of the queue tell. Each names the core's state before it and the core's event that it is.
+-- What the steps of the queue tell. Each names an event of the core and the core's state before that.
 use Rattle.std.specs.Prelude.{◌≡◌, ℕ, ◌<◌, Option, List, [], ◌∷◌, ◌++◌, All}
 use Rattle.iopub_queue.specs.declared.plain_core.CoreEvent.TheVariants.{Take}
 use Rattle.iopub_queue.specs.declared.view.Ended.{Ended}
@@ -42,8 +42,8 @@ module _ {T : Type 0} where
     pub list : state.published ended.number ≡ ended.published
     pub told : StartsWith (history state) ended.told
 
-  -- What the taker learns where the queue holds these entries: the state is lawful, what was taken is what it took, and
-  -- the history begins with what it saw and heard.
+  -- What the taker learns if the queue holds these entries. The state is lawful. What was taken is what the taker took.
+  -- What it saw and heard are beginnings of the history.
   pub record Sees (view : View T) (waiting : List (Entry T)) : Type 0 where
     pub published : ℕ → List (Option T)
     pub lawful : Lawful view.number record { taken = view.taken; waiting = waiting; published = published }

@@ -6,24 +6,24 @@ use Rattle.iopub_queue.specs.declared.view.View.{View}
 use Rattle.iopub_queue.specs.Entries.{Entry}
 use Rattle.iopub_queue.specs.Views.{told_of}
 
--- A publisher, or its closing token: its queue, its number, what it published, last its close where it closed, and all
--- that it was told of: a beginning of what was taken and what waits, in the queue's order, that has all that it
--- published. A push tells it all that stands before its own entry, whoever pushed that; a word that it publishes behind
--- tells, too.
+-- A publisher, or its closing token. It has its queue, its number, and what it published, which ends with its close if
+-- it closed. It also has all that it was told of, which is a beginning of what was taken and what waits, in the queue's
+-- order. Among that is all that it published. A push tells it all that stands before its own entry, whoever pushed
+-- that, and a word that it publishes after tells it more.
 pub record Publishing (T : Type 0) : Type 0 where
   pub queue : TableId
   pub number : ℕ
   pub published : List (Option T)
   pub told : List (Entry T)
 
--- A word: its queue, and what it tells. That is a beginning of what was taken and what waits, when the word is made and
--- at every later moment.
+-- A word: its queue, and what it tells. When it is made, and at each later moment, that is a beginning of what was
+-- taken and what waits.
 pub record Told (T : Type 0) : Type 0 where
   pub queue : TableId
   pub list : List (Entry T)
 
--- The taker: its queue, how many publishers were opened, what it took, and the longest word that it learnt, at first
--- the empty list.
+-- The taker: its queue, how many publishers were opened, what it took, and the longest word that it learnt. Before it
+-- learnt any, that is the empty list.
 pub record Taking (T : Type 0) : Type 0 where
   pub queue : TableId
   pub count : ℕ
@@ -31,7 +31,7 @@ pub record Taking (T : Type 0) : Type 0 where
   pub told : List (Entry T)
 
 module _ {T : Type 0} where
-  -- what a publisher's seat is seen as
+  -- what contracts see of a publisher's seat, or of its closing token's
   abbrev pub publishing : Pass (Entry T) (View T) → Publishing T
   publishing seat = record {
     queue = seat.table_id;
@@ -40,11 +40,11 @@ module _ {T : Type 0} where
     told = told_of (view seat);
   }
 
-  -- what a word's seat is seen as
+  -- what contracts see of a word's seat
   abbrev pub telling : Pass (Entry T) (View T) → Told T
   telling seat = record { queue = seat.table_id; list = told_of (view seat) }
 
-  -- what the taker's seat is seen as
+  -- what contracts see of the taker's seat
   abbrev pub taking_by : Pass (Entry T) (View T) → Taking T
   taking_by seat = record {
     queue = seat.table_id;

@@ -1,4 +1,4 @@
--- What the seats know, and how it is parted and put together.
+-- What the seats know, and what they know once a seat was split off another or taken in by it.
 use Rattle.std.specs.Prelude.{◌+◌, List, [], ◌∷◌, ◌++◌}
 use Rattle.iopub_queue.specs.declared.view.Role.TheVariants.{Publishes, Takes, Tells, Spent}
 use Rattle.iopub_queue.specs.declared.view.View.{View}

@@ -42,8 +42,8 @@ impl<T> Closed<T> {
         self.number
     }
 
-    /// A word of all that the publisher was told of, and so of all that it published, with its close where it closed.
-    /// Waits for nobody, and needs no memory.
+    /// A word of all that the publisher was told of. So it tells of all that the publisher published, with its close if
+    /// it closed. Waits for nobody, and needs no memory.
     pub fn word(&mut self) -> Word<T>
         ensures same { self.new ≡ self.old }
         ensures word { result ≡ record {

@@ -1,7 +1,7 @@
 //! The queue between the publishers of a kernel's publications and the one that takes them. In every schedule of its
-//! threads, what was taken is, publisher by publisher, a beginning of what each published, in its order; and all of it
-//! once the taker says that it is complete. And the interface by which anybody publishes, with a sink that keeps a
-//! list.
+//! threads, what was taken of each publisher is a beginning of what that published, in its order. Once the taker says
+//! that it is complete, it is all of that. Here is also the interface by which anybody publishes, with a sink that
+//! keeps a list.
 #![tactic(auto)]
 
 mod closed;

@@ -32,7 +32,7 @@ pub(crate) fn open_line<T>(alloc: Global, capacity: usize) -> Result<(Line<T>, S
     Line::ruled(alloc, capacity)
 }
 
-/// Pushes an entry of the seat's number. Where the queue is full it is tried again.
+/// Pushes an entry of the seat's number. If the queue is full it is tried again.
 pub(crate) fn push<T, R: Wait>(rt: &R, line: &Line<T>, seat: &mut Seat<T>, entry: Entry<T>)
     requires seat { IsPassOf line.now seat.old }
     requires role { (view seat.old).role ≡ Publishes }

@@ -7,8 +7,8 @@ use crate::refused::Refused;
 use std::alloc::Global;
 use std::marker::Model;
 
-/// A sink that keeps what is published: a contract sees the list of it. It is never closed, and refuses only where
-/// memory is wanting.
+/// A sink that keeps what is published: a contract sees the list of it. It is never closed, and refuses only if memory
+/// is wanting.
 #[derive(Debug, Drop)]
 pub struct ListSink<T> {
     /// What was published, in its order.

@@ -24,7 +24,7 @@ const MOST_PLACES: usize = 65_536;
 ///
 /// # Errors
 ///
-/// Where n isn't from 1 to 64; where the capacity isn't from 1 to 65,536; where memory is wanting; in this order.
+/// If n isn't from 1 to 64; if the capacity isn't from 1 to 65,536; if memory is wanting; in this order.
 pub fn open_queue<T: Drop, R: Copy + Drop>(
     rt: &R,
     alloc: Global,

@@ -18,7 +18,7 @@ pub enum CoreEvent<T> {
     Publish(usize, T),
     /// The publisher of this number closes.
     Close(usize),
-    /// The first entry that waits is taken. Where none waits nothing happens.
+    /// The first entry that waits is taken. If none waits nothing happens.
     Take,
 }
 
@@ -90,7 +90,7 @@ impl<T: Drop> Core<T> {
         number < self.closed.len() && !self.closed[number]
     }
 
-    /// Puts an item behind the other entries.
+    /// Puts an item after the other entries.
     fn publish(&mut self, place: usize, number: usize, item: T) -> Result<(), CoreFault>
         ensures { Steps (length self.old.closed.items) self.old (Publish number item) place result self.new }
     {
@@ -103,7 +103,7 @@ impl<T: Drop> Core<T> {
         Ok(())
     }
 
-    /// Puts a close behind the other entries.
+    /// Puts a close after the other entries.
     fn close(&mut self, place: usize, number: usize) -> Result<(), CoreFault>
         ensures { Steps (length self.old.closed.items) self.old (Close number) place result self.new }
     {
@@ -138,7 +138,8 @@ impl<T: Drop> Core<T> {
 ///
 /// # Errors
 ///
-/// At the first event that publishes or closes at a number not below n or closed before, and where memory is wanting.
+/// At the first event that publishes or closes at a number that isn't below n or was closed before, and if memory is
+/// wanting.
 pub fn run_core<T: Drop>(
     alloc: Global,
     n: usize,

@@ -13,11 +13,11 @@ pub trait Publish {
     /// What is published so far, whether the sink may refuse, and which value is the same sink later.
     ghost sink: { Sink Self Self.Item };
 
-    /// Publishes an item: it stands at the end of the list. The sink stays the same sink, also where it refuses.
+    /// Publishes an item: it stands at the end of the list. The sink stays the same sink, also if it refuses.
     ///
     /// # Errors
     ///
-    /// Where the sink refused. The list is as it was, and the item comes back.
+    /// If the sink refused. The list is as it was, and the item comes back.
     fn publish(&mut self, item: Self::Item) -> Result<(), Refused<Self::Item>>
         ensures published { OnOk result (sink.items self.new ≡ sink.items self.old ++ Some item ∷ []) }
         ensures unpublished { OnErr result (sink.items self.new ≡ sink.items self.old) }

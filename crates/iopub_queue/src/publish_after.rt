@@ -1,4 +1,4 @@
-//! The interface of a sink that publishes behind a word.
+//! The interface of a sink that publishes after a word.
 
 ghost use Rattle.std.specs.Prelude.{◌≡◌, ◌++◌, ◌∷◌, [], Some, IfErr, OnErr, OnOk};
 ghost use Rattle.iopub_queue.specs.Entries.{StandsBehind};
@@ -8,12 +8,12 @@ use crate::publish::Publish;
 use crate::refused::Refused;
 use crate::word::Word;
 
-/// A sink by which an item may be published behind all that a word tells of.
+/// A sink by which an item may be published after all that a word tells of.
 pub trait PublishAfter: Publish {
     /// The publisher by which the sink publishes.
     ghost publisher: { Self → Publishing Self.Item };
 
-    /// Publishes an item as `publish` does, and behind all that the word tells of.
+    /// Publishes an item as `publish` does, and after all that the word tells of.
     ///
     /// # Errors
     ///

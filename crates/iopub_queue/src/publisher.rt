@@ -80,7 +80,7 @@ impl<T, R: Drop> Publisher<T, R> {
 }
 
 impl<T, R: Wait> Publisher<T, R> {
-    /// Publishes an item: it stands behind all that this publisher published or was told of. While the queue is full it
+    /// Publishes an item: it stands after all that this publisher published or was told of. While the queue is full it
     /// is tried again. Needs no memory.
     ///
     /// # Errors
@@ -95,7 +95,7 @@ impl<T, R: Wait> Publisher<T, R> {
         Ok(())
     }
 
-    /// Publishes an item behind all that the word tells of, too. Needs no memory.
+    /// Publishes an item after all that the word tells of, too. Needs no memory.
     ///
     /// # Errors
     ///
@@ -114,8 +114,8 @@ impl<T, R: Wait> Publisher<T, R> {
 }
 
 impl<T, R: Wait + Drop> Publisher<T, R> {
-    /// Publishes the close, behind all that this publisher published or was told of. While the queue is full it is
-    /// tried again. Needs no memory.
+    /// Publishes the close, after all that this publisher published or was told of. While the queue is full it is tried
+    /// again. Needs no memory.
     ///
     /// # Errors
     ///

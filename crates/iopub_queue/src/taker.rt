@@ -42,8 +42,8 @@ impl<T, R> Model for Taker<T, R> {
 }
 
 impl<T, R> Taker<T, R> {
-    /// What is true of every taker: what it was told of and what it took are one a beginning of the other, and in each
-    /// part of what it took a close stands last. Does nothing.
+    /// What is true of every taker. What it was told of is a beginning of what it took, or that of what it was told of.
+    /// In the part of each publisher in what it took a close stands last. Does nothing.
     pub fn is_in_order(&self)
         ensures agree { Agree self.now.told self.now.taken }
         ensures closes { (number : ℕ) → CloseIsLast (of number self.now.taken) }
@@ -81,8 +81,8 @@ impl<T: Drop, R> Taker<T, R> {
 }
 
 impl<T, R: Wait> Taker<T, R> {
-    /// Takes the entry that waits first. Where the closes of all publishers were taken it says so, in one look. Needs
-    /// no memory.
+    /// Takes the entry that waits first. If the closes of all publishers were taken it says so, in one look. Needs no
+    /// memory.
     pub fn take(&mut self) -> Taken<T>
         ensures queue { (self.new.queue ≡ self.old.queue) × (self.new.count ≡ self.old.count) }
         ensures given { TakeGives self.old result self.new }

@@ -23,7 +23,7 @@ counted counts topic = count_at (entries_of counts) topic
 abbrev pub listed : List (List ℕ) → Holding
 listed topics topic = count_by (λ key. bytes_eq key topic) topics
 
--- Topics with how often they are held: up to the greatest number that is counted by a number, and beyond it by one more
+-- Topics with how often they are held. A number counts a topic up to the greatest number, and each further time is one
 -- place in a list.
 pub record Counts : Type 0 where
   pub entries : List (List ℕ × ℕ)
@@ -33,7 +33,8 @@ pub record Counts : Type 0 where
 abbrev pub holding_of : Counts → Holding
 holding_of counts topic = count_at counts.entries topic + listed counts.further topic
 
--- what counts are where the count of a topic was to be raised
+-- the counts after the count of a topic was to be raised: it was, or it stands at the greatest number, or the topic
+-- isn't there
 abbrev pub Raises : List ℕ → BTreeMap (Vec ℕ) ℕ → BTreeMap (Vec ℕ) ℕ → Raised → Type 0
 Raises topic old new Yes =
     (other : List ℕ) → counted new other ≡ (if bytes_eq topic other then counted old other + 1 else counted old other)

@@ -1,4 +1,5 @@
--- The feed of a subscriber: what is due to it of the messages and the PONGs of its life.
+-- The feed of a subscriber: what is due to it of the messages (ZeroMQ RFC 23, "Framing") and the PONGs (RFC 37, rule
+-- `pong`) of its life.
 use Rattle.std.specs.Prelude.{◌≡◌, ◌⊎◌, ⊤, ℕ, ◌<◌, nat_eq, if◌then◌else◌, List, [], ◌∷◌, ◌++◌, length, Option}
 use Rattle.std.specs.Prelude.{Some, None}
 use Rattle.zmtp_wire.specs.Frame.{text}
@@ -9,8 +10,8 @@ use Rattle.iopub_event.specs.declared.event.Event.TheVariants.{Message, Attach, 
 use Rattle.iopub_relay.specs.Life.{Life}
 use Rattle.iopub_relay.specs.Topics.{Holding, held, matches}
 
--- what an event brings to a subscriber that holds these topics: the text of a message that matches them, or the PONG
--- that it asks for, whatever its topics are
+-- What an event brings to a subscriber that holds these topics. A message that matches them brings its text. A PONG
+-- that the subscriber asked for is brought, whatever its topics are.
 abbrev pub brings : {Writer : Type 0} → ℕ → Holding → Event Writer → List ℕ
 brings id topics (Message frames) = if matches topics frames then text frames else []
 brings id topics (Attach other writer) = []
@@ -19,7 +20,7 @@ brings id topics (Cancel other topic) = []
 brings id topics (Pong other context) = if nat_eq id other then pong_if_short context else []
 brings id topics (Detach other) = []
 
--- what events bring to a subscriber, each under the topics that it holds by then, behind others of its life
+-- what events bring to a subscriber after others of its life, each event by the topics that are held just before it
 abbrev pub feed_behind : {Writer : Type 0} → ℕ → List (Event Writer) → List (Event Writer) → List ℕ
 feed_behind id before [] = []
 feed_behind id before (event ∷ events) =
@@ -49,7 +50,8 @@ abbrev pub AreRisingIds : {Writer : Type 0} → List (ℕ × Writer) → Type 0
 AreRisingIds [] = ⊤
 AreRisingIds ((id, writer) ∷ writers) = AreAboveId id writers × AreRisingIds writers
 
--- a subscriber has a writer where it is there, and none where it isn't; the writer that it came with got its feed
+-- A subscriber that is there has a writer, and one that isn't there has none. Since the subscriber came its writer got
+-- its feed, or a beginning of that before one write failed or took nothing.
 abbrev pub IsFed : {Writer : Type 0} → (Writer → Outflow) → ℕ → Option (Life Writer) → Option Writer → Type 0
 IsFed outflow id None None = ⊤
 IsFed outflow id None (Some writer) = ⊥

@@ -13,7 +13,7 @@ leaves id (Cancel other topic) = false
 leaves id (Pong other context) = false
 leaves id (Detach other) = nat_eq id other
 
--- the writer with which this subscriber comes, where an event is that it comes
+-- the writer with which this subscriber comes, if an event is that it comes
 abbrev pub comes_with : {Writer : Type 0} → ℕ → Event Writer → Option Writer
 comes_with id (Message frames) = None
 comes_with id (Attach other writer) = if nat_eq id other then Some writer else None
@@ -27,14 +27,14 @@ pub record Life (Writer : Type 0) : Type 0 where
   pub writer : Writer
   pub events : List (Event Writer)
 
--- what stands behind the last event by which a subscriber leaves, or all where it never does
+-- what stands after the last event by which a subscriber leaves, or all if it never does
 abbrev pub since_it_left : {Writer : Type 0} → ℕ → List (Event Writer) → List (Event Writer)
 since_it_left id [] = []
 since_it_left id (event ∷ events) =
     if list_any (leaves id) events then since_it_left id events
     else (if leaves id event then events else event ∷ events)
 
--- the life that begins where a subscriber came with this writer, or another where it didn't
+-- the life that begins here if a subscriber came, with its writer, or else another one
 abbrev pub life_begun : {Writer : Type 0} → Option Writer → List (Event Writer) → Option (Life Writer)
     → Option (Life Writer)
 life_begun (Some writer) events other = Some (record { writer = writer; events = events })
@@ -45,7 +45,7 @@ abbrev pub first_life : {Writer : Type 0} → ℕ → List (Event Writer) → Op
 first_life id [] = None
 first_life id (event ∷ events) = life_begun (comes_with id event) events (first_life id events)
 
--- the life of a subscriber behind events: what stands behind the first event by which it came since it last left; none
--- where it didn't come since
+-- The life of a subscriber after events. It is what follows the first event by which the subscriber came since it last
+-- left. There is none if it didn't come since.
 abbrev pub life : {Writer : Type 0} → ℕ → List (Event Writer) → Option (Life Writer)
 life id events = first_life id (since_it_left id events)

@@ -27,7 +27,7 @@ pub record Relaying (Writer : Type 0) : Type 0 where
   pub rows : List (Subscriber Writer)
   pub no_room : ℕ
 
--- the items of entries, in their order: the closes aside
+-- the items of entries, in their order, without the closes
 abbrev pub items_in : {T : Type 0} → List (Entry T) → List T
 items_in [] = []
 items_in ((number, Some item) ∷ entries) = item ∷ items_in entries
@@ -42,14 +42,14 @@ IsAttach (Cancel id topic) = ⊥
 IsAttach (Pong id context) = ⊥
 IsAttach (Detach id) = ⊥
 
--- what is left of events without so many of those by which a subscriber comes
+-- what is left of events if so many of those by which a subscriber comes are left out
 abbrev pub IsWithout : {Writer : Type 0} → List (Event Writer) → List (Event Writer) → ℕ → Type 0
 IsWithout [] served turned_away = (served ≡ []) × (turned_away ≡ 0)
 IsWithout {Writer} (event ∷ events) served turned_away =
     ((rest : List (Event Writer)) × (served ≡ event ∷ rest) × IsWithout events rest turned_away)
     ⊎ ((fewer : ℕ) × (turned_away ≡ suc fewer) × IsAttach event × IsWithout events served fewer)
 
--- What was served of entries that were taken: their items without the newcomers for which there was no room. These
+-- What was served of entries that were taken: their items, but no newcomer for which there was no room. These newcomers
 -- were counted, up to the greatest count.
 pub record IsServed {Writer : Type 0} (taken : List (Entry (Event Writer))) (no_room : ℕ) (served : List (Event Writer))
     : Type 0 where
@@ -57,12 +57,12 @@ pub record IsServed {Writer : Type 0} (taken : List (Entry (Event Writer))) (no_
   pub without : IsWithout (items_in taken) served turned_away
   pub counted : no_room ≡ min turned_away greatest_count
 
--- no entry has a number that isn't below this one
+-- the numbers of all entries are below this one
 abbrev pub AreOfNumbers : {T : Type 0} → ℕ → List (Entry T) → Type 0
 AreOfNumbers count entries = (number : ℕ) → count ≤ number → of number entries ≡ []
 
--- What a relay keeps: what its taker took is of the queue's publishers; it served that, and its subscribers, by rising
--- ids, fit it.
+-- What a relay keeps. What its taker took has numbers of the queue's publishers alone. The relay served that. Its
+-- subscribers stand by rising ids and fit what was served.
 pub record ServesTaken {Writer : Type 0} (outflow : Writer → Outflow) (relay : Relaying Writer) : Type 0 where
   pub numbers : AreOfNumbers relay.taker.count relay.taker.taken
   pub served : List (Event Writer)
@@ -74,9 +74,9 @@ pub record ServesTaken {Writer : Type 0} (outflow : Writer → Outflow) (relay :
 abbrev pub IsSubscribeOf : {Writer : Type 0} → Event Writer → ℕ → Type 0
 IsSubscribeOf event id = (topic : List ℕ) × (event ≡ Subscribe id topic)
 
--- How an event changes a subscriber that stays, by how it stood and how it stands. One that is served and had no write
--- that failed or took nothing stays served; with one it fails, and also where there is no memory for a topic that it
--- asks for. One that has failed stays as it is.
+-- How an event changes a subscriber that stays, by how it stood and how it stands. One that is served stays so if no
+-- write failed or took nothing. It fails if one did, or if there is no memory for a topic that it asks for. One that
+-- has failed stays as it is.
 abbrev pub ChangesBy : {Writer : Type 0} → Standing → Standing → (Writer → Outflow) → ℕ → Event Writer
     → Subscriber Writer → Subscriber Writer → Type 0
 ChangesBy Served Served outflow id event old new = (outflow new.writer).failures ≡ (outflow old.writer).failures
@@ -90,7 +90,8 @@ ChangesBy Starved Served outflow id event old new = ⊥
 ChangesBy Starved Broken outflow id event old new = ⊥
 ChangesBy Starved Starved outflow id event old new = new ≡ old
 
--- how an event changes a subscriber: it comes with an event of its own and is served then, and it leaves with one
+-- How an event changes a subscriber. It comes if the event is that it comes, and is served then. It leaves only if the
+-- event is that it leaves.
 abbrev pub ChangesAt : {Writer : Type 0} → (Writer → Outflow) → ℕ → Event Writer → Option (Subscriber Writer)
     → Option (Subscriber Writer) → Type 0
 ChangesAt outflow id event None None = ⊤
@@ -104,8 +105,8 @@ abbrev pub Changes : {Writer : Type 0} → (Writer → Outflow) → Event Writer
     → List (Subscriber Writer) → Type 0
 Changes outflow event old new = (id : ℕ) → ChangesAt outflow id event (row_of id old) (row_of id new)
 
--- A relay took an event and served it: whatever events its subscribers fitted, they fit these with one more. Each
--- subscriber changed as the event has it.
+-- A relay took an event and served it. Whatever events its subscribers fitted before, they fit those and this one. Each
+-- subscriber changed as the event demands.
 pub record ServesOne {Writer : Type 0} (outflow : Writer → Outflow) (old new : Relaying Writer) : Type 0 where
   pub number : ℕ
   pub event : Event Writer
@@ -114,7 +115,7 @@ pub record ServesOne {Writer : Type 0} (outflow : Writer → Outflow) (old new :
   pub changes : Changes outflow event old.rows new.rows
   pub no_room : new.no_room ≡ old.no_room
 
--- A relay took that this subscriber comes, who wasn't there, and there was no room for it.
+-- A relay took the event that a subscriber comes which wasn't there, but there was no room for it.
 pub record LacksRoom {Writer : Type 0} (id : ℕ) (old new : Relaying Writer) : Type 0 where
   pub number : ℕ
   pub writer : Writer
@@ -123,7 +124,7 @@ pub record LacksRoom {Writer : Type 0} (id : ℕ) (old new : Relaying Writer) : 
   pub rows : new.rows ≡ old.rows
   pub no_room : new.no_room ≡ risen old.no_room
 
--- what a pump answers, and what it leaves: it is one take and what the taken event asks for
+-- what a pump answers, and what it leaves: it takes one entry at most, and does what that asks for
 abbrev pub Pumps : {Writer : Type 0} → (Writer → Outflow) → Relaying Writer → Pumped → Relaying Writer → Type 0
 Pumps outflow old pumped.Did new = ServesOne outflow old new × StarvesOnly (λ id. ⊥) old.rows new.rows
 Pumps outflow old (pumped.Closed number) new =
@@ -144,13 +145,13 @@ TookEntry pumped.Complete = ⊥
 TookEntry (pumped.NoTopic id) = ⊤
 TookEntry (pumped.NoRoom id) = ⊤
 
--- what so many pumps leave, one after the other, that each took an entry
+-- what so many pumps leave, one after the other, if each took an entry
 abbrev pub PumpsOn : {Writer : Type 0} → (Writer → Outflow) → ℕ → Relaying Writer → Relaying Writer → Type 0
 PumpsOn outflow zero old new = new ≡ old
 PumpsOn {Writer} outflow (suc count) old new = (middle : Relaying Writer) × (answer : Pumped)
     × PumpsOn outflow count old middle × TookEntry answer × Pumps outflow middle answer new
 
--- why a drain ended behind so many pumps, where it was to make so many at most
+-- why a drain ended after so many pumps, if it may make so many at most
 abbrev pub EndsBy : {Writer : Type 0} → Drain → ℕ → ℕ → Taking (Event Writer) → Type 0
 EndsBy drain.More limit count taker = count ≡ limit
 EndsBy drain.Empty limit count taker =
@@ -193,14 +194,15 @@ abbrev pub left_of : {Writer : Type 0} → ℕ → List (ℕ × Writer × Bool) 
 left_of id [] = None
 left_of id ((other, writer, failed) ∷ left) = if nat_eq id other then Some (writer, failed) else left_of id left
 
--- What a writer got of what was due to it: all, and no write failed or took nothing; or, if the subscriber has failed,
--- what was due up to an event, of which a write failed or took nothing, or by which it asked for a topic that there was
--- no memory for.
+-- What a writer got of what was due to it. If the subscriber hasn't failed it got all, and no write failed or took
+-- nothing. Else it got what was due up to an event. A write of what that event brought failed or took nothing, or the
+-- event asked for a topic for which there was no memory.
 abbrev pub GetsMarked : {Writer : Type 0} → Bool → Outflow → Outflow → ℕ → List (Event Writer) → Type 0
 GetsMarked false old new id events = Puts old new (feed id events) 0
 GetsMarked true old new id events = BreaksOff old new id events ⊎ GoesWithout old new id events
 
--- a subscriber is left where it is there, and none where it isn't; the writer that it came with got its feed
+-- A subscriber that is there is left, and one that isn't there is not. Since it came its writer got of its feed what
+-- was due to it (`GetsMarked`).
 abbrev pub IsLeft : {Writer : Type 0} → (Writer → Outflow) → ℕ → Option (Life Writer) → Option (Writer × Bool) → Type 0
 IsLeft outflow id None None = ⊤
 IsLeft outflow id None (Some left) = ⊥
@@ -208,7 +210,7 @@ IsLeft outflow id (Some life) None = ⊥
 IsLeft outflow id (Some life) (Some (writer, failed)) =
     GetsMarked failed (outflow life.writer) (outflow writer) id life.events
 
--- What is left of a relay that took these entries: the subscribers that are there behind what was served of them, by
+-- What is left of a relay that took these entries: the subscribers that are there after what was served of them, by
 -- rising ids. Each writer got what was due to it.
 pub record IsLeftOf {Writer : Type 0} (outflow : Writer → Outflow) (taken : List (Entry (Event Writer))) (no_room : ℕ)
     (left : List (ℕ × Writer × Bool)) : Type 0 where
@@ -227,15 +229,15 @@ pub record AreAllClosed {T : Type 0} (count : ℕ) (tokens : List (Publishing T)
   pub closed : AllByRecursion (λ closed. EndsWithClose closed.published) tokens
   pub each : (number : ℕ) → number < count → HasNumber number tokens
 
--- more may have been taken, and nothing else changed
+-- nothing of the taker changed, but that it may have taken more
 abbrev pub TakesMore : {T : Type 0} → Taking T → Taking T → Type 0
 TakesMore {T} old new = (entries : List (Entry T)) × (new ≡ record old { taken = old.taken ++ entries })
 
--- whether all is complete once all that the taker was told of has been taken
+-- All is complete; or it isn't, but all that the taker was told of has been taken.
 abbrev pub EndsAll : {T : Type 0} → Bool → Taking T → Type 0
 EndsAll true taker = IsComplete taker.count taker.taken
 EndsAll false taker = StartsWith taker.taken taker.told × (¬ IsComplete taker.count taker.taken)
 
--- a token's list was told of, all of it
+-- all that a token was told of was told here too, and all that its number published is in that
 abbrev pub IsTold : {T : Type 0} → List (Entry T) → Publishing T → Type 0
 IsTold told closed = StartsWith told closed.told × (of closed.number closed.told ≡ closed.published)

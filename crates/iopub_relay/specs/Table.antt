@@ -16,7 +16,8 @@ use Rattle.iopub_relay.specs.Topics.{held, matches}
 use Rattle.iopub_relay.specs.Feed.{brings, feed}
 use Rattle.iopub_relay.specs.Rows.{row_of}
 
--- A write of what an event brings failed or took nothing: the writer got the feed up to there, and a beginning of that.
+-- A write of what an event brings failed or took nothing. The writer got the feed up to that event, and a beginning of
+-- what the event brings.
 pub record BreaksOff {Writer : Type 0} (old new : Outflow) (id : ℕ) (events : List (Event Writer)) : Type 0 where
   pub before : List (Event Writer)
   pub event : Event Writer
@@ -28,7 +29,7 @@ pub record BreaksOff {Writer : Type 0} (old new : Outflow) (id : ℕ) (events : 
   pub some : 0 < length lost
   pub puts : Puts old new (feed id before ++ front) 1
 
--- There was no memory for a topic: the writer got the feed up to there.
+-- There was no memory for a topic. The writer got the feed up to the event that asked for it.
 pub record GoesWithout {Writer : Type 0} (old new : Outflow) (id : ℕ) (events : List (Event Writer)) : Type 0 where
   pub before : List (Event Writer)
   pub topic : List ℕ
@@ -48,8 +49,8 @@ pub record Lives {Writer : Type 0} (outflow : Writer → Outflow) (id : ℕ) (ro
   pub gets : GetsBy row.standing (outflow now.writer) (outflow row.writer) id now.events
   pub topics : row.standing ≡ Served → (topic : List ℕ) → holding_of row.topics topic ≡ held id now.events topic
 
--- what a writer got of octets that are for it, by how its subscriber stands then: all of them, or a beginning before a
--- write failed
+-- what a writer got of octets for its subscriber, by how that stands then: all of them, or a beginning before a write
+-- failed or took nothing
 abbrev pub GetsText : Standing → Outflow → Outflow → List ℕ → Type 0
 GetsText Served old new octets = Puts old new octets 0
 GetsText Broken old new octets =
@@ -71,7 +72,7 @@ ReceivesBy outflow Served false frames old new = new ≡ old
 ReceivesBy outflow Broken due frames old new = new ≡ old
 ReceivesBy outflow Starved due frames old new = new ≡ old
 
--- what a message makes of a subscriber: the text goes to whom it matches, and nothing to one that has failed
+-- what a message makes of a subscriber: one that is served and that it matches gets its text, and no other changes
 abbrev pub Receives : {Writer : Type 0} → (Writer → Outflow) → List (List ℕ) → Subscriber Writer → Subscriber Writer
     → Type 0
 Receives outflow frames old new =
@@ -84,7 +85,7 @@ PongsBy outflow Served context old new = Delivers outflow (pong_if_short context
 PongsBy outflow Broken context old new = new ≡ old
 PongsBy outflow Starved context old new = new ≡ old
 
--- what a message makes of subscribers
+-- what a message makes of each subscriber of a table
 abbrev pub AllReceive : {Writer : Type 0} → (Writer → Outflow) → List (List ℕ) → List (Subscriber Writer)
     → List (Subscriber Writer) → Type 0
 AllReceive outflow frames [] [] = ⊤
@@ -93,7 +94,7 @@ AllReceive outflow frames (old ∷ olds) [] = ⊥
 AllReceive outflow frames (old ∷ olds) (new ∷ news) =
     Receives outflow frames old new × AllReceive outflow frames olds news
 
--- a subscriber is in a table where it is there, and else it isn't
+-- a subscriber stands in a table exactly if it has a life, and it lives that life
 abbrev pub LivesAt : {Writer : Type 0} → (Writer → Outflow) → ℕ → Option (Subscriber Writer) → Option (Life Writer)
     → Type 0
 LivesAt outflow id None None = ⊤
@@ -101,7 +102,7 @@ LivesAt outflow id None (Some now) = ⊥
 LivesAt outflow id (Some row) None = ⊥
 LivesAt outflow id (Some row) (Some now) = Lives outflow id row now
 
--- a table fits events: it has the subscribers that are there behind them, each with what is due to it
+-- a table fits events: it has the subscribers that are there after them, and each got what is due to it
 abbrev pub Fits : {Writer : Type 0} → (Writer → Outflow) → List (Subscriber Writer) → List (Event Writer) → Type 0
 Fits outflow rows events = (id : ℕ) → LivesAt outflow id (row_of id rows) (life id events)
 
@@ -116,7 +117,7 @@ abbrev pub IsStarved : {Writer : Type 0} → Option (Subscriber Writer) → Type
 IsStarved None = ⊥
 IsStarved (Some row) = row.standing ≡ Starved
 
--- no subscriber found no memory for a topic that hadn't before, but for this one
+-- A subscriber that found no memory for a topic found none before either, or is one of these.
 abbrev pub StarvesOnly : {Writer : Type 0} → (ℕ → Type 0) → List (Subscriber Writer) → List (Subscriber Writer)
     → Type 0
 StarvesOnly May old new = (id : ℕ) → IsStarved (row_of id new) → IsStarved (row_of id old) ⊎ May id
@@ -128,8 +129,8 @@ LeavesFailed {Writer} old new event =
     (id : ℕ) (row : Subscriber Writer) → row_of id old ≡ Some row → (row.standing ≡ Served → ⊥)
     → (row_of id new ≡ Some row) ⊎ (event ≡ Detach id)
 
--- A table after an event: it fits one more, those that have failed stay as they are, and at most these have found no
--- memory for a topic.
+-- A table after an event: it fits one event more, and subscribers that have failed stay as they are. Of the others only
+-- these may have found no memory for a topic.
 pub record Grows {Writer : Type 0} (outflow : Writer → Outflow) (May : ℕ → Type 0) (old new : List (Subscriber Writer))
     (event : Event Writer) : Type 0 where
   pub fits : FitsMore outflow old new event

@@ -1,13 +1,13 @@
--- What a relay holds, and what it keeps of that.
+-- What a relay holds, and what is always true of that.
 use Rattle.zmtp_wire.specs.Device.{Outflow}
 use Rattle.iopub_relay.specs.declared.relay.Relay.TheInside as relay
 use Rattle.iopub_relay.specs.Relay.{Relaying, ServesTaken}
 
 module _ {Writer Waiting : Type 0} where
-  -- what a relay is seen as
+  -- what contracts see of a relay
   abbrev pub relaying : relay.Inside Writer Waiting → Relaying Writer
   relaying relay = record { taker = relay.taker; rows = relay.table; no_room = relay.no_room }
 
-  -- what a relay keeps
+  -- what is always true of a relay, for writers that are seen as `outflow` has it
   abbrev pub Keeps : (Writer → Outflow) → relay.Inside Writer Waiting → Type 0
   Keeps outflow relay = ServesTaken outflow (relaying relay)

@@ -14,7 +14,7 @@ use zmtp_wire::Outlet;
 
 impl<W: Outlet + Drop, R: Wait> Relay<W, R> {
     /// Learns a word of each of these publishers, takes all that it was told of, and settles with them. Answers whether
-    /// the closes of all publishers were taken, these among them; that is so where these are all, and each closed.
+    /// the closes of all publishers were taken, these among them. That is so if these are all, and each closed.
     pub fn conclude(&mut self, rt: &R, tokens: Vec<Closed<Event<W>>>) -> bool
         requires { AllByRecursion (λ closed. closed.queue ≡ self.old.taker.queue) tokens.items }
         ensures queue { (self.new.taker.queue ≡ self.old.taker.queue) × (self.new.taker.count ≡ self.old.taker.count) }

@@ -8,13 +8,13 @@ use listed::Octets;
 use std::alloc::{AllocError, Global};
 use zmtp_wire::{Traffic, read_ping};
 
-/// The event that traffic of this subscriber is: a message of one frame that begins with 1 subscribes to the rest as
-/// topic, and with 0 gives it up (ZMTP 3.0); the commands SUBSCRIBE and CANCEL do that, too, and PING asks for a PONG
-/// (ZMTP 3.1). All other traffic is no event.
+/// The event that traffic of this subscriber is. A message of one frame that begins with 1 subscribes to the rest as a
+/// topic, and one that begins with 0 gives that topic up (ZMTP 3.0). The commands SUBSCRIBE and CANCEL do the same, and
+/// PING asks for a PONG (ZMTP 3.1). All other traffic is no event.
 ///
 /// # Errors
 ///
-/// Where there is an event and memory was refused for its topic or context.
+/// If there is an event, and memory was refused for its topic or context.
 pub fn door_event<W>(
     alloc: Global,
     id: u64,

@@ -12,13 +12,14 @@ use iopub_event::Event;
 use std::alloc::{AllocError, Global};
 use zmtp_wire::Outlet;
 
-/// Serves events one after the other, and answers the subscribers that are there behind them, by rising ids, each with
-/// its writer: it got the text of each message of its life that matched the topics that it held by then, and the PONGs
-/// that it asked for, each at its place, or a beginning of that where a write failed or took nothing.
+/// Serves events one after the other, and answers the subscribers that are there after them, by rising ids, each with
+/// its writer. The writer got the text of each message of the subscriber's life that matched the topics held at that
+/// time. It also got the PONGs that the subscriber asked for, each at its place. If a write failed or took nothing, it
+/// got a beginning of that.
 ///
 /// # Errors
 ///
-/// Where memory was refused, also for a topic.
+/// If memory was refused, also for a topic.
 pub fn feed_core<W: Outlet + Drop>(
     alloc: Global,
     events: Vec<Event<W>>,
@@ -38,7 +39,7 @@ pub fn feed_core<W: Outlet + Drop>(
 ///
 /// # Errors
 ///
-/// Where memory was refused.
+/// If memory was refused.
 fn writers_of<W: Drop>(alloc: Global, rows: Vec<Subscriber<W>>) -> Result<Vec<(u64, W)>, AllocError>
     ensures { IfOk result (λ left. left.items ≡ map (λ row. (row.id, row.writer)) rows.items) }
 {
@@ -53,7 +54,7 @@ fn writers_of<W: Drop>(alloc: Global, rows: Vec<Subscriber<W>>) -> Result<Vec<(u
 ///
 /// # Errors
 ///
-/// Where memory was refused for what the event asks for.
+/// If memory was refused for what the event asks for.
 fn serve_or_fail<W: Outlet + Drop>(table: &mut Table<W>, event: Event<W>) -> Result<(), AllocError>
     ensures { OnOk result (ServesEvent W.outflow table.old table.new event EventOutcome.Done) }
 {

@@ -10,14 +10,14 @@ pub fn law_subscriber_of_everything<W>()
     ensures { GetsEverything W }
 {}
 
-/// A message matches exactly where its first frame begins with a topic that is held.
+/// A message matches exactly if its first frame begins with a topic that is held.
 pub fn law_matching_is_beginning()
     ensures matches { MatchBegins }
     ensures none { NoMatchBeginsNot }
 {}
 
-/// A subscriber is there exactly where the last of its comings and leavings is a coming, and its life began with the
-/// first coming since it last left.
+/// A subscriber is there exactly if the last of its comings and leavings is a coming. Its life began with the first
+/// coming since it last left.
 pub fn law_life_is_since_it_came<W>()
     ensures began { LifeBegan W }
     ensures came { WhoCameLives W }

@@ -45,9 +45,9 @@ pub enum Drain {
     More,
 }
 
-/// A relay: it takes messages, and that subscribers come, ask for topics or a PONG, give topics up and leave; and it
-/// writes to each subscriber the messages and PONGs that are for it. It serves all that it took, without the newcomers
-/// for which there was no memory.
+/// A relay. It takes messages, and events of subscribers, which come, ask for topics or a PONG, give topics up and
+/// leave. It writes to each subscriber the messages and PONGs that are for it. It serves all that it took, without the
+/// newcomers for which there was no memory.
 #[derive(Drop)]
 pub struct Relay<W: Outlet, R> {
     /// What it takes from.
@@ -172,7 +172,7 @@ impl<W: Outlet + Drop, R> Relay<W, R> {
     ///
     /// # Errors
     ///
-    /// Where memory was refused: the relay comes back as it was.
+    /// If memory was refused: the relay comes back as it was.
     pub fn finish(self) -> Result<Vec<(u64, W, bool)>, Relay<W, R>>
     where
         R: Drop,

@@ -48,7 +48,7 @@ impl<W> Subscriber<W> {
 }
 
 impl<W: Outlet> Subscriber<W> {
-    /// Receives a message: it gets its text where one of its topics is a beginning of the first frame.
+    /// Receives a message: gets its text, if one of its topics is a beginning of the first frame.
     pub(crate) fn receive(&mut self, frames: &[Vec<u8>], octets: Option<&[u8]>)
         requires { IfSome octets (λ octets. octets.now ≡ text (bodies frames.now)) }
         ensures { Receives W.outflow (bodies frames.now) self.old self.new }
@@ -92,7 +92,7 @@ fn write_pong<W: Outlet>(writer: &mut W, context: &[u8]) -> Result<(), WriteFail
     write_all(writer, pong_text(context).octets())
 }
 
-/// Writes the text of a message: as it was built, or frame by frame where it wasn't.
+/// Writes the text of a message: as it was built, or frame by frame if it wasn't.
 fn write_text<W: Outlet>(
     writer: &mut W,
     frames: &[Vec<u8>],

@@ -74,8 +74,8 @@ impl<W: Outlet + Drop> Table<W> {
         }
     }
 
-    /// Serves a message: each subscriber with a topic that its first frame begins with gets its text. That is built
-    /// once for all where there is memory for it, also where nobody gets it.
+    /// Serves a message: each subscriber with a topic that its first frame begins with gets its text. If there is
+    /// memory, that is built once for all, also if nobody gets it.
     pub(crate) fn message(&mut self, frames: Frames) -> EventOutcome
         ensures { ServesEvent W.outflow self.old self.new (Event.Message frames) result }
     {
@@ -89,7 +89,7 @@ impl<W: Outlet + Drop> Table<W> {
         EventOutcome::Done
     }
 
-    /// Serves that a subscriber comes. Where it is there already its new writer is dropped.
+    /// Serves that a subscriber comes. If it is there already its new writer is dropped.
     pub(crate) fn attach(&mut self, id: u64, writer: W) -> EventOutcome
         ensures { ServesEvent W.outflow self.old self.new (Event.Attach id writer) result }
     {
@@ -203,7 +203,7 @@ impl<W> Table<W> {
     }
 }
 
-/// The text of a message, where it has a frame and there is memory for it.
+/// The text of a message, if it has a frame and there is memory for it.
 fn text_of(alloc: Global, frames: &[Vec<u8>]) -> Option<Vec<u8>>
     ensures { IfSome result (λ octets. octets.items ≡ text (bodies frames.now)) }
 {

@@ -42,7 +42,7 @@ impl Topics {
     ///
     /// # Errors
     ///
-    /// Where memory was refused: the topics are as they were.
+    /// If memory was refused: the topics are as they were.
     pub fn add(&mut self, topic: Octets) -> Result<(), AllocError>
         ensures ok { OnOk result ((other : List ℕ) → holding_of self.new other
             ≡ (if bytes_eq topic other then holding_of self.old other + 1 else holding_of self.old other)) }
@@ -58,7 +58,7 @@ impl Topics {
         Ok(())
     }
 
-    /// Holds a topic once less, where it is held.
+    /// Holds a topic once less, if it is held.
     pub fn take_out(&mut self, topic: &[u8])
         ensures { (other : List ℕ) → holding_of self.new other
             ≡ (if bytes_eq topic.now other then holding_of self.old other - 1 else holding_of self.old other) }
@@ -99,7 +99,7 @@ enum Raised {
     Missing,
 }
 
-/// Raises the count of a topic, where there is one that can be raised.
+/// Raises the count of a topic, if there is one that can be raised.
 fn raise(counts: &mut BTreeMap<Vec<u8>, u64>, topic: &[u8]) -> Raised
     ensures { Raises topic.now counts.old counts.new result }
 {
@@ -115,7 +115,7 @@ fn raise(counts: &mut BTreeMap<Vec<u8>, u64>, topic: &[u8]) -> Raised
     }
 }
 
-/// Lowers the count of a topic, where there is one. One that comes to 0 is removed.
+/// Lowers the count of a topic, if there is one. One that comes to 0 is removed.
 fn lower(counts: &mut BTreeMap<Vec<u8>, u64>, topic: &[u8])
     ensures { (other : List ℕ) → counted counts.new other
         ≡ (if bytes_eq topic.now other then counted counts.old other - 1 else counted counts.old other) }
@@ -152,7 +152,7 @@ fn place_in(list: &[Octets], topic: &[u8]) -> Option<usize>
     None
 }
 
-/// Takes a topic out of a list once, where it stands in it, and answers whether it did.
+/// Takes a topic out of a list once, if it stands in it, and answers whether it did.
 fn take_from(list: &mut Vec<Octets>, topic: &[u8]) -> bool
     ensures { MatchBool result
         ((other : List ℕ) → listed list.new.items other + (if bytes_eq topic.now other then 1 else 0)

@@ -1,86 +1,19 @@
-//! `jkernel`: a Jupyter kernel. It serves the ports of a connection file, replays one peer of the shell channel, or
-//! prints the kernelspec, as its command words order.
+//! `jkernel`: a Jupyter kernel of shell arithmetic. It serves the ports of a connection file, replays one peer of the
+//! shell channel, or prints the kernelspec, as its command words order.
 #![tactic(auto)]
 
-mod input;
+mod arithmetic;
 mod laws;
-mod lines;
-mod owned;
-mod program;
-mod replay;
-mod stamp;
-mod status;
-mod words;
 
-use kernel_limits::looked_after;
-use kernel_serve::Until;
-use program::run;
-use std::env::{Env, VarError};
-use std::fs::Files;
-use std::os::unix::process::parent_id;
+use arithmetic::Arithmetic;
+use kernel_program::start;
 use std::process::ExitCode;
-use std::rt::Process;
-use std::{env, fs, io};
 
 #[cfg(test)]
 mod tests;
 
-/// Hands the command words and the standard streams to the program.
+/// Starts the program of shell arithmetic.
 fn main(rt: HostRuntime) -> ExitCode {
-    let code = run(
-        &rt,
-        rt.alloc(),
-        &words_behind(&rt),
-        runs_until(&rt, rt.process()),
-        &mut rt.reader(),
-        &mut io::writer(&rt),
-        &mut rt.stderr(),
-    );
-    ExitCode::from(code)
-}
-
-/// The command words behind the program's name.
-fn words_behind<R: Env + AllocGlobal>(rt: &R) -> io::Result<Vec<String>> {
-    let words: Vec<String> = env::args(rt)?.skip(1).collect(rt.alloc())?;
-    Ok(words)
-}
-
-/// Until when a kernel runs: jupyter's programs name themselves in `JPY_PARENT_PID` to one that is to end with them.
-fn runs_until<R: Env + Files + AllocGlobal>(rt: &R, process: Process) -> Until {
-    match env::var(rt, "JPY_PARENT_PID") {
-        Err(VarError::NotPresent) => Until::Asked,
-        Ok(named) if named.as_str() == "0" => Until::Asked,
-        Ok(named) => Until::ParentChanges(process, parent_named(rt, process, named.as_str())),
-        // What can't be read as a text is there all the same.
-        Err(_) => Until::ParentChanges(process, parent_id(process)),
-    }
-}
-
-/// The number of the process with which a kernel ends that is named.
-fn parent_named<R: Files + AllocGlobal>(rt: &R, process: Process, named: &str) -> u32 {
-    // Before it is looked whether the named one is gone: what is the parent here isn't there in place of that.
-    let parent = parent_id(process);
-    match named.parse::<u32>() {
-        Ok(number) => looked_after(parent, Some(number), is_gone(rt, number)),
-        Err(_) => parent,
-    }
-}
-
-/// Whether no process has this number, or it ended and nobody has asked how (proc(5), "/proc/pid/status").
-fn is_gone<R: Files + AllocGlobal>(rt: &R, number: u32) -> bool {
-    match format!(in rt.alloc(); "/proc/{number}/status") {
-        Ok(path) => has_ended(rt, path.as_str()),
-        Err(_) => false,
-    }
-}
-
-/// Whether the process has ended whose status this file tells.
-fn has_ended<R: Files + AllocGlobal>(rt: &R, path: &str) -> bool {
-    match fs::read_to_string(rt, path) {
-        Ok(status) => status.as_str().contains("\nState:\tZ"),
-        Err(error) => {
-            drop(error);
-            matches!(fs::exists(rt, path), Ok(false))
-        }
-    }
+    laws::law_kernel_is_of_arithmetic(&Arithmetic);
+    start(&rt, rt.process(), &mut rt.stderr(), &Arithmetic)
 }

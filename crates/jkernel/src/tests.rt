@@ -3,7 +3,7 @@
 
 mod clock;
 mod devices;
-mod lines;
+mod kernelspec;
 mod pieces;
 mod program;
-mod status;
+mod unready;

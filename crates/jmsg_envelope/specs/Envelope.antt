@@ -24,7 +24,7 @@ pub record Parts : Type 0 where
   pub content : List ℕ
   pub buffers : List (List ℕ)
 
--- the frames that parts are sent as
+-- the frames of a message with these parts, in their order
 abbrev pub joined : Parts → List (List ℕ)
 joined p = p.identities ++ delimiter ∷ p.signature ∷ p.header ∷ p.parent ∷ p.metadata ∷ p.content ∷ p.buffers
 
@@ -32,12 +32,13 @@ joined p = p.identities ++ delimiter ∷ p.signature ∷ p.header ∷ p.parent �
 abbrev pub signed_octets : Parts → List ℕ
 signed_octets p = p.header ++ p.parent ++ p.metadata ++ p.content
 
--- the signature of octets under a key: none under an empty key, and else their authentication code in lower case hex
+-- The signature of octets under a key: their authentication code as hexadecimal digits in lower case. Under an empty
+-- key it is empty.
 abbrev pub signature : List ℕ → List ℕ → List ℕ
 signature [] octets = []
 signature (first ∷ rest) octets = encode_lower (hmac (first ∷ rest) octets)
 
--- the parts of a message that is signed under a key, behind a prefix
+-- the parts of a message that is signed under a key, whose identities are a prefix
 abbrev pub sealed_parts : List ℕ → List (List ℕ) → MessageParts → Parts
 sealed_parts key prefix parts = record {
   identities = prefix;
@@ -49,7 +50,7 @@ sealed_parts key prefix parts = record {
   buffers = parts.buffers;
 }
 
--- the frames of a message that is signed under a key, behind a prefix
+-- the frames of a message that is signed under a key, whose identities are a prefix
 abbrev pub sealed : List ℕ → List (List ℕ) → MessageParts → List (List ℕ)
 sealed key prefix parts = joined (sealed_parts key prefix parts)
 
@@ -62,7 +63,8 @@ pub record IsSplit (frames : List (List ℕ)) (parts : Parts) : Type 0 where
 abbrev pub lower_case : List ℕ → List ℕ
 lower_case digits = map to_ascii_lowercase digits
 
--- the signature is right under the key, in either case of hex digits; under an empty key any is
+-- The signature is right under the key, whatever the case of its hexadecimal digits. If the key is empty any signature
+-- is right.
 abbrev pub IsSigned : List ℕ → Parts → Type 0
 IsSigned key parts = (key ≡ []) ⊎ (lower_case parts.signature ≡ encode_lower (hmac key (signed_octets parts)))
 
@@ -71,7 +73,7 @@ pub record IsMissigned (key : List ℕ) (parts : Parts) : Type 0 where
   pub keyed : key ≢ []
   pub differs : lower_case parts.signature ≢ encode_lower (hmac key (signed_octets parts))
 
--- the parts of which an envelope keeps all but the signature
+-- the parts of a message that has this envelope and these digits as its signature, which an envelope doesn't keep
 abbrev pub parts_with : List ℕ → Envelope → Parts
 parts_with digits e = record {
   identities = e.identities;
@@ -83,8 +85,8 @@ parts_with digits e = record {
   buffers = e.buffers;
 }
 
--- the frames are a message, rightly signed under the key, and the envelope has its parts and the id and type that its
--- header names
+-- The frames are a message that is rightly signed under the key. The envelope has its parts, and the id and the type
+-- that its header names.
 pub record Opened (key : List ℕ) (frames : List (List ℕ)) (e : Envelope) : Type 0 where
   pub digits : List ℕ
   pub split : IsSplit frames (parts_with digits e)
@@ -112,7 +114,7 @@ pub record HasBadHeader (key : List ℕ) (frames : List (List ℕ)) : Type 0 whe
   pub signed : IsSigned key parts
   pub nameless : header_names parts.header ≡ None
 
--- what each fault says of the frames; want of memory is no fault of theirs
+-- what each fault says of the frames; want of memory isn't a fault of theirs
 abbrev pub IsNoEnvelope : List ℕ → List (List ℕ) → EnvelopeFault → Type 0
 IsNoEnvelope key frames NoDelimiter = ¬ Contains frames delimiter
 IsNoEnvelope key frames TooFewParts = IsTooShort frames
@@ -124,7 +126,7 @@ IsNoEnvelope key frames OutOfMemory = ⊥
 abbrev pub IsSignedMessage : List ℕ → List (List ℕ) → Type 0
 IsSignedMessage key frames = (parts : Parts) × IsSplit frames parts × IsSigned key parts
 
--- why frames have no signature and four parts after a delimiter
+-- why frames can't be cut into a signature and four parts after a delimiter
 abbrev pub IsUncut : List (List ℕ) → EnvelopeFault → Type 0
 IsUncut frames NoDelimiter = ¬ Contains frames delimiter
 IsUncut frames TooFewParts = IsTooShort frames

@@ -1,10 +1,10 @@
--- The numbers of the faults.
+-- The numbers of the faults of an envelope; they count from 20 on.
 use Rattle.std.specs.Prelude.{ℕ}
 use Rattle.jmsg_envelope.specs.declared.fault.EnvelopeFault.{EnvelopeFault}
 use Rattle.jmsg_envelope.specs.declared.fault.EnvelopeFault.TheVariants.{NoDelimiter, TooFewParts, BadSignature}
 use Rattle.jmsg_envelope.specs.declared.fault.EnvelopeFault.TheVariants.{BadHeader, OutOfMemory}
 
--- the number that names a fault where only a number goes
+-- the number of a fault, for a report that has room for a number only
 abbrev pub envelope_fault_number : EnvelopeFault → ℕ
 envelope_fault_number NoDelimiter = 20
 envelope_fault_number TooFewParts = 21

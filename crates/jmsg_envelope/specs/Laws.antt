@@ -24,8 +24,8 @@ OpenedOnce =
     (key : List ℕ) (frames : List (List ℕ)) (e other : Envelope)
     → Opened key frames e → Opened key frames other → e ≡ other
 
--- what is sealed behind identities, with a header that names an id and a type, is opened under the same key as what it
--- was made of
+-- Say that a message is sealed after identities, with a header that names an id and a type. Then it is opened under the
+-- same key as what it was made of.
 abbrev pub SealedIsOpened : Type 0
 SealedIsOpened =
     (key : List ℕ) (prefix : List (List ℕ)) (parts : MessageParts) (id kind : List ℕ)

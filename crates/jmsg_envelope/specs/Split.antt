@@ -9,7 +9,7 @@ use Rattle.jmsg_envelope.specs.declared.split.Split.{Split}
 abbrev pub is_delimiter : List ℕ → Bool
 is_delimiter frame = bytes_eq frame delimiter
 
--- the parts that a split message holds, without where they lie in memory
+-- the parts that a split message holds, as lists of octets that say nothing of memory
 abbrev pub parts_of : Split → Parts
 parts_of split = record {
   identities = bodies split.identities.items;
@@ -37,7 +37,7 @@ parts_at frames at = record {
 abbrev pub signed_parts : Parts → Parts
 signed_parts parts = record parts { identities = []; buffers = [] }
 
--- the same, as it lies among frames
+-- the signature of parts and what it is over, as they lie among frames
 abbrev pub signed_parts_of : Signed → Parts
 signed_parts_of signed = record {
   identities = [];

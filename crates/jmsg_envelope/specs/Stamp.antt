@@ -1,21 +1,22 @@
--- What a source of message ids and dates stands for.
+-- What a source of message ids and dates stands for. The id of each message has to be another one ('Messaging in
+-- Jupyter' 5.3, "General Message Format").
 use Rattle.std.specs.Prelude.{◌≡◌, ◌<◌, ◌^◌, ◌++◌, ℕ, List, Bool, decimal}
 use Rattle.std.proofs.lemmas.Fmt.{decimal_injective}
 use Rattle.std.proofs.lemmas.List.{append_cancel_left}
 
--- the data of a stamp that no call changes: the session's text, and the text that its ids are made of
+-- what no call changes of a stamp: the text of its session, and the label with which its ids are made
 pub record StampMeaning : Type 0 where
   pub session : List ℕ
   pub label : List ℕ
 
--- What is known of a stamp: the data of it that no call changes, and by these the text of each number's id and whether
--- a text may be a date of it.
+-- What is known of a stamp: what no call changes of it, by that the id of each number, and whether a text may be a date
+-- of it.
 pub record Stamping (Self : Type 0) : Type 0 where
   pub meaning : Self → StampMeaning
   pub id_text : StampMeaning → ℕ → List ℕ
   pub is_date : StampMeaning → List ℕ → Bool
 
--- ids of one stamp differ: two numbers below 2 ^ 64 with the same id are the same number
+-- the ids of one stamp differ: if two numbers below 2^64 have the same id, they are the same number
 abbrev pub IdsDiffer : (StampMeaning → ℕ → List ℕ) → Type 0
 IdsDiffer id_text = (m : StampMeaning) (i j : ℕ) → i < 2 ^ 64 → j < 2 ^ 64 → id_text m i ≡ id_text m j → i ≡ j
 

@@ -28,7 +28,7 @@ pub enum EnvelopeFault {
 }
 
 impl EnvelopeFault {
-    /// The number that names this fault where only a number goes.
+    /// The number of this fault, for a report that has room for a number only.
     pub fn number(self) -> u8
         ensures { result ≡ envelope_fault_number self }
     {

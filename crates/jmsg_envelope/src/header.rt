@@ -10,8 +10,8 @@ use listed::Text;
 use serde_json::{Map, Value};
 use std::alloc::{AllocError, Global};
 
-/// The octets of a header that the kernel writes ('Messaging in Jupyter' 5.3, "General Message
-/// Format"): a JSON object with its keys in the order of their octets and no space.
+/// The octets of a header that the kernel writes ('Messaging in Jupyter' 5.3, "General Message Format"). They are a
+/// JSON object with its keys in the order of their octets, and no space.
 ///
 /// # Errors
 ///
@@ -111,7 +111,7 @@ fn read_header(alloc: Global, octets: &[u8]) -> Result<Value, EnvelopeFault>
     }
 }
 
-/// The text under a key of a header, where there is one.
+/// The text under a key of a header, if there is one.
 fn text_under<'v>(header: &'v Value, key: &str) -> Option<&'v str>
     ensures { option_map (λ text. text.now) result ≡ text_at key.now (view header.now) }
 {

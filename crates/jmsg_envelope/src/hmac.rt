@@ -32,7 +32,7 @@ pub fn hmac_sha256(key: &[u8], parts: &[&[u8]]) -> [u8; 32]
     outer.finalize()
 }
 
-/// The key as one block: hashed first where it is longer.
+/// The key as one block, hashed first if it is longer.
 fn block_of_key(key: &[u8]) -> [u8; BLOCK_LENGTH]
     ensures { result ≡ key_block key.now }
 {
@@ -43,7 +43,7 @@ fn block_of_key(key: &[u8]) -> [u8; BLOCK_LENGTH]
     }
 }
 
-/// A key that fits a block, with zeros behind it.
+/// A key that fits a block, with zeros after it.
 fn padded(key: &[u8]) -> [u8; BLOCK_LENGTH]
     requires { length key.now ≤ block_length }
     ensures { result ≡ zero_padded key.now }

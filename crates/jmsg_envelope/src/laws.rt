@@ -17,8 +17,8 @@ pub fn law_opened_once()
     ensures opened_once { OpenedOnce }
 {}
 
-/// A law with no code: what is sealed behind identities, with a header that names an id and a type,
-/// is opened again under the same key.
+/// A law with no code: what is sealed after identities, with a header that names an id and a type, is opened again
+/// under the same key.
 pub fn law_sealed_is_opened()
     ensures sealed_is_opened { SealedIsOpened }
 {}

@@ -13,13 +13,12 @@ use crate::{EnvelopeFault, Signer};
 use listed::{Frames, Octets};
 use std::alloc::Global;
 
-/// Opens the frames of a message ('Messaging in Jupyter' 5.3, "The Wire Protocol"), which are moved
-/// and not copied.
+/// Opens the frames of a message ('Messaging in Jupyter' 5.3, "The Wire Protocol"), which are moved and not copied.
 ///
 /// # Errors
 ///
-/// In this order: `NoDelimiter`, `TooFewParts`, `BadSignature`, `BadHeader`. `OutOfMemory` comes where
-/// an allocation is refused.
+/// In this order: `NoDelimiter`, `TooFewParts`, `BadSignature`, `BadHeader`. `OutOfMemory` comes if an allocation is
+/// refused.
 pub fn open_envelope(
     alloc: Global,
     signer: &Signer,

@@ -9,7 +9,7 @@ use crate::{EnvelopeFault, MessageParts, Signer};
 use listed::Frames;
 use std::alloc::Global;
 
-/// The frames of a message, signed ('Messaging in Jupyter' 5.3, "The Wire Protocol"): the prefix, the
+/// The frames of a message, signed ('Messaging in Jupyter' 5.3, "The Wire Protocol"). They are the prefix, the
 /// delimiter, the signature, the four parts and the buffers, which are moved and not copied.
 ///
 /// # Errors
@@ -33,7 +33,7 @@ pub fn seal(
     }
 }
 
-/// A prefix, and behind it the delimiter and the signature of a message of these parts.
+/// A prefix, and after it the delimiter and the signature of a message of these parts.
 fn signed(
     alloc: Global,
     signer: &Signer,
@@ -54,7 +54,7 @@ fn signed(
     }
 }
 
-/// Frames, and behind them the delimiter and a signature.
+/// Frames, and after them the delimiter and a signature.
 fn with_signature(
     alloc: Global,
     mut frames: Vec<Vec<u8>>,
@@ -69,7 +69,7 @@ fn with_signature(
     Ok(frames)
 }
 
-/// Frames, and behind them the parts of a message.
+/// Frames, and after them the parts of a message.
 fn with_parts(mut frames: Vec<Vec<u8>>, parts: MessageParts) -> Result<Frames, EnvelopeFault>
     ensures parts { IfOk result (λ all. all
         ≡ bodies frames.items ++ parts.header ∷ parts.parent ∷ parts.metadata ∷ parts.content ∷ parts.buffers) }
@@ -94,7 +94,7 @@ fn with_parts(mut frames: Vec<Vec<u8>>, parts: MessageParts) -> Result<Frames, E
     Ok(Frames::new(frames))
 }
 
-/// Puts the four parts of a message behind the frames.
+/// Puts the four parts of a message after the frames.
 fn push_parts(
     frames: &mut Vec<Vec<u8>>,
     header: Vec<u8>,

@@ -12,7 +12,7 @@ use std::marker::Model;
 /// Under an empty key nothing is signed and no signature is looked at.
 #[derive(Drop)]
 pub struct Signer {
-    /// The key; empty where nothing is signed.
+    /// The key; empty if nothing is signed.
     key: Vec<u8>,
 }
 

@@ -18,7 +18,7 @@ pub trait Stamp {
     ///
     /// # Errors
     ///
-    /// Where an allocation is refused.
+    /// If an allocation is refused.
     fn id(&self, alloc: Global, n: u64) -> Result<String, AllocError>
         ensures { IfOk result (λ text. string_bytes text ≡ stamp.id_text (stamp.meaning self.now) n) };
 
@@ -26,7 +26,7 @@ pub trait Stamp {
     ///
     /// # Errors
     ///
-    /// Where an allocation is refused.
+    /// If an allocation is refused.
     fn date(&mut self, alloc: Global) -> Result<String, AllocError>
         ensures date { IfOk result
             (λ text. stamp.is_date (stamp.meaning self.old) (string_bytes text) ≡ true) }

@@ -78,5 +78,6 @@ has_float-publication_data (said.ExecuteInput code count) = refl
 has_float-publication_data (said.Stream err text) = refl
 has_float-publication_data (said.ExecuteResult text count) = refl
 has_float-publication_data (said.Display text shown) = refl
+has_float-publication_data (said.DisplayHtml text html) = refl
 has_float-publication_data (said.Error ename evalue) = refl
 has_float-publication_data (said.CommClose comm_id) = refl

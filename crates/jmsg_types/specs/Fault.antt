@@ -16,7 +16,7 @@ refusal_of NotAnObject = Some not_an_object
 refusal_of (Field name) = Some (field name.now)
 refusal_of OutOfMemory = None
 
--- the number that names a fault where only a number goes
+-- the number of a fault, for a report that has room for a number only; they count from 30 on
 abbrev pub content_fault_number : ContentFault → ℕ
 content_fault_number NotJson = 30
 content_fault_number NotAnObject = 31
@@ -28,7 +28,7 @@ abbrev pub IsAnswer : {A : Type 0} → Result A ContentFault → Result A Refusa
 IsAnswer answer due =
     MatchResult answer (λ value. due ≡ Ok value) (λ fault. option_map Err (refusal_of fault) ≡ Some due)
 
--- an answer is what is due, or memory was wanted
+-- an answer is what is due, or memory was wanting
 abbrev pub IsAnswerOrMemory : {A : Type 0} → Result A ContentFault → Result A Refusal → Type 0
 IsAnswerOrMemory answer due =
     MatchResult answer (λ value. due ≡ Ok value) (λ fault. IfSome (refusal_of fault) (λ refusal. due ≡ Err refusal))

@@ -1,4 +1,5 @@
--- How a field of a content is judged ('Messaging in Jupyter' 5.3): its kind, and whether it may be left out.
+-- How a field of a content is judged ('Messaging in Jupyter' 5.3; a content is JSON, RFC 8259): its kind, and whether
+-- it may be left out.
 use Rattle.std.specs.Prelude.{◌≡◌, ℕ, List, [], ◌∷◌, Bool, false, min, nat_le, if◌then◌else◌}
 use Rattle.std.specs.Prelude.{Option, Some, None, option_map, option_and_then, Result, Ok, Err, length, map}
 use Rattle.std.specs.Ordering.{nat_cmp}
@@ -41,21 +42,23 @@ NamesRise texts = IsStrictlySortedBy (slice_cmp nat_cmp) (map (λ text. text.0) 
 abbrev pub as_texts : Data → Option (List (List ℕ × List ℕ))
 as_texts value = option_and_then texts_of (as_object value)
 
--- members without a name have those of the other names as before
+-- under each name but one the new members have what the old ones have
 abbrev pub KeepsOthers : List ℕ → Members → Members → Type 0
 KeepsOthers name old new =
     (other : List ℕ) → bytes_eq other name ≡ false → get_member other new ≡ get_member other old
 
--- a field that has to be there, of a kind
+-- A field that has to be there. The value under its name is read as one of its kind. If there is no value, or it is of
+-- another kind, the content is refused by the field's name.
 abbrev pub required : {A : Type 0} → (Data → Option A) → List ℕ → Members → Result A Refusal
 required kind name members = ok_or (option_and_then kind (get_member name members)) (field name)
 
--- a field of a kind that has a default
+-- A field that may be left out. If it is, its default counts. If it is there it has to be of its kind, or else the
+-- content is refused by the field's name.
 abbrev pub optional : {A : Type 0} → (Data → Option A) → A → List ℕ → Members → Result A Refusal
 optional kind default name members =
     option_map_or (λ value. ok_or (kind value) (field name)) (get_member name members) (Ok default)
 
--- the first is judged, and the next where it isn't refused
+-- the first is judged, and the next one if the first isn't refused
 abbrev pub and_then : {A B E : Type 0} → Result A E → (A → Result B E) → Result B E
 and_then (Ok value) next = next value
 and_then (Err fault) next = Err fault
@@ -64,7 +67,7 @@ and_then (Err fault) next = Err fault
 abbrev pub code_points : List ℕ → ℕ
 code_points text = length (chars text)
 
--- a cursor in a code, in code points: one past the code's end is at its end, and so is one that is left out
+-- The cursor of a code, in code points. A cursor past the code's end is at the end, and so is one that is left out.
 abbrev pub optional_cursor : List ℕ → List ℕ → Members → Result ℕ Refusal
 optional_cursor code name members =
     and_then (optional as_whole (code_points code) name members) (λ cursor. Ok (min cursor (code_points code)))

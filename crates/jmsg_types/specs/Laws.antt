@@ -3,12 +3,12 @@ use Rattle.std.specs.Prelude.{◌≡◌, ℕ, List, ◌++◌, Some, codes}
 use Rattle.jmsg_types.specs.Request.{message_type, row_of}
 use Rattle.jmsg_types.specs.declared.message_type.MessageType.{MessageType}
 
--- each type is the type of its name: no two have one name, and the list of all of them has each
+-- Each type is found by its name: no two types have the same name, and the list of all types has each.
 abbrev pub EachTypeIsFound : Type 0
 EachTypeIsFound = (kind : MessageType) → message_type (row_of kind).msg_type ≡ Some kind
 
--- a request that is replied to has a type that ends in `_request`, and its reply's type has `_reply` in that place
--- ('Messaging in Jupyter' 5.3, "General Message Format")
+-- If a type of request is replied to, its name ends in `_request`. Its reply's name has `_reply` in that place
+-- ('Messaging in Jupyter' 5.3, "General Message Format").
 abbrev pub RepliesAreNamedForRequests : Type 0
 RepliesAreNamedForRequests =
     (kind : MessageType) (name : List ℕ) → (row_of kind).reply ≡ Some name

@@ -20,7 +20,7 @@ language_data file_extension mimetype name version = object
     (member (codes "name") (string name)
     (member (codes "version") (string version) no_members))))
 
--- what a user expression came to: a result for display, or an error ("Execution results")
+-- what a user expression came to: a result as a display shows it, or an error ("Execution results")
 abbrev pub shown_data : Shown → Data
 shown_data (shows.Text text) = object
     (member (codes "data") (plain_data text)
@@ -28,12 +28,13 @@ shown_data (shows.Text text) = object
     (member (codes "status") (string (codes "ok")) no_members)))
 shown_data (shows.Fault ename evalue) = error_data ename evalue
 
--- members with what each user expression came to, by its name; of a name that comes twice the last counts
+-- members to which was added what each user expression came to, by its name; if a name comes twice the last one counts
 abbrev pub values_members : List (List ℕ × Shown) → Members → Members
 values_members [] found = found
 values_members (value ∷ values) found = values_members values (put value.0 (shown_data value.1) found)
 
--- whether a code is whole; one that isn't is told with the next line's indent, which is empty ("Code completeness")
+-- Whether a code is whole. If it isn't, the indent of its next line is told, too, which is empty here ("Code
+-- completeness").
 abbrev pub verdict_data : Verdict → Data
 verdict_data Complete = object (member (codes "status") (string (codes "complete")) no_members)
 verdict_data Incomplete = object
@@ -41,7 +42,8 @@ verdict_data Incomplete = object
     (member (codes "status") (string (codes "incomplete")) no_members))
 verdict_data Invalid = object (member (codes "status") (string (codes "invalid")) no_members)
 
--- what a kernel is, of a banner and a language: its name and version, and the protocol's version ("Kernel info")
+-- what a kernel tells of itself, with its banner and its language: its name and version, and the protocol's version
+-- ("Kernel info")
 abbrev pub kernel_info_data : List ℕ → Data → Data
 kernel_info_data banner language = object
     (member (codes "banner") (string banner)
@@ -52,7 +54,7 @@ kernel_info_data banner language = object
     (member (codes "protocol_version") (string (codes "5.3"))
     (member (codes "status") (string (codes "ok")) no_members)))))))
 
--- a cell that ran to its end, with what the user expressions came to ("Execution results")
+-- the reply of a cell that ran to its end, with what the user expressions came to ("Execution results")
 abbrev pub execute_ok_data : ℕ → Data → Data
 execute_ok_data count values = object
     (member (codes "execution_count") (number (unsigned count))
@@ -60,7 +62,7 @@ execute_ok_data count values = object
     (member (codes "status") (string (codes "ok"))
     (member (codes "user_expressions") values no_members))))
 
--- a cell that failed ("Execution results")
+-- the reply of a cell that failed ("Execution results")
 abbrev pub execute_error_data : List ℕ → List ℕ → ℕ → Data
 execute_error_data ename evalue count = object
     (member (codes "ename") (string ename)

@@ -22,9 +22,9 @@ use Rattle.jmsg_types.specs.declared.message_type.MessageType.TheVariants.{CommI
 use Rattle.jmsg_types.specs.declared.message_type.MessageType.TheVariants.{CommClose, ShutdownRequest}
 use Rattle.jmsg_types.specs.declared.message_type.MessageType.TheVariants.{InterruptRequest}
 
--- A row of the table of requests: the name of the message type; its fields, in the order in which they are judged, and
--- the request that they mean; the type of the message that replies; on which channels it has a meaning; which error
--- replies to it.
+-- A row of the table of requests. It has the name of the message type, and the request that its fields mean, which are
+-- judged in their order. It tells the type of the message that replies, and the channels on which the type has a
+-- meaning. It also tells which error replies if the content is refused.
 pub record RequestRow : Type 0 where
   pub msg_type : List ℕ
   pub fields : Members → Result Request Refusal
@@ -32,9 +32,9 @@ pub record RequestRow : Type 0 where
   pub heard : Heard
   pub error : ErrorForm
 
--- The table of requests. Silence keeps a cell out of the history; a cursor past the code's end is at its end. Shell and
--- control both hear what a kernel is asked to tell of itself, to shut down and to interrupt, and shell the others. Of
--- comms a kernel that has none only hears that one is opened.
+-- The table of requests. If a cell is silent it isn't stored in the history. A cursor past the code's end is at its
+-- end. Requests for the kernel's info, its shutdown and an interrupt are heard on shell and on control, and the others
+-- on shell alone. This kernel has no comms, so it hears only that one is opened.
 abbrev pub row_of : MessageType → RequestRow
 row_of KernelInfoRequest = record {
   msg_type = codes "kernel_info_request";
@@ -147,11 +147,11 @@ message_types =
     KernelInfoRequest ∷ ExecuteRequest ∷ CompleteRequest ∷ InspectRequest ∷ IsCompleteRequest ∷ HistoryRequest
     ∷ CommInfoRequest ∷ CommOpen ∷ CommMsg ∷ CommClose ∷ ShutdownRequest ∷ InterruptRequest ∷ []
 
--- the type of a name, where the table has one
+-- the type that has this name in the table, if there is one
 abbrev pub message_type : List ℕ → Option MessageType
 message_type name = find (λ kind. bytes_eq name (row_of kind).msg_type) message_types
 
--- the type of the reply to a message type, where any message replies
+-- the type of the reply to messages of a type, if these are replied to
 abbrev pub reply_type_of : List ℕ → Option (List ℕ)
 reply_type_of name = option_and_then (λ kind. (row_of kind).reply) (message_type name)
 
@@ -159,12 +159,14 @@ reply_type_of name = option_and_then (λ kind. (row_of kind).reply) (message_typ
 abbrev pub known_request : MessageType → List ℕ → Result Request Refusal
 known_request kind content = and_then (members_in content) (row_of kind).fields
 
--- the request of a message type and a content, or why it is refused; of an unknown type the content isn't read
+-- The request that a message of a type and a content means, or why it is refused. If the type is unknown, its content
+-- isn't read.
 abbrev pub request_in : List ℕ → List ℕ → Result Request Refusal
 request_in msg_type content =
     option_map_or (λ kind. known_request kind content) (message_type msg_type) (Ok asks.Unknown)
 
--- the user expressions of a request, where it has any, stand by the order of their names' octets
+-- The user expressions of a request stand by the order of their names' octets, each name once. Other requests have
+-- none.
 abbrev pub ExpressionsRise : Request → Type 0
 ExpressionsRise asks.KernelInfo = ⊤
 ExpressionsRise (asks.Execute code silent store_history user_expressions allow_stdin stop_on_error) =

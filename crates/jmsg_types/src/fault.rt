@@ -39,7 +39,7 @@ pub enum ContentFault {
 }
 
 impl ContentFault {
-    /// The number that names this fault where only a number goes.
+    /// The number of this fault, for a report that has room for a number only.
     pub fn number(self) -> u8
         ensures { result ≡ content_fault_number self }
     {
@@ -72,7 +72,7 @@ impl<T: Drop> From<AllocFailed<T>> for ContentFault {
 ///
 /// # Errors
 ///
-/// `OutOfMemory` alone: where there is none for the words, and where it is the fault itself.
+/// `OutOfMemory` alone: if there is none for the words, and if it is the fault itself.
 pub fn content_words(
     alloc: Global,
     fault: &ContentFault,

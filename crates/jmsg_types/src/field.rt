@@ -66,7 +66,7 @@ pub(crate) fn take_text(
     }
 }
 
-/// A truth among the members, or its default where it is missing.
+/// A truth among the members, or its default if it is missing.
 pub(crate) fn truth_field(
     members: &Map<String, Value>,
     name: &'static str,
@@ -81,7 +81,7 @@ pub(crate) fn truth_field(
     }
 }
 
-/// A whole number among the members, or its default where it is missing.
+/// A whole number among the members, or its default if it is missing.
 fn whole_field(
     members: &Map<String, Value>,
     name: &'static str,
@@ -103,7 +103,7 @@ fn code_points(text: &str) -> u64
     text.chars().count() as u64
 }
 
-/// A cursor in a code among the members, at most at the code's end, where it is too if it is missing.
+/// A cursor in a code among the members. It is at most at the code's end, and is there if it is missing.
 pub(crate) fn cursor_field(
     members: &Map<String, Value>,
     name: &'static str,
@@ -117,7 +117,7 @@ pub(crate) fn cursor_field(
     Ok(cursor.min(end))
 }
 
-/// A level of detail among the members, which is 0 or 1, and 0 where it is missing.
+/// A level of detail among the members, which is 0 or 1, and 0 if it is missing.
 pub(crate) fn level_field(
     members: &Map<String, Value>,
     name: &'static str,
@@ -134,8 +134,7 @@ pub(crate) fn level_field(
     }
 }
 
-/// Takes an object of texts out of the members, by the order of the names' octets; none where it is
-/// missing.
+/// Takes an object of texts out of the members, by the order of the names' octets; none if it is missing.
 pub(crate) fn take_texts(
     alloc: Global,
     members: &mut Map<String, Value>,
@@ -156,7 +155,7 @@ pub(crate) fn take_texts(
     owned_texts(alloc, texts)?.ok_or(ContentFault::Field(name))
 }
 
-/// The names and texts of an object's members, where all are texts.
+/// The names and texts of an object's members, if all are texts.
 fn owned_texts(
     alloc: Global,
     members: Map<String, Value>,

@@ -140,7 +140,7 @@ impl MessageType {
 /// What the table of requests says of a type, beside its name and its fields.
 #[derive(Clone, Copy)]
 pub struct Columns {
-    /// The type of the message that replies to it, where any does.
+    /// The type of the message that replies to it, if any does.
     pub reply: Option<&'static str>,
     /// On which channels it has a meaning.
     pub heard: Heard,
@@ -161,7 +161,7 @@ impl Columns {
     }
 }
 
-/// The type of the message that replies to one of this type, where any does.
+/// The type of the message that replies to one of this type, if any does.
 pub fn reply_type(msg_type: &str) -> Option<&'static str>
     ensures { option_map (λ name. name.now) result ≡ reply_type_of msg_type.now }
 {

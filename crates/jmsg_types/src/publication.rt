@@ -2,7 +2,7 @@
 
 ghost use Rattle.std.specs.Prelude.{◌≡◌, IfOk, IfErr};
 ghost use Rattle.jmsg_types.specs.Publication.{failure_data, publication_data, publication_type, state_word};
-ghost use Rattle.jmsg_types.specs.Publication.{buffers, display_data, stream_name, topic};
+ghost use Rattle.jmsg_types.specs.Publication.{buffers, display_data, display_html_data, stream_name, topic};
 ghost use Rattle.listed.specs.Bodies.{bodies};
 ghost use Rattle.jmsg_types.specs.declared.publication.Publication.TheVariants.{CommClose, ExecuteInput};
 ghost use Rattle.jmsg_types.specs.declared.publication.Publication.TheVariants.{ExecuteResult, Status};
@@ -47,6 +47,13 @@ pub enum Publication {
         text: Text,
         /// Octets that go along with it as they are.
         buffers: Frames,
+    },
+    /// A cell shows something that a page shows in a form of its own.
+    DisplayHtml {
+        /// What it shows, as plain text.
+        text: Text,
+        /// The same as a fragment of HTML.
+        html: Text,
     },
     /// A cell failed.
     Error {
@@ -114,7 +121,7 @@ pub fn type_of(publication: &Publication) -> &'static str
         Publication::ExecuteInput { .. } => "execute_input",
         Publication::Stream { .. } => "stream",
         Publication::ExecuteResult { .. } => "execute_result",
-        Publication::Display { .. } => "display_data",
+        Publication::Display { .. } | Publication::DisplayHtml { .. } => "display_data",
         Publication::Error { .. } => "error",
         Publication::CommClose { .. } => "comm_close",
     }
@@ -131,13 +138,14 @@ pub fn topic_of(publication: &Publication) -> &'static str
         | Publication::ExecuteInput { .. }
         | Publication::ExecuteResult { .. }
         | Publication::Display { .. }
+        | Publication::DisplayHtml { .. }
         | Publication::Error { .. }
         | Publication::CommClose { .. } => type_of(publication),
     }
 }
 
-/// The buffers of a publication, which stand behind its content ('Messaging in Jupyter' 5.3, "The Wire Protocol"):
-/// those of what a cell shows, and none of any other. Takes no memory.
+/// The buffers of a publication, which stand after its content ('Messaging in Jupyter' 5.3, "The Wire Protocol"): those
+/// of what a cell shows, and none of any other. Takes no memory.
 pub fn buffers_of(publication: &Publication) -> &[Vec<u8>]
     ensures { bodies result.now ≡ buffers publication.now }
 {
@@ -147,6 +155,7 @@ pub fn buffers_of(publication: &Publication) -> &[Vec<u8>]
         | Publication::ExecuteInput { .. }
         | Publication::Stream { .. }
         | Publication::ExecuteResult { .. }
+        | Publication::DisplayHtml { .. }
         | Publication::Error { .. }
         | Publication::CommClose { .. } => &[],
     }
@@ -222,6 +231,9 @@ fn publication_value(alloc: Global, publication: &Publication) -> Result<Value, 
         }
         Publication::ExecuteResult { text, count } => result_value(alloc, text.as_str(), *count),
         Publication::Display { text, .. } => display_value(alloc, text.as_str()),
+        Publication::DisplayHtml { text, html } => {
+            display_html_value(alloc, text.as_str(), html.as_str())
+        }
         Publication::Error { ename, evalue } => {
             failure_value(alloc, ename.as_str(), evalue.as_str())
         }
@@ -259,6 +271,13 @@ fn display_value(alloc: Global, text: &str) -> Result<Value, AllocError>
 {
     let data = plain_value(alloc, text)?;
     json!(in alloc; {"data": data, "metadata": {}})
+}
+
+/// What a cell shows, with the form that a page has for it.
+fn display_html_value(alloc: Global, text: &str, html: &str) -> Result<Value, AllocError>
+    ensures { IfOk result (λ value. view value ≡ display_html_data text.now html.now) }
+{
+    json!(in alloc; {"data": {"text/html": html, "text/plain": text}, "metadata": {}})
 }
 
 /// A comm that is closed.

@@ -65,7 +65,7 @@ pub enum Reply {
         /// Where it ends, in code points.
         end: u64,
     },
-    /// What the word at the cursor is, where anything is known of it.
+    /// What the word at the cursor is, if anything is known of it.
     Inspect(Option<Text>),
     /// Whether a code is whole.
     IsComplete(Verdict),

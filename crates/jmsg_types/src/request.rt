@@ -84,8 +84,8 @@ pub enum Request {
 ///
 /// # Errors
 ///
-/// `NotJson` and `NotAnObject`, and `Field` with the first field, by the table's order, that is missing
-/// without a default or of a wrong kind. `OutOfMemory` where an allocation was refused.
+/// `NotJson` and `NotAnObject`, and `Field` with the first field, by the table's order, that is missing without a
+/// default or of a wrong kind. `OutOfMemory` if an allocation was refused.
 pub fn read_request(alloc: Global, msg_type: &str, content: &[u8]) -> Result<Request, ContentFault>
     ensures read { IfOk result (λ request. request_in msg_type.now content.now ≡ Ok request) }
     ensures refused { IfErr result (λ fault. IfSome (refusal_of fault)

@@ -12,7 +12,7 @@ use Rattle.interp_core.specs.declared.answer.Output.{Output}
 use Rattle.interp_core.specs.declared.answer.Stepped.{Stepped}
 use Rattle.interp_core.specs.declared.fault.InterpFault.{InterpFault}
 use Rattle.interp_core.specs.declared.fault.InterpFault.TheVariants.{Syntax, Overflow, ZeroDivision, Shift, TooDeep}
-use Rattle.interp_core.specs.declared.fault.InterpFault.TheVariants.{Interrupted, OutOfMemory}
+use Rattle.interp_core.specs.declared.fault.InterpFault.TheVariants.{Interrupted, OutOfMemory, Raised}
 use Rattle.jmsg_types.specs.declared.publication.Publication.{Publication}
 use Rattle.kernel_engine.specs.Course.{Course, own, interrupted, memory, Outcome, IsOutcome, outputs_of, Goes}
 use Rattle.kernel_engine.specs.Course.{CellRuns, TextRuns, MayEnd}
@@ -126,6 +126,8 @@ module _ {State Cell : Type 0} (m : Meaning State Cell) where
         (record { steps = 1; ending = own }, ran_last (Failed TooDeep) outcome stepped is, tt)
     ran_to_end (Failed Interrupted) outcome more stepped is =
         (record { steps = 1; ending = own }, ran_last (Failed Interrupted) outcome stepped is, tt)
+    ran_to_end (Failed (Raised name value)) outcome more stepped is =
+        (record { steps = 1; ending = own }, ran_last (Failed (Raised name value)) outcome stepped is, tt)
     ran_to_end (Failed OutOfMemory) outcome more stepped is = (
       record { steps = 0; ending = memory after },
       subst (λ o. CellRuns m state cell (record { steps = 0; ending = memory after }) outputs o after) (sym is)
@@ -304,6 +306,8 @@ module _ {State Cell : Type 0} (m : Meaning State Cell) where
   refused_by state code after may Shift answered refused = no_cell state code after may Shift answered
   refused_by state code after may TooDeep answered refused = no_cell state code after may TooDeep answered
   refused_by state code after may Interrupted answered refused = no_cell state code after may Interrupted answered
+  refused_by state code after may (Raised name value) answered refused =
+      no_cell state code after may (Raised name value) answered
   refused_by state code after may OutOfMemory answered refused = (
     record { steps = 0; ending = memory state },
     inr (inl (record { course_is = refl; quiet = refl; outcome_is = refl; same = refused })),

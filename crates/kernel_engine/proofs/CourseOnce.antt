@@ -1,7 +1,7 @@
 -- By one course a request publishes one thing at most, and is answered one thing at most.
 use Rattle.std.proofs.Common.{arith, ◌≡◌, inl, inr, ℕ, ◌+◌, ◌<◌, List, [], ◌∷◌, ◌++◌, length, map, Bool, true}
 use Rattle.std.proofs.Common.{false, Some, Ok, Err, refl, sym, ◌∙◌, ap, subst, append_assoc}
-use Rattle.interp_core.specs.Interpreter.{Meaning, Laws}
+use Rattle.interp_core.specs.Interpreter.{HasOneValue, Meaning}
 use Rattle.interp_core.specs.declared.answer.Next.{Next}
 use Rattle.interp_core.specs.declared.answer.Next.TheVariants.{More, Done, Failed}
 use Rattle.interp_core.specs.declared.answer.Output.{Output}
@@ -46,7 +46,7 @@ wrote_once step also steps others last final same wrote =
     ∙ ap (λ (s : Stepped). s.outputs ++ (outputs_of others ++ final)) same
     ∙ sym (append_assoc also.outputs (outputs_of others) final)
 
-module _ {State Cell : Type 0} (m : Meaning State Cell) (laws : Laws m) where
+module _ {State Cell : Type 0} (m : Meaning State Cell) (laws : HasOneValue m) where
   -- from one state and cell on, a course ends in one way
   ends_once : (ending : Ending State) (state : State) (cell : Cell) (more count : ℕ) (last final : List Output)
       (outcome came : Outcome) (after other : State) → Ends m ending more state cell last outcome after

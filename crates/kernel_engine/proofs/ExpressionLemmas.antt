@@ -4,7 +4,7 @@ use Rattle.std.proofs.Common.{append_assoc}
 use Rattle.interp_core.specs.Interpreter.{Meaning, Answers, OnMemory}
 use Rattle.interp_core.specs.declared.fault.InterpFault.{InterpFault}
 use Rattle.interp_core.specs.declared.fault.InterpFault.TheVariants.{Syntax, Overflow, ZeroDivision, Shift, TooDeep}
-use Rattle.interp_core.specs.declared.fault.InterpFault.TheVariants.{Interrupted, OutOfMemory}
+use Rattle.interp_core.specs.declared.fault.InterpFault.TheVariants.{Interrupted, OutOfMemory, Raised}
 use Rattle.jmsg_types.specs.declared.reply.Shown.{Shown}
 use Rattle.kernel_engine.specs.Answer.{Evaluates, EvaluatesFront, LeavesExpression, shown_of}
 
@@ -98,4 +98,5 @@ module _ {State Cell : Type 0} (m : Meaning State Cell) where
   left_by_fault state text Shift after answered refused = inr (Err Shift, answered)
   left_by_fault state text TooDeep after answered refused = inr (Err TooDeep, answered)
   left_by_fault state text Interrupted after answered refused = inr (Err Interrupted, answered)
+  left_by_fault state text (Raised name value) after answered refused = inr (Err (Raised name value), answered)
   left_by_fault state text OutOfMemory after answered refused = inl refused

@@ -29,19 +29,19 @@ use Rattle.kernel_engine.specs.declared.does.Order.TheVariants.{GoOn}
 use Rattle.kernel_engine.specs.Course.{Course, Outcome, TextRuns}
 use Rattle.kernel_engine.specs.Publications.{grown}
 
--- What a request is answered: the content of its reply, where it has one, the state and the execution count then,
--- and what the kernel is to do.
+-- What a request is answered: the content of its reply, if it has one, the state and the execution count then, and what
+-- the kernel is to do.
 pub record Answer (State : Type 0) : Type 0 where
   pub reply : Option Reply
   pub state : State
   pub count : ℕ
   pub order : Order
 
--- a reply, or none, and nothing that the kernel is to do
+-- a reply, if there is one, and nothing that the kernel is to do
 abbrev pub plain : {State : Type 0} → State → ℕ → Option Reply → Answer State
 plain state count reply = record { reply = reply; state = state; count = count; order = GoOn }
 
--- the error that replies in a form ("Request-Reply")
+-- the error that replies to a refused request, in a form ("Request-Reply")
 abbrev pub error_in : ErrorForm → ℕ → List ℕ → List ℕ → Option Reply
 error_in NoError count ename evalue = None
 error_in Plain count ename evalue = Some (tells.Error ename evalue)
@@ -70,7 +70,7 @@ verdict_of judged.Complete = Complete
 verdict_of judged.Incomplete = Incomplete
 verdict_of judged.Invalid = Invalid
 
--- this, as a reply
+-- whether a text is a whole cell, as the content of a reply
 abbrev pub completeness_reply : Completeness → Reply
 completeness_reply completeness = tells.IsComplete (verdict_of completeness)
 
@@ -88,7 +88,8 @@ Evaluates {State} m state (expression ∷ expressions) values after =
     × m.evaluates state expression.1 answer next × (values ≡ (expression.0, shown_of answer) ∷ rest)
     × Evaluates m next expressions rest after
 
--- the user expressions of a cell that didn't fail are evaluated, and their values are in the reply
+-- The user expressions of a cell that didn't fail are evaluated, and the reply has their values. One that fails has its
+-- fault in place of a value.
 pub record RepliesValues {State Cell : Type 0} (m : Meaning State Cell) (expressions : List (List ℕ × List ℕ))
     (count : ℕ) (state : State) (answer : Answer State) : Type 0 where
   pub values : List (List ℕ × Shown)
@@ -96,15 +97,16 @@ pub record RepliesValues {State Cell : Type 0} (m : Meaning State Cell) (express
   pub evaluates : Evaluates m state expressions values after
   pub all : answer ≡ plain after count (Some (tells.ExecuteOk count values))
 
--- the reply to a cell by what came of it: the values of the user expressions, or its fault
+-- The reply to a cell, by what came of it. If the cell failed it tells the cell's fault, and no user expression is
+-- evaluated. Else it tells the values of the user expressions.
 abbrev pub RepliesCell : {State Cell : Type 0} → Meaning State Cell → List (List ℕ × List ℕ) → ℕ → Outcome → State
     → Answer State → Type 0
 RepliesCell m expressions count (Ok value) state answer = RepliesValues m expressions count state answer
 RepliesCell m expressions count (Err fault) state answer =
     answer ≡ plain state count (Some (tells.ExecuteError (fault_name fault) (fault_value fault) count))
 
--- A cell is answered: it runs by its course, and then its user expressions are evaluated, in their order, unless it
--- failed. The execution count is the one behind it.
+-- A cell is answered: it runs by its course, and then its user expressions are evaluated in their order, unless it
+-- failed. The reply has the execution count after the cell.
 pub record AnswersCell {State Cell : Type 0} (m : Meaning State Cell) (code : List ℕ)
     (expressions : List (List ℕ × List ℕ)) (count : ℕ) (state : State) (course : Course State) (answer : Answer State)
     : Type 0 where
@@ -114,7 +116,7 @@ pub record AnswersCell {State Cell : Type 0} (m : Meaning State Cell) (code : Li
   pub runs : TextRuns m state code course outputs outcome after
   pub replies : RepliesCell m expressions count outcome after answer
 
--- what the language is asked has this reply
+-- The interpreter is asked about its language, and its answer or its fault is replied.
 abbrev pub Finds : {State Cell : Type 0} → Meaning State Cell → State → Look → Reply → Type 0
 Finds m state looks.Info reply = (info : Result Info InterpFault) × m.tells state info ×
     (reply ≡ reply_by info_reply info)
@@ -128,8 +130,8 @@ Finds m state (looks.Completeness code) reply =
     (completeness : Result Completeness InterpFault) × m.judges state code completeness
     × (reply ≡ reply_by completeness_reply completeness)
 
--- What a request is answered by a course, in a state and at an execution count, by what it comes to. It has the
--- arguments of what is published of it.
+-- What a request is answered, by what it comes to. The arguments are the same as those of what is published of it
+-- (`Publishes`), and the answer.
 abbrev pub Answers : {State Cell : Type 0} → Meaning State Cell → Does → State → ℕ → Course State
     → Answer State → Type 0
 Answers m (Says publication reply order) state count course answer =
@@ -142,12 +144,13 @@ Answers m (Refuses kind ename evalue) state count course answer =
     answer ≡ plain state count (error_reply_to kind count ename evalue)
 Answers m Unread state count course answer = ⊥
 
--- what a user expression leaves whose value isn't told: it was evaluated, or it found no memory
+-- the state after a user expression whose value isn't told: it was evaluated, or it found no memory
 abbrev pub LeavesExpression : {State Cell : Type 0} → Meaning State Cell → State → List ℕ → State → Type 0
 LeavesExpression m state text after =
     m.gives_up state text after ⊎ ((answer : Result (List ℕ) InterpFault) × m.evaluates state text answer after)
 
--- a front part of the user expressions is evaluated, and the next one perhaps found no memory
+-- some of the user expressions were evaluated, in their order from the first on, and the next one perhaps found no
+-- memory
 pub record EvaluatesFront {State Cell : Type 0} (m : Meaning State Cell) (state : State)
     (expressions : List (List ℕ × List ℕ)) (after : State) : Type 0 where
   pub front : List (List ℕ × List ℕ)
@@ -159,13 +162,15 @@ pub record EvaluatesFront {State Cell : Type 0} (m : Meaning State Cell) (state 
   pub left : (after ≡ at) ⊎ ((expression : List ℕ × List ℕ) × (more : List (List ℕ × List ℕ))
       × (rest ≡ expression ∷ more) × m.gives_up at expression.1 after)
 
--- what is left behind a cell that wasn't answered for want of memory, by what came of it
+-- What a cell leaves that wasn't answered for want of memory. If the cell failed its state stays. Else some of its user
+-- expressions were evaluated.
 abbrev pub LeavesExpressions : {State Cell : Type 0} → Meaning State Cell → List (List ℕ × List ℕ) → Outcome → State
     → State → Type 0
 LeavesExpressions m expressions (Ok value) state after = EvaluatesFront m state expressions after
 LeavesExpressions m expressions (Err fault) state after = after ≡ state
 
--- a cell that wasn't answered for want of memory: it ran by its course, and a front part of its expressions did
+-- A cell wasn't answered for want of memory. It ran by its course, and then some of its user expressions were
+-- evaluated, unless it failed.
 pub record LeavesCell {State Cell : Type 0} (m : Meaning State Cell) (code : List ℕ)
     (expressions : List (List ℕ × List ℕ)) (state : State) (course : Course State) (after : State) : Type 0 where
   pub outputs : List Output
@@ -175,7 +180,7 @@ pub record LeavesCell {State Cell : Type 0} (m : Meaning State Cell) (code : Lis
   pub left : LeavesExpressions m expressions outcome at after
 
 -- What a request leaves that wasn't answered for want of memory: a state and an execution count. Only a cell changes
--- them. It has the arguments of what a request is answered, but for two in place of the answer.
+-- them. The arguments are those of `Answers`, with this state and count in place of the answer.
 abbrev pub Leaves : {State Cell : Type 0} → Meaning State Cell → Does → State → ℕ → Course State → State → ℕ
     → Type 0
 Leaves m (Says publication reply order) state count course after left = (after ≡ state) × (left ≡ count)

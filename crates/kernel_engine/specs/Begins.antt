@@ -12,8 +12,8 @@ use Rattle.kernel_engine.specs.Opens.{Opens}
 use Rattle.kernel_engine.specs.World.{World}
 
 module _ {I P S W Cell : Type 0} (world : World I P S W Cell) where
-  -- The idle that was owed is published, the block of a request is open, and the request was answered in it, or memory
-  -- was refused meanwhile.
+  -- What was owed is published, and the block of a request is open. In it the request was answered, or memory was
+  -- refused meanwhile.
   pub record Begins (may : Type 0) (asked : Asked) (old : Parts I P S W) (begun : Begun) (new : Parts I P S W)
       : Type 0 where
     pub few : old.publishing.next ≤ 2 ^ 62

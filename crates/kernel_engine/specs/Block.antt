@@ -28,7 +28,7 @@ pub record Sealing : Type 0 where
 abbrev pub empty_object : List ℕ
 empty_object = codes "{}"
 
--- the message of this number and type that says this, sealed behind a prefix
+-- the message of this number and type with this body, sealed after a prefix
 unfoldable pub message : Sealing → Heading → List (List ℕ) → ℕ → List ℕ → Body → Message
 message sealing heading prefix number msg_type body =
     sealed sealing.key prefix (record {
@@ -39,7 +39,7 @@ message sealing heading prefix number msg_type body =
       buffers = body.buffers;
     })
 
--- a publication, as a message behind its topic
+-- a publication as a message, whose prefix is the publication's topic
 abbrev pub published : Sealing → Heading → ℕ → Publication → Message
 published sealing heading number publication =
     message sealing heading (topic publication ∷ []) number (publication_type publication)
@@ -51,15 +51,15 @@ published_all sealing heading number [] = []
 published_all sealing heading number (publication ∷ publications) =
     published sealing heading number publication ∷ published_all sealing heading (number + 1) publications
 
--- the message that the kernel is busy, with the first number of the block
+-- the message that says that the kernel is busy, with the first number of the block
 abbrev pub busy : Sealing → Heading → ℕ → Message
 busy sealing heading number = published sealing heading number (Status Busy)
 
--- the message that the kernel is idle, with the second number of the block
+-- the message that says that the kernel is idle, with the second number of the block
 abbrev pub idle : Sealing → Heading → ℕ → Message
 idle sealing heading number = published sealing heading (number + 1) (Status Idle)
 
--- a block without its idle: busy, and the publications with the numbers behind idle's
+-- a block without its idle: busy, and the publications, whose numbers follow that of idle
 abbrev pub opened : Sealing → Heading → ℕ → List Publication → List Message
 opened sealing heading number publications =
     busy sealing heading number ∷ published_all sealing heading (number + 2) publications
@@ -69,18 +69,18 @@ abbrev pub block : Sealing → Heading → ℕ → List Publication → List Mes
 block sealing heading number publications =
     opened sealing heading number publications ++ idle sealing heading number ∷ []
 
--- the type of the reply to a type of message, for those that have one
+-- the type of the reply to a type of message; if it has no reply, the empty text
 abbrev pub reply_name : List ℕ → List ℕ
 reply_name msg_type = unwrap_or (reply_type_of msg_type) []
 
--- a reply to a message of this type, behind the identities of who sent it; it has the arguments of a message, and the
--- reply in place of its content
+-- A reply to a message of this type, if there is one, sealed after the identities of whoever sent that message. It has
+-- the arguments of `message`, with the reply in place of the body.
 abbrev pub reply_message : Sealing → Heading → List (List ℕ) → ℕ → List ℕ → Option Reply → Option Message
 reply_message sealing heading identities number msg_type None = None
 reply_message sealing heading identities number msg_type (Some reply) =
     Some (message sealing heading identities number (reply_name msg_type)
     (record { content = compact_text (reply_data reply); buffers = [] }))
 
--- the first message that is published: the kernel starts, and no request is its parent
+-- the first message that is published: it says that the kernel starts, and no request is its parent
 abbrev pub starting : Sealing → List ℕ → Message
 starting sealing date = published sealing (record { date = date; parent = empty_object }) 1 (Status Starting)

@@ -1,4 +1,4 @@
--- What each request comes to, one row a request ('Messaging in Jupyter' 5.3, "Messages on the shell (ROUTER/DEALER)
+-- What each request comes to, in one row for each ('Messaging in Jupyter' 5.3, "Messages on the shell (ROUTER/DEALER)
 -- channel" and "Messages on the control (ROUTER/DEALER) channel").
 use Rattle.std.specs.Prelude.{◌≡◌, ◌⊎◌, ℕ, List, Bool, true, false, if◌then◌else◌, Option, Some, None, Result, Ok, Err}
 use Rattle.jmsg_envelope.specs.declared.envelope.Envelope.{Envelope}
@@ -22,20 +22,20 @@ use Rattle.kernel_engine.specs.declared.does.Order.TheVariants.{GoOn, Interrupt,
 use Rattle.kernel_engine.specs.declared.side.Side.{Side}
 use Rattle.kernel_engine.specs.declared.side.Side.TheVariants.{Shell, Control}
 
--- this is replied, and nothing else is done
+-- what a request comes to that is only replied to
 abbrev pub replies : Reply → Does
 replies reply = Says None (Some reply) GoOn
 
--- this is published, and nothing else is done
+-- what a request comes to by which only something is published
 abbrev pub publishes : Publication → Does
 publishes publication = Says (Some publication) None GoOn
 
--- nothing is done
+-- what a message comes to by which nothing is done
 abbrev pub nothing : Does
 nothing = Says None None GoOn
 
--- what an interruption asked for on a channel makes the kernel do: on shell the cell that was to be interrupted is done
--- by then
+-- What the kernel is to do if an interruption is asked for on a channel. On shell that is nothing, since the cell that
+-- was to be interrupted is done by then.
 abbrev pub interrupts : Side → Order
 interrupts Shell = GoOn
 interrupts Control = Interrupt
@@ -69,16 +69,17 @@ is_heard side Nowhere = false
 abbrev pub has_meaning : Side → MessageType → Bool
 has_meaning side kind = is_heard side (row_of kind).heard
 
--- What a message of a known type asks on a channel, by its content. One without a meaning there isn't read.
+-- What a message of a known type asks on a channel, by its content. If the type has no meaning there, the content isn't
+-- read.
 abbrev pub asked_by : Side → MessageType → List ℕ → Result Request Refusal
 asked_by side kind content = if has_meaning side kind then known_request kind content else Ok asks.Unknown
 
--- What a message of a type asks on a channel, by its content. One of an unknown type isn't read.
+-- What a message of a type asks on a channel, by its content. If the type is unknown, the content isn't read.
 abbrev pub asked_of : Side → Option MessageType → List ℕ → Result Request Refusal
 asked_of side None content = Ok asks.Unknown
 asked_of side (Some kind) content = asked_by side kind content
 
--- what a message of a type comes to whose content is refused
+-- what a message comes to whose content is refused, by its type
 abbrev pub refused : Option MessageType → Refusal → Does
 refused None refusal = nothing
 refused (Some kind) refusal = Refuses kind refusal_name (refusal_value refusal)
@@ -97,7 +98,7 @@ comes_of side msg_type content =
 abbrev pub message_comes : Side → Envelope → Does
 message_comes side request = comes_of side request.msg_type request.content
 
--- whether nothing of what a message comes to is published: a silent cell
+-- whether nothing is published of what a message comes to, which is so of a silent cell alone
 abbrev pub is_silent : Does → Bool
 is_silent (Says publication reply order) = false
 is_silent (Looks look) = false

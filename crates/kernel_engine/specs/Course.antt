@@ -10,8 +10,8 @@ use Rattle.interp_core.specs.declared.answer.Stepped.{Stepped}
 use Rattle.interp_core.specs.declared.fault.InterpFault.{InterpFault}
 use Rattle.interp_core.specs.declared.fault.InterpFault.TheVariants.{Interrupted, OutOfMemory}
 
--- How a course ends: as the cell itself does, by an interruption where one more step was to run, or where the
--- interpreter found no memory, with the state that it then left.
+-- How a course ends: as the cell itself does, by an interruption before a further step, or by a step that found no
+-- memory and left this state.
 pub data Ending (State : Type 0) : Type 0 where
   own : Ending State
   interrupted : Ending State
@@ -36,11 +36,11 @@ IsOutcome (Failed fault) outcome = outcome ≡ Err fault
 abbrev pub outputs_of : List Stepped → List Output
 outputs_of steps = flat_map (λ step. step.outputs) steps
 
--- Each definition from here on says of a run: by which language, what it begins with, and what it comes to, which is
--- what was written, what came of it and the state then. So they have one argument for each of these.
+-- Each definition from here on speaks of a run. It says by which language, from what it begins, and what it comes to.
+-- That is what was written, what came of the cell, and the state then. So they have one argument for each of these.
 module _ {State Cell : Type 0} where
-  -- steps run one after the other, each of which leaves more to run: from a state and a cell to a state and what is
-  -- left of the cell
+  -- Steps run one after the other, and after each there is more to run. They lead from a state and a cell to a state
+  -- and what is left of the cell.
   abbrev pub Goes : Meaning State Cell → State → Cell → List Stepped → State → Cell → Type 0
   Goes m state cell [] after left = (after ≡ state) × (left ≡ cell)
   Goes m state cell (step ∷ steps) after left =
@@ -64,7 +64,7 @@ module _ {State Cell : Type 0} where
     pub outputs_are : outputs ≡ step.outputs
     pub outcome_is : IsOutcome step.next outcome
 
-  -- one more step was to run, and the cell was interrupted before it
+  -- a further step was due, and the cell was interrupted before it
   pub record IsInterrupted (m : Meaning State Cell) (state : State) (cell : Cell) (outputs : List Output)
       (outcome : Outcome) (after : State) : Type 0 where
     pub more : 0 < m.steps cell
@@ -72,7 +72,7 @@ module _ {State Cell : Type 0} where
     pub outcome_is : outcome ≡ Err Interrupted
     pub same : after ≡ state
 
-  -- one more step was to run, and it found no memory
+  -- a further step was due, and it found no memory
   pub record IsBrokenOff (m : Meaning State Cell) (state : State) (cell : Cell) (outputs : List Output)
       (outcome : Outcome) (after : State) : Type 0 where
     pub more : 0 < m.steps cell
@@ -80,8 +80,8 @@ module _ {State Cell : Type 0} where
     pub outcome_is : outcome ≡ Err OutOfMemory
     pub breaks_off : m.breaks_off state cell after
 
-  -- how a course ends from a state and a cell on, with so many steps more that ran: what is still written, what came
-  -- of the cell, and the state then
+  -- How a course ends, from a state and a cell on, in which so many steps still run. It says what is still written,
+  -- what came of the cell, and the state then.
   abbrev pub Ends : Meaning State Cell → Ending State → ℕ → State → Cell → List Output → Outcome → State → Type 0
   Ends m own count state cell outputs outcome after =
       ((count ≡ 0) × HasNoStep m state cell outputs outcome after)
@@ -121,7 +121,7 @@ module _ {State Cell : Type 0} where
     pub begins : m.begins state code (Ok cell) at
     pub runs : CellRuns m at cell course outputs outcome after
 
--- no memory was found to read the text as a cell: the state stays
+-- no memory was found to read the text as a cell, and the state stays as it was
 pub record IsUnread {State : Type 0} (state : State) (course : Course State) (outputs : List Output)
     (outcome : Outcome) (after : State) : Type 0 where
   pub course_is : course ≡ record { steps = 0; ending = memory state }
@@ -136,7 +136,7 @@ TextRuns m state code course outputs outcome after =
     IsNoCell m state code course outputs outcome after
     ⊎ (IsUnread state course outputs outcome after ⊎ Begins m state code course outputs outcome after)
 
--- A course may end so: by an interruption only where one may come.
+-- A course may end so. It may end by an interruption only if one may come.
 abbrev pub MayEnd : {State : Type 0} → Type 0 → Ending State → Type 0
 MayEnd may own = ⊤
 MayEnd may interrupted = may

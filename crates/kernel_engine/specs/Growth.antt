@@ -21,8 +21,8 @@ sealing_of stamp publishing = record {
   id = stamp.id_text (stamp.meaning publishing.stamp);
 }
 
--- These publications were published under a heading, with the next numbers, of which none is past 2^63 where none
--- before was; nothing else changed, and the sink is the same one.
+-- These publications were published under a heading, with the next numbers. Nothing else changed, and the sink is the
+-- same one. If no number past 2^63 was given before, none is given now.
 pub record Puts {P S W : Type 0} (sink : Sink P (Event W))
     (stamp : Stamping S) (heading : Heading)
     (old new : Publishing P S) (publications : List Publication) : Type 0 where
@@ -32,7 +32,7 @@ pub record Puts {P S W : Type 0} (sink : Sink P (Event W))
   pub same : sink.is_same old.sink new.sink
   pub few : old.next ≤ 2 ^ 63 + 1 → new.next ≤ 2 ^ 63 + 1
 
--- the publications that are published, of a request that is silent or not: none where it is
+-- the publications of a request that are published: none if it is silent, and else all
 abbrev pub unless_silent : Bool → List Publication → List Publication
 unless_silent true publications = []
 unless_silent false publications = publications

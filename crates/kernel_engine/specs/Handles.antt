@@ -1,5 +1,5 @@
--- What an engine does with one request: what is published of it, what is owed, what it is replied, and what the engine
--- is then.
+-- What an engine does with one request. This tells what is published of it, what is owed, what is replied, and what the
+-- engine is then.
 use Rattle.std.specs.Prelude.{◌≡◌, ◌≢◌, ◌⊎◌, ℕ, ◌+◌, ◌<◌, ◌≤◌, ◌^◌, List, [], ◌∷◌, ◌++◌, map, true, false}
 use Rattle.std.specs.Prelude.{Option, Some, None}
 use Rattle.iopub_event.specs.declared.event.Event.{Event}
@@ -26,7 +26,7 @@ use Rattle.kernel_engine.specs.Runs.{MayBeCut}
 use Rattle.kernel_engine.specs.WellBlocked.{Block, heading_of, idle_of, messages_of, past}
 use Rattle.kernel_engine.specs.World.{World}
 
--- an idle that is owed, as it is published
+-- what is published of an idle that may be owed: the idle if one is, and else nothing
 abbrev pub owed_items : {W : Type 0} → Option (Event W) → List (Option (Event W))
 owed_items None = []
 owed_items (Some owed) = Some owed ∷ []
@@ -41,20 +41,20 @@ answer_with handled reply parts = record {
 }
 
 module _ {I P S W : Type 0} (sink : Sink P (Event W)) where
-  -- only the sink was asked, which refused: its list is as it was
+  -- nothing changed but the sink, which was asked and refused: its list is as it was
   pub record AsksInVain (old new : Parts I P S W) : Type 0 where
     pub items : sink.items new.publishing.sink ≡ sink.items old.publishing.sink
     pub rest : new ≡ record old { publishing = record old.publishing { sink = new.publishing.sink } }
     pub same : sink.is_same old.publishing.sink new.publishing.sink
 
-  -- an idle that was owed is published, and none is owed then; if none was owed nothing changes
+  -- If an idle was owed it is published, and none is owed then. If none was owed nothing changes.
   pub record Pays (old new : Parts I P S W) : Type 0 where
     pub items : sink.items new.publishing.sink ≡ sink.items old.publishing.sink ++ owed_items old.owed
     pub rest : new ≡ record old { publishing = record old.publishing { sink = new.publishing.sink }; owed = None }
     pub same : sink.is_same old.publishing.sink new.publishing.sink
     pub settled : old.owed ≡ None → new ≡ old
 
-  -- an idle stays owed, since the sink refused it
+  -- the idle that is owed stays owed, since the sink refused it
   pub record PaysNot (old new : Parts I P S W) : Type 0 where
     pub owes : old.owed ≢ None
     pub refused : sink.may_refuse old.publishing.sink
@@ -77,8 +77,8 @@ module _ {I P S W : Type 0} (sink : Sink P (Event W)) where
     pub same : sink.is_same old.publishing.sink new.publishing.sink
 
 module _ {I P S W Cell : Type 0} (world : World I P S W Cell) where
-  -- What a request leaves of an engine for which memory was refused: nothing of it was done, or a front part of it by
-  -- a course, of which these publications were published.
+  -- What a request left of an engine for which memory was refused. Either nothing of the request was done. Or some of
+  -- it was, by a course, and these publications are a beginning of what is published of that.
   abbrev pub IsLeft : Type 0 → Does → Parts I P S W → Parts I P S W → List Publication → Type 0
   IsLeft may does old new publications =
       ((new.interp ≡ old.interp) × (new.count ≡ old.count) × (publications ≡ []))
@@ -88,7 +88,8 @@ module _ {I P S W Cell : Type 0} (world : World I P S W Cell) where
       × Leaves world.language does old.interp old.count course new.interp
       new.count × MayBeCut may course.ending whole behind)
 
-  -- A request was answered by a course: all that is published of it was, and its reply was made with the number behind.
+  -- A request was answered by a course. All that is published of it was, and its reply was made with the number that
+  -- followed.
   pub record AnswersInBlock (may : Type 0) (heading : Heading) (identities : List (List ℕ)) (msg_type : List ℕ)
       (does : Does) (old : Parts I P S W) (handled : Response) (new : Parts I P S W) : Type 0 where
     pub course : Course I
@@ -110,7 +111,8 @@ module _ {I P S W Cell : Type 0} (world : World I P S W Cell) where
     }
     pub few : old.publishing.next ≤ 2 ^ 63 + 1 → new.publishing.next ≤ 2 ^ 63 + 1
 
-  -- Memory was refused: a beginning of what is published of a request was, and this is what is left.
+  -- Memory was refused. A beginning of what is published of a request was published, and the rest of the engine is as
+  -- `IsLeft` says.
   pub record AnswersNot (may : Type 0) (heading : Heading) (does : Does) (old new : Parts I P S W)
       : Type 0 where
     pub publications : List Publication
@@ -118,8 +120,8 @@ module _ {I P S W Cell : Type 0} (world : World I P S W Cell) where
     pub rest : new ≡ record old { interp = new.interp; count = new.count; publishing = new.publishing }
     pub left : IsLeft may does old new publications
 
-  -- What an engine adds to its sink by a block: the idle that was owed, and the block, whose own idle is owed where it
-  -- isn't closed.
+  -- What an engine adds to its sink by a block: the idle that was owed, and the block. If the block isn't closed, its
+  -- own idle is owed.
   pub record Adds (block : Block) (old new : Parts I P S W) : Type 0 where
     pub number : block.number ≡ old.publishing.next
     pub dated : world.stamp.is_date (world.stamp.meaning old.publishing.stamp) block.date ≡ true
@@ -134,8 +136,8 @@ module _ {I P S W Cell : Type 0} (world : World I P S W Cell) where
     pub meant : world.stamp.meaning new.publishing.stamp ≡ world.stamp.meaning old.publishing.stamp
     pub same : world.sink.is_same old.publishing.sink new.publishing.sink
 
-  -- A request was handled by a course: its block was added, it has its reply, and this is what the engine is to do. No
-  -- number past 2^63 was given.
+  -- A request was handled by a course. Its block was added and it has its reply. What the engine is then follows from
+  -- the request, the course and what the engine was. No number past 2^63 was given.
   pub record HandlesOk (may : Type 0) (request : Envelope) (old : Parts I P S W) (handled : Response)
       (new : Parts I P S W) : Type 0 where
     pub few : old.publishing.next ≤ 2 ^ 62
@@ -154,7 +156,7 @@ module _ {I P S W Cell : Type 0} (world : World I P S W Cell) where
     pub next : new.publishing.next ≡ past block + ids_of_reply reply
     pub last : new.publishing.next ≤ 2 ^ 63 + 1
 
-  -- Memory was refused, or the sink refused, before anything of a request was published. An idle that was owed is
+  -- Memory was refused, or the sink refused, before anything of a request was published. If an idle was owed it is
   -- published.
   pub record HandlesNot (old new : Parts I P S W) : Type 0 where
     pub few : old.publishing.next ≤ 2 ^ 62
@@ -166,8 +168,8 @@ module _ {I P S W Cell : Type 0} (world : World I P S W Cell) where
     pub meant : world.stamp.meaning new.publishing.stamp ≡ world.stamp.meaning old.publishing.stamp
     pub same : world.sink.is_same old.publishing.sink new.publishing.sink
 
-  -- Memory was refused, or the sink refused, while a request was done: a cut block was added, and this is what is left.
-  -- No number past 2^63 was given.
+  -- Memory was refused, or the sink refused, while a request was done. A cut block was added, and the engine is as
+  -- `IsLeft` says. No number past 2^63 was given.
   pub record HandlesCut (may : Type 0) (request : Envelope) (old new : Parts I P S W) : Type 0 where
     pub few : old.publishing.next ≤ 2 ^ 62
     pub block : Block
@@ -177,13 +179,13 @@ module _ {I P S W Cell : Type 0} (world : World I P S W Cell) where
     pub next : new.publishing.next ≡ past block
     pub last : new.publishing.next ≤ 2 ^ 63 + 1
 
-  -- An idle is owed, and the sink refused it again: the request comes back, and nothing changed.
+  -- An idle is owed, and the sink refused it again. The request comes back, and nothing else changed.
   pub record HandsBack (request back : Envelope) (old new : Parts I P S W) : Type 0 where
     pub few : old.publishing.next ≤ 2 ^ 62
     pub back_is : back ≡ request
     pub owes : PaysNot world.sink old new
 
-  -- what each refusal of a request says
+  -- what each fault says of a request that was refused
   abbrev pub HandlesErr : Type 0 → Envelope → Parts I P S W → EngineFault → Parts I P S W → Type 0
   HandlesErr may request old (OwedIdle back) new = HandsBack request back old new
   HandlesErr may request old Memory new = HandlesNot old new ⊎ HandlesCut may request old new

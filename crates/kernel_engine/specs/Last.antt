@@ -1,4 +1,4 @@
--- What an engine does with a request whose idle goes behind a word.
+-- What an engine does with a request whose idle has to come after all that a word tells.
 use Rattle.std.specs.Prelude.{◌≡◌, ◌⊎◌, ◌<◌, ◌^◌, List, true}
 use Rattle.iopub_event.specs.declared.event.Event.{Event}
 use Rattle.iopub_queue.specs.Entries.{Entry, StandsBehind}
@@ -16,37 +16,38 @@ use Rattle.kernel_engine.specs.WellBlocked.{Block, idle_of}
 use Rattle.kernel_engine.specs.World.{World}
 
 module _ {I P S W : Type 0} (publisher : P → queue.Publishing (Event W)) where
-  -- in the view of an engine's publisher its message is the last entry, and stands behind those of a word
+  -- The engine's publisher was told of a list of entries that ends with the message. All that the word tells stands
+  -- before that.
   abbrev pub IsBehind : Message → List (Entry (Event W)) → Parts I P S W → Parts I P S W → Type 0
   IsBehind message word old new = StandsBehind (publisher new.publishing.sink).told
       ((publisher old.publishing.sink).number, item_of message) word
 
-  -- the idle of a block is published, behind the entries of a word
+  -- the idle of a block is published after all that a word tells
   pub record ClosesBehind (sink : Sink P (Event W)) (idle : Message) (word : List (Entry (Event W)))
       (old new : Parts I P S W) : Type 0 where
     pub closes : Closes sink idle old new
     pub behind : IsBehind idle word old new
 
 module _ {I P S W Cell : Type 0} (world : World I P S W Cell) (publisher : P → queue.Publishing (Event W)) where
-  -- the idle of a block that was closed stands behind the entries of a word
+  -- if a block was closed, its idle was published after all that a word tells
   abbrev pub IdleIsBehind : List (Entry (Event W)) → Block → Parts I P S W → Parts I P S W → Type 0
   IdleIsBehind word block old new = block.closed ≡ true
       → IsBehind publisher (idle_of (sealing_of world.stamp old.publishing) block) word old new
 
-  -- a request was handled, its idle behind the entries of a word
+  -- a request was handled, and its idle was published after all that a word tells, if it was
   pub record HandlesLast (may : Type 0) (request : Envelope) (word : List (Entry (Event W))) (old : Parts I P S W)
       (handled : Response) (new : Parts I P S W) : Type 0 where
     pub handles : HandlesOk world may request old handled new
     pub behind : IdleIsBehind word handles.block old new
 
-  -- memory was refused, or the sink refused, while a request was done, and the idle of its cut block is behind the
-  -- entries of a word
+  -- Memory was refused, or the sink refused, while a request was done. If the idle of its cut block was published, then
+  -- after all that a word tells.
   pub record CutLast (may : Type 0) (request : Envelope) (word : List (Entry (Event W))) (old new : Parts I P S W)
       : Type 0 where
     pub cut : HandlesCut world may request old new
     pub behind : IdleIsBehind word cut.block old new
 
-  -- what each refusal of such a request says
+  -- what each fault says of such a request that was refused
   abbrev pub HandlesLastErr : Type 0 → Envelope → List (Entry (Event W)) → Parts I P S W → EngineFault → Parts I P S W
       → Type 0
   HandlesLastErr may request word old (OwedIdle back) new = HandsBack world request back old new

@@ -1,4 +1,4 @@
--- The ends of a block: it is opened by busy, with a new date, and its reply is made behind what it published.
+-- The ends of a block: it is opened by busy, with a new date, and its reply is made after what it published.
 use Rattle.std.specs.Prelude.{◌≡◌, ℕ, ◌+◌, List, [], ◌∷◌, ◌++◌, true, Option, Some, None}
 use Rattle.iopub_event.specs.declared.event.Event.{Event}
 use Rattle.iopub_queue.specs.Sink.{Sink}
@@ -10,14 +10,14 @@ use Rattle.kernel_engine.specs.Block.{Message, busy, idle, starting}
 use Rattle.kernel_engine.specs.Growth.{item_of, sealing_of}
 
 module _ {P S W : Type 0} (sink : Sink P (Event W)) (stamp : Stamping S) where
-  -- Nothing was published. A date may have been asked, which leaves the stamp what it means.
+  -- Nothing was published. The stamp may have been asked for a date, which changes nothing of what it means.
   pub record PublishesNone (old new : Publishing P S) : Type 0 where
     pub items : sink.items new.sink ≡ sink.items old.sink
     pub rest : new ≡ record old { sink = new.sink; stamp = new.stamp }
     pub meant : stamp.meaning new.stamp ≡ stamp.meaning old.stamp
     pub same : sink.is_same old.sink new.sink
 
-  -- A block was opened: busy was published with a date of the stamp and this parent header, and idle was made.
+  -- A block was opened. Busy was published with a date of the stamp and this parent header, and idle was made ready.
   pub record Opens (parent : List ℕ) (heading : Heading) (idling : Message) (old new : Publishing P S)
       : Type 0 where
     pub dated : stamp.is_date (stamp.meaning old.stamp) heading.date ≡ true

@@ -1,4 +1,4 @@
--- What an order says of the end of the kernel.
+-- What an order says of the kernel's end ('Messaging in Jupyter' 5.3, "Kernel shutdown" and "Kernel interrupt").
 use Rattle.std.specs.Prelude.{Bool, true, false, Option, Some, None}
 use Rattle.kernel_engine.specs.declared.does.Does.{Does}
 use Rattle.kernel_engine.specs.declared.does.Does.TheVariants.{Says, Looks, Runs, Refuses, Unread}
@@ -7,13 +7,13 @@ use Rattle.kernel_engine.specs.declared.does.Order.TheVariants.{GoOn, Interrupt,
 use Rattle.kernel_engine.specs.declared.handled.Handled.{Handled}
 use Rattle.kernel_engine.specs.declared.response.Response.{Response}
 
--- whether the kernel is to begin anew, where it is to end
+-- whether the kernel is to begin anew, if it is to end
 abbrev pub ends : Order → Option Bool
 ends GoOn = None
 ends Interrupt = None
 ends (End restart) = Some restart
 
--- what the kernel is to do behind a request that comes to this
+-- what the kernel is to do after a request, by what that comes to
 abbrev pub order_of : Does → Order
 order_of (Says publication reply order) = order
 order_of (Looks look) = GoOn
@@ -39,7 +39,7 @@ is_interrupt GoOn = false
 is_interrupt Interrupt = true
 is_interrupt (End restart) = false
 
--- what came of a request that has a response, its order told by marks
+-- what came of a request that has a response, with three marks in place of the order
 abbrev pub handled_of : Response → Handled
 handled_of response = record {
   reply = response.reply;

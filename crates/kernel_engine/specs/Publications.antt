@@ -8,7 +8,7 @@ use Rattle.interp_core.specs.declared.answer.Output.{Output}
 use Rattle.interp_core.specs.declared.answer.Output.TheVariants as writes
 use Rattle.jmsg_types.specs.declared.publication.Publication.{Publication}
 use Rattle.jmsg_types.specs.declared.publication.Publication.TheVariants.{ExecuteInput, Stream, ExecuteResult}
-use Rattle.jmsg_types.specs.declared.publication.Publication.TheVariants.{Display, Error}
+use Rattle.jmsg_types.specs.declared.publication.Publication.TheVariants.{Display, DisplayHtml, Error}
 use Rattle.kernel_engine.specs.declared.does.Does.{Does}
 use Rattle.kernel_engine.specs.declared.does.Does.TheVariants.{Says, Looks, Runs, Refuses, Unread}
 use Rattle.kernel_engine.specs.Course.{Course, Outcome, TextRuns}
@@ -18,15 +18,16 @@ abbrev pub publication_of : Output → Publication
 publication_of (writes.Stdout text) = Stream false text
 publication_of (writes.Stderr text) = Stream true text
 publication_of (writes.Display text shown) = Display text shown
+publication_of (writes.DisplayHtml text html) = DisplayHtml text html
 
--- what came of a cell, as it is published: its last value, nothing where it has none, or the error ("Execution
--- results", "Execution errors")
+-- What is published of how a cell ended: its last value if it has one, or the error if it failed ("Execution results",
+-- "Execution errors").
 abbrev pub last_of : ℕ → Outcome → List Publication
 last_of count (Ok None) = []
 last_of count (Ok (Some text)) = ExecuteResult text count ∷ []
 last_of count (Err fault) = Error (fault_name fault) (fault_value fault) ∷ []
 
--- the execution count behind a cell: it grows where the cell is stored
+-- the execution count after a cell: one more if the cell is stored in the history, and else the same
 abbrev pub grown : Bool → ℕ → ℕ
 grown store_history count = if store_history then count + 1 else count
 
@@ -39,14 +40,14 @@ pub record PublishesCell {State Cell : Type 0} (m : Meaning State Cell) (code : 
   pub runs : TextRuns m state code course outputs outcome after
   pub all : publications ≡ ExecuteInput code count ∷ (map publication_of outputs ++ last_of count outcome)
 
--- nothing of a silent cell is published. It has the arguments of the definition above, and whether the cell is silent.
+-- Nothing of a silent cell is published. The arguments are those of `PublishesCell`, and whether the cell is silent.
 abbrev pub PublishesUnless : {State Cell : Type 0} → Bool → Meaning State Cell → List ℕ → ℕ → State → Course State
     → List Publication → Type 0
 PublishesUnless true m code count state course publications = publications ≡ []
 PublishesUnless false m code count state course publications = PublishesCell m code count state course publications
 
--- What is published of a request by a course, by what it comes to. The arguments are the language, the row, the state
--- and the execution count before, and the course, as of all that is said of a request.
+-- What is published of a request by a course, by what it comes to. The arguments are the language, what the request
+-- comes to, the state and the execution count before, and the course. All that is said of a request begins with these.
 abbrev pub Publishes : {State Cell : Type 0} → Meaning State Cell → Does → State → ℕ → Course State
     → List Publication → Type 0
 Publishes m (Says publication reply order) state count course publications =

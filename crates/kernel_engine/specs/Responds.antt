@@ -1,4 +1,4 @@
--- A request that is answered and published, by how far its publications got.
+-- A request that is answered and published, by how far its publications came.
 use Rattle.std.specs.Prelude.{◌≡◌, ◌⊎◌, ℕ, List, [], ◌++◌, Bool, Some}
 use Rattle.interp_core.specs.Interpreter.{Meaning}
 use Rattle.jmsg_types.specs.declared.publication.Publication.{Publication}
@@ -21,7 +21,7 @@ pub record ExecutedWhole {State Cell : Type 0} (m : Meaning State Cell) (may : T
   pub ending : MayEnd may course.ending
   pub grew : Grew publications
 
--- A cell was run by a course, and a beginning of what is published of it was.
+-- A cell was run by a course, and a beginning of what is published of it was published.
 pub record ExecutedCut {State Cell : Type 0} (m : Meaning State Cell) (may : Type 0) (silent : Bool) (code : List ℕ)
     (expressions : List (List ℕ × List ℕ)) (count : ℕ) (state : State) (after : State)
     (Grew : List Publication → Type 0) : Type 0 where
@@ -55,7 +55,8 @@ pub record RespondsWhole {State Cell : Type 0} (m : Meaning State Cell) (does : 
   pub ending : MayEnd may course.ending
   pub grew : Grew publications
 
--- Memory was refused: a beginning of what is published of it was, and this is what is left.
+-- Memory was refused. A beginning of what is published of the request was published, and this state and this count are
+-- left.
 pub record RespondsPart {State Cell : Type 0} (m : Meaning State Cell) (does : Does) (may : Type 0)
     (state : State) (count : ℕ) (after : State) (left : ℕ) (Grew : List Publication → Type 0) : Type 0 where
   pub course : Course State
@@ -68,14 +69,14 @@ pub record RespondsPart {State Cell : Type 0} (m : Meaning State Cell) (does : D
   pub ending : MayBeCut may course.ending publications rest
   pub grew : Grew front
 
--- Memory was refused before anything of it was done.
+-- Memory was refused before anything of the request was done.
 pub record RespondsNot {State : Type 0} (state : State) (count : ℕ) (after : State) (left : ℕ)
     (Grew : List Publication → Type 0) : Type 0 where
   pub same : after ≡ state
   pub counted : left ≡ count
   pub grew : Grew []
 
--- Memory was refused. It has the arguments of the two definitions above.
+-- Memory was refused while a request was done, or before. The arguments are those of the two definitions above.
 abbrev pub RespondsCut : {State Cell : Type 0} → Meaning State Cell → Does → Type 0 → State → ℕ
     → State → ℕ → (List Publication → Type 0) → Type 0
 RespondsCut m does may state count after left Grew =

@@ -1,4 +1,4 @@
--- A cell that runs and is published, by how far its publications got.
+-- A cell that runs and is published, by how far its publications came.
 use Rattle.std.specs.Prelude.{◌≡◌, ◌≢◌, ◌⊎◌, ⊤, ℕ, List, [], ◌∷◌, ◌++◌, map, Bool, Option, Some, None, Ok, Err}
 use Rattle.interp_core.specs.Interpreter.{Meaning}
 use Rattle.interp_core.specs.declared.answer.Output.{Output}
@@ -10,7 +10,7 @@ use Rattle.kernel_engine.specs.Course.{Course, Ending, own, interrupted, memory,
 use Rattle.kernel_engine.specs.Publications.{publication_of, last_of}
 use Rattle.kernel_engine.specs.Growth.{InFront, unless_silent}
 
--- It ran by a course, which ends by an interruption only where one may come, and all that it wrote was published.
+-- A cell ran by a course, and all that it wrote was published. The course ends by an interruption only if one may come.
 pub record RunsWhole {State : Type 0} (Runs : Course State → List Output → Outcome → State → Type 0) (may : Type 0)
     (outcome : Outcome) (after : State) (Grew : List Publication → Type 0) (silent : Bool) : Type 0 where
   pub course : Course State
@@ -19,7 +19,7 @@ pub record RunsWhole {State : Type 0} (Runs : Course State → List Output → O
   pub ending : MayEnd may course.ending
   pub grew : Grew (unless_silent silent (map publication_of outputs))
 
--- It ran by a course, and a beginning of what it wrote was published.
+-- A cell ran by a course, and a beginning of what it wrote was published.
 pub record RunsCut {State : Type 0} (Runs : Course State → List Output → Outcome → State → Type 0) (after : State)
     (Grew : List Publication → Type 0) (silent : Bool) : Type 0 where
   pub course : Course State
@@ -35,8 +35,8 @@ pub record Underway {State Cell : Type 0} (m : Meaning State Cell) (state : Stat
   pub goes : Goes m state cell steps at left
   pub grew : Grew (unless_silent silent (map publication_of (outputs_of steps)))
 
--- A course whose publications were cut may end so: by an interruption only where one may come, or where the error that
--- tells of it wasn't published. Of all publications the rest wasn't.
+-- A course may end so if its publications were cut and `rest` wasn't published. It ends by an interruption only if one
+-- may come, or if the error that tells of it wasn't published.
 abbrev pub MayBeCut : {State : Type 0} → Type 0 → Ending State → List Publication → List Publication → Type 0
 MayBeCut may own publications rest = ⊤
 MayBeCut may interrupted publications rest = may ⊎ ((rest ≢ []) ⊎ (publications ≡ []))
@@ -52,7 +52,7 @@ abbrev pub cell_publications : List ℕ → ℕ → List Output → Outcome → 
 cell_publications code count outputs outcome =
     ExecuteInput code count ∷ (map publication_of outputs ++ last_of count outcome)
 
--- It ran by a course, and all that is published of it was.
+-- A cell ran by a course, and all that is published of it was published.
 pub record TellsWhole {State : Type 0} (Runs : Course State → List Output → Outcome → State → Type 0) (may : Type 0)
     (code : List ℕ) (count : ℕ) (failure : Option InterpFault) (after : State) (Grew : List Publication → Type 0)
     (silent : Bool) : Type 0 where
@@ -64,7 +64,7 @@ pub record TellsWhole {State : Type 0} (Runs : Course State → List Output → 
   pub failure_is : failure ≡ failure_of outcome
   pub grew : Grew (unless_silent silent (cell_publications code count outputs outcome))
 
--- It ran by a course, and a beginning of what is published of it was.
+-- A cell ran by a course, and a beginning of what is published of it was published.
 pub record TellsCut {State : Type 0} (Runs : Course State → List Output → Outcome → State → Type 0) (may : Type 0)
     (code : List ℕ) (count : ℕ) (after : State) (Grew : List Publication → Type 0) (silent : Bool) : Type 0 where
   pub course : Course State

@@ -1,4 +1,4 @@
--- How an engine begins and ends.
+-- How an engine begins ('Messaging in Jupyter' 5.3, "Kernel status": the state `starting`).
 use Rattle.std.specs.Prelude.{◌≡◌, ◌≢◌, ◌⊎◌, []}
 use Rattle.iopub_event.specs.declared.event.Event.{Event}
 use Rattle.iopub_queue.specs.Sink.{Sink}
@@ -11,14 +11,14 @@ use Rattle.kernel_engine.specs.Opens.{PublishesNone, Starts}
 
 module _ {I P S W : Type 0} (sink : Sink P (Event W))
     (stamp : Stamping S) where
-  -- parts of an engine of the shell that gave no id say that the kernel starts
+  -- an engine of shell that has given no id says that the kernel starts; these are its parts
   pub record StartsFirst (old new : Parts I P S W) : Type 0 where
     pub shell : old.side ≡ Shell
     pub first : old.publishing.next ≡ 1
     pub starts : Starts sink stamp old.publishing new.publishing
     pub rest : new ≡ record old { publishing = new.publishing }
 
-  -- any others do nothing
+  -- any other engine does nothing
   pub record StartsLater (old new : Parts I P S W) : Type 0 where
     pub other : (old.side ≡ Control) ⊎ (old.publishing.next ≢ 1)
     pub same : new ≡ old
@@ -31,14 +31,14 @@ module _ {I P S W : Type 0} (sink : Sink P (Event W))
     pub none : PublishesNone sink stamp old.publishing new.publishing
     pub rest : new ≡ record old { publishing = new.publishing }
 
-  -- an engine of the shell that has published nothing says that the kernel starts
+  -- an engine of shell that has published nothing says that the kernel starts
   pub record SaysStarting (old new : Parts I P S W) : Type 0 where
     pub shell : old.side ≡ Shell
     pub first : sink.items old.publishing.sink ≡ []
     pub starts : Starts sink stamp old.publishing new.publishing
     pub rest : new ≡ record old { publishing = new.publishing }
 
-  -- any other does nothing
+  -- any other engine does nothing
   pub record SaysNothing (old new : Parts I P S W) : Type 0 where
     pub other : (old.side ≡ Control) ⊎ (sink.items old.publishing.sink ≢ [])
     pub same : new ≡ old

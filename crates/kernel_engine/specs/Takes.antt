@@ -1,6 +1,6 @@
--- What an engine makes of the frames of one message: they are opened as a request under its key, it is read, and
--- handled.
-use Rattle.std.specs.Prelude.{◌≡◌, ⊤, ℕ, List}
+-- What an engine makes of the frames of one message ('Messaging in Jupyter' 5.3, "The Wire Protocol"). They are opened
+-- as a request under its key, and the request is read and handled.
+use Rattle.std.specs.Prelude.{◌≡◌, ◌⊎◌, ◌<◌, ◌≤◌, ◌^◌, ⊤, ℕ, List}
 use Rattle.jmsg_envelope.specs.Envelope.{IsNoEnvelope, Opened}
 use Rattle.jmsg_envelope.specs.declared.envelope.Envelope.{Envelope}
 use Rattle.jmsg_envelope.specs.declared.fault.EnvelopeFault.{EnvelopeFault}
@@ -9,6 +9,8 @@ use Rattle.kernel_engine.specs.declared.asked.Done.{Done}
 use Rattle.kernel_engine.specs.declared.asked.Done.TheVariants.{Ignored, Lost, Handled, Refused}
 use Rattle.kernel_engine.specs.declared.asked.Unread.{Unread}
 use Rattle.kernel_engine.specs.declared.asked.Unread.TheVariants.{NoRequest, NoMemory}
+use Rattle.kernel_engine.specs.declared.fault.EngineFault.{EngineFault}
+use Rattle.kernel_engine.specs.declared.fault.EngineFault.TheVariants.{Worn}
 use Rattle.kernel_engine.specs.declared.parts.Parts.{Parts}
 use Rattle.kernel_engine.specs.declared.side.Side.{Side}
 use Rattle.kernel_engine.specs.Block.{Message}
@@ -30,9 +32,22 @@ abbrev pub Misses : List ℕ → Message → Unread → Type 0
 Misses key frames NoRequest = IsNoRequest key frames
 Misses key frames NoMemory = ⊤
 
+-- All ids were given. If a message isn't read for want of memory that is its fault then, and nothing changes.
+pub record IsWornOut {I P S W : Type 0} (old : Parts I P S W) (fault : EngineFault) (new : Parts I P S W) : Type 0 where
+  pub many : 2 ^ 62 < old.publishing.next
+  pub fault_is : fault ≡ Worn
+  pub same : new ≡ old
+
+-- What comes of a message that isn't read. If it is no request it is ignored. If memory was wanting it is lost, or it
+-- is refused if all ids were given.
+abbrev pub GoesUnread : {I P S W : Type 0} → Parts I P S W → Unread → Done → Type 0
+GoesUnread engine NoRequest done = done ≡ Ignored
+GoesUnread engine NoMemory done = ((engine.publishing.next ≤ 2 ^ 62) × (done ≡ Lost))
+    ⊎ ((2 ^ 62 < engine.publishing.next) × (done ≡ Refused Worn))
+
 module _ {I P S W Cell : Type 0} (world : World I P S W Cell) (may : Type 0) where
-  -- A request that was read was handled, or refused. It is handled as what it was read to come to, and one that no
-  -- memory was left to read isn't handled.
+  -- A request that was opened was handled or refused. If it was handled, it was read, and what was done is what it
+  -- comes to.
   abbrev pub Finishes : Asked → Parts I P S W → Done → Parts I P S W → Type 0
   Finishes asked old Ignored new = ⊥
   Finishes asked old Lost new = ⊥
@@ -40,12 +55,13 @@ module _ {I P S W Cell : Type 0} (world : World I P S W Cell) (may : Type 0) whe
       (asked.does ≡ message_comes old.side asked.request) × HandlesOk world may asked.request old handled new
   Finishes asked old (Refused fault) new = HandlesErr world may asked.request old fault new
 
-  -- What an engine makes of a message: where it is no request, or isn't read for want of memory, nothing changes; any
-  -- other is handled, or refused.
+  -- What an engine makes of a message. If it is no request, or isn't read for want of memory, nothing changes. Any
+  -- other is handled or refused. A message that isn't read for want of memory is refused, too, if all ids were given.
   abbrev pub Takes : Message → Parts I P S W → Done → Parts I P S W → Type 0
   Takes frames old Ignored new = IsNoRequest old.publishing.signer frames × (new ≡ old)
-  Takes frames old Lost new = new ≡ old
+  Takes frames old Lost new = (old.publishing.next ≤ 2 ^ 62) × (new ≡ old)
   Takes frames old (Handled handled) new =
       (request : Envelope) × Opened old.publishing.signer frames request × HandlesOk world may request old handled new
   Takes frames old (Refused fault) new =
-      (request : Envelope) × Opened old.publishing.signer frames request × HandlesErr world may request old fault new
+      ((request : Envelope) × Opened old.publishing.signer frames request × HandlesErr world may request old fault new)
+      ⊎ IsWornOut old fault new

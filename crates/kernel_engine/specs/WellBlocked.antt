@@ -1,5 +1,5 @@
--- What an engine published, all of it ('Messaging in Jupyter' 5.3, "Kernel status"): that the kernel starts, and then
--- one block behind the other.
+-- All that an engine published ('Messaging in Jupyter' 5.3, "Kernel status"): that the kernel starts, and then one
+-- block after the other.
 use Rattle.std.specs.Prelude.{◌≡◌, ⊤, ℕ, ◌+◌, ◌≤◌, ◌^◌, List, [], ◌∷◌, ◌++◌, length, map, Bool, true, false}
 use Rattle.std.specs.Prelude.{Option, Some, None, IfSome}
 use Rattle.interp_core.specs.Interpreter.{Meaning}
@@ -18,8 +18,8 @@ use Rattle.kernel_engine.specs.Growth.{item_of, sealing_of}
 use Rattle.kernel_engine.specs.Publications.{Publishes}
 use Rattle.kernel_engine.specs.World.{World}
 
--- A block that was published: the date and the parent header of its messages, its first number, what was published
--- between busy and idle, and whether idle was.
+-- A block that was published. It has the date and the parent header of its messages, and its first number. It also has
+-- what was published between busy and idle, and whether idle was.
 pub record Block : Type 0 where
   pub date : List ℕ
   pub parent : List ℕ
@@ -31,7 +31,7 @@ pub record Block : Type 0 where
 abbrev pub heading_of : Block → Heading
 heading_of block = record { date = block.date; parent = block.parent }
 
--- the number behind those of busy, idle and the publications of a block
+-- the number that follows those of a block: busy and idle have one each, and so has each publication
 abbrev pub past : Block → ℕ
 past block = block.number + 2 + length block.publications
 
@@ -39,7 +39,7 @@ past block = block.number + 2 + length block.publications
 abbrev pub idle_of : Sealing → Block → Message
 idle_of sealing block = idle sealing (heading_of block) block.number
 
--- a message where it was published
+-- a message if it was published, and else nothing
 abbrev pub where_published : Bool → Message → List Message
 where_published true message = message ∷ []
 where_published false message = []
@@ -49,18 +49,18 @@ abbrev pub messages_of : Sealing → Block → List Message
 messages_of sealing block = opened sealing (heading_of block) block.number block.publications
     ++ where_published block.closed (idle_of sealing block)
 
--- What was published: the date under which the kernel said that it starts, where it did, and the blocks, the latest
+-- What was published: the date under which the kernel said that it starts, if it said so, and the blocks, the latest
 -- first.
 pub record History : Type 0 where
   pub started : Option (List ℕ)
   pub blocks : List Block
 
--- that the kernel starts, where it said so
+-- the message that the kernel starts, if it was published
 abbrev pub front_of : Sealing → Option (List ℕ) → List Message
 front_of sealing None = []
 front_of sealing (Some date) = starting sealing date ∷ []
 
--- the messages of blocks, the latest first, behind those in front
+-- some messages, and after them those of blocks, the latest of which is listed first
 abbrev pub said_behind : Sealing → List Message → List Block → List Message
 said_behind sealing front [] = front
 said_behind sealing front (block ∷ earlier) = said_behind sealing front earlier ++ messages_of sealing block
@@ -69,7 +69,7 @@ said_behind sealing front (block ∷ earlier) = said_behind sealing front earlie
 abbrev pub said : Sealing → History → List Message
 said sealing history = said_behind sealing (front_of sealing history.started) history.blocks
 
--- the first number behind that of starting
+-- the first number of the blocks: 1, or 2 if the message that the kernel starts has the first
 abbrev pub first_number : Option (List ℕ) → ℕ
 first_number None = 1
 first_number (Some date) = 2
@@ -84,20 +84,20 @@ abbrev pub AreClosed : List Block → Type 0
 AreClosed [] = ⊤
 AreClosed (block ∷ earlier) = (block.closed ≡ true) × AreClosed earlier
 
--- the idle that is owed is that of the latest block, which is open; all others are closed
+-- If an idle is owed it is that of the latest block, which is open. All other blocks are closed.
 abbrev pub Owes : {W : Type 0} → Sealing → Option (Event W) → List Block → Type 0
 Owes sealing None blocks = AreClosed blocks
 Owes sealing (Some owed) [] = ⊥
 Owes sealing (Some owed) (block ∷ earlier) =
     (block.closed ≡ false) × (owed ≡ events.Message (idle_of sealing block)) × AreClosed earlier
 
--- that the kernel starts is said on shell alone, and with a date
+-- only the engine of shell says that the kernel starts, and with a date of the stamp
 abbrev pub Began : (List ℕ → Bool) → Side → Option (List ℕ) → Type 0
 Began is_date side None = ⊤
 Began is_date side (Some date) = (side ≡ Shell) × (is_date date ≡ true)
 
--- What stands in a block is a beginning of what is published of a message with the header that is its parent, on a
--- channel, in a state and by a course, all with one date.
+-- A block holds a beginning of what is published of a message on a channel, in some state and by some course. The
+-- block's parent is the header of that message, and its date is one of the stamp.
 pub record IsCut {State Cell : Type 0} (m : Meaning State Cell) (is_date : List ℕ → Bool) (side : Side) (block : Block)
     : Type 0 where
   pub request : Envelope
@@ -111,15 +111,15 @@ pub record IsCut {State Cell : Type 0} (m : Meaning State Cell) (is_date : List 
   pub publishes : Publishes m (message_comes side request) state count course whole
   pub front : whole ≡ block.publications ++ rest
 
--- so it is in each block
+-- each of the blocks holds such a beginning
 abbrev pub AreCuts : {State Cell : Type 0} → Meaning State Cell → (List ℕ → Bool) → Side → List Block → Type 0
 AreCuts m is_date side [] = ⊤
 AreCuts m is_date side (block ∷ earlier) = IsCut m is_date side block × AreCuts m is_date side earlier
 
--- What was published on a channel, all of it, is well blocked ('Messaging in Jupyter' 5.3, "Kernel status"): that the
--- kernel starts, where it said so, and then one block behind the other, each from busy to idle with a beginning of what
--- is published of a message with its parent header between the two, and with rising numbers up to the next one. The
--- last block is open exactly where its idle is owed.
+-- All that was published on a channel is well blocked ('Messaging in Jupyter' 5.3, "Kernel status"). First comes that
+-- the kernel starts, if it said so, and then one block after the other. Each goes from busy to idle, and holds a
+-- beginning of what is published of a message with its parent header. The numbers rise, up to the next one. The last
+-- block is open exactly if its idle is owed.
 pub record IsWellBlocked {State Cell W : Type 0} (m : Meaning State Cell) (is_date : List ℕ → Bool) (side : Side)
     (sealing : Sealing) (next : ℕ) (owed : Option (Event W)) (items : List (Option (Event W))) : Type 0 where
   pub history : History
@@ -129,8 +129,8 @@ pub record IsWellBlocked {State Cell W : Type 0} (m : Meaning State Cell) (is_da
   pub rise : Rise (first_number history.started) history.blocks next
   pub owes : Owes sealing owed history.blocks
 
--- What an engine keeps: what it published is well blocked, and an idle is owed only where the sink may refuse. It
--- counted no more cells than the number of its next id, and no number past 2^63 was given.
+-- What an engine keeps. What it published is well blocked. An idle is owed only if the sink may refuse. The engine
+-- counted no more cells than the number of its next id, and it gave no number past 2^63.
 pub record KeepsBlocks {I P S W Cell : Type 0} (world : World I P S W Cell) (parts : Parts I P S W) : Type 0 where
   pub blocked : IsWellBlocked world.language (world.stamp.is_date (world.stamp.meaning parts.publishing.stamp))
       parts.side

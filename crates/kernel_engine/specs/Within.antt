@@ -1,4 +1,4 @@
--- What an engine and its end hold: their parts, and what these keep.
+-- What an engine and its end hold: their parts, and what is always true of these.
 use Rattle.kernel_engine.specs.declared.engine.Engine.TheInside as engine
 use Rattle.kernel_engine.specs.declared.engine_end.EngineEnd.TheInside as end
 use Rattle.kernel_engine.specs.declared.parts.Parts.{Parts}
@@ -10,7 +10,7 @@ module _ {I P S W Cell : Type 0} where
   abbrev pub parts_of : engine.Inside I P S W Cell → Parts I P S W
   parts_of engine = engine.parts
 
-  -- what they keep
+  -- what is always true of the parts of an engine
   abbrev pub IsSound : World I P S W Cell → engine.Inside I P S W Cell → Type 0
   IsSound world engine = KeepsBlocks world engine.parts
 
@@ -18,6 +18,6 @@ module _ {I P S W Cell : Type 0} where
   abbrev pub parts_at_end : end.Inside I P S W Cell → Parts I P S W
   parts_at_end end = end.parts
 
-  -- what they keep
+  -- what is always true of the parts of an engine that was closed
   abbrev pub IsSoundAtEnd : World I P S W Cell → end.Inside I P S W Cell → Type 0
   IsSoundAtEnd world end = KeepsBlocks world end.parts

@@ -106,6 +106,6 @@ pub enum Done {
     Lost,
     /// It was handled.
     Handled(Response),
-    /// It was refused.
+    /// It was refused; or no memory was left to read it, and all ids were given.
     Refused(EngineFault),
 }

@@ -19,7 +19,7 @@ use listed::{Frames, Octets, Text};
 use std::alloc::{AllocError, Global};
 
 impl<P, S: Stamp> Publishing<P, S> {
-    /// What tells this state under this number, as a message behind its topic.
+    /// What tells this state under this number, as a message after its topic.
     fn status(
         &self,
         alloc: Global,
@@ -70,13 +70,12 @@ impl<P, S: Stamp> Publishing<P, S> {
     }
 
     /// Opens the block of a request with this header: publishes that the kernel is busy, under a new date. The message
-    /// that it is idle is made before anything is published. Where the block is silent, nothing of its cell is
-    /// published.
+    /// that it is idle is made before anything is published. If the block is silent, nothing of its cell is published.
     ///
     /// # Errors
     ///
-    /// Where memory was refused, or the sink refused. Then nothing is published.
-    pub fn open<W: Drop>(
+    /// If memory was refused, or the sink refused. Then nothing is published.
+    pub(crate) fn open<W: Drop>(
         &mut self,
         alloc: Global,
         header: Octets,
@@ -117,8 +116,8 @@ impl<P, S: Stamp> Publishing<P, S> {
     ///
     /// # Errors
     ///
-    /// Where memory was refused, or the sink refused. Then nothing is published.
-    pub fn start<W: Drop>(&mut self, alloc: Global) -> Result<(), AllocError>
+    /// If memory was refused, or the sink refused. Then nothing is published.
+    pub(crate) fn start<W: Drop>(&mut self, alloc: Global) -> Result<(), AllocError>
     where
         P: Publish<Item = Event<W>>,
         requires { self.old.next ≡ 1 }
@@ -133,11 +132,11 @@ impl<P, S: Stamp> Publishing<P, S> {
         told
     }
 
-    /// The reply to a message of this type, behind the identities of who sent it, with the next number.
+    /// The reply to a message of this type, after the identities of who sent it, with the next number.
     ///
     /// # Errors
     ///
-    /// Where memory was refused, or no number is left. Then nothing changes.
+    /// If memory was refused, or no number is left. Then nothing changes.
     pub fn reply(
         &mut self,
         alloc: Global,

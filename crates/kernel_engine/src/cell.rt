@@ -1,8 +1,9 @@
 //! Cells that run step by step, and are published.
 
 ghost use Rattle.std.specs.Prelude.{◌≡◌, ◌+◌, ◌<◌, [], ◌∷◌, Some, None, Ok, Err, IfOk, MatchOption, MatchResult};
+ghost use Rattle.interp_core.specs.Fault.{fault_name, fault_value};
 ghost use Rattle.interp_core.specs.declared.answer.Next.TheVariants.{More};
-ghost use Rattle.jmsg_types.specs.declared.publication.Publication.TheVariants.{ExecuteInput};
+ghost use Rattle.jmsg_types.specs.declared.publication.Publication.TheVariants.{Error, ExecuteInput};
 ghost use Rattle.kernel_engine.specs.Course.{CellRuns, IsOutcome, TextRuns};
 ghost use Rattle.kernel_engine.specs.Growth.{Puts, unless_silent};
 ghost use Rattle.kernel_engine.specs.Publications.{last_of};
@@ -24,7 +25,7 @@ use std::alloc::{AllocError, Global};
 /// What came of a cell: its last value or none, or why it failed.
 type Outcome = Result<Option<Text>, InterpFault>;
 
-/// What came of a cell by a step, where it was the last.
+/// What came of a cell by a step, if it was the last.
 fn outcome_of(next: Next) -> Option<Outcome>
     ensures { MatchOption result (next ≡ More) (λ outcome. IsOutcome next outcome) }
 {
@@ -35,8 +36,8 @@ fn outcome_of(next: Next) -> Option<Outcome>
     }
 }
 
-/// Runs one step of a cell, unless the cell is to be interrupted, and publishes what it wrote: what came of the
-/// cell, where this ended it.
+/// Runs one step of a cell, unless the cell is to be interrupted, and publishes what it wrote. Answers what came of the
+/// cell, if this ended it.
 fn run_one<I: Interpreter, P, S: Stamp, T: Stop, W: Drop>(
     alloc: Global,
     interp: &mut I,
@@ -112,7 +113,25 @@ where
     }
 }
 
-/// Publishes what came of a cell: why it failed, where it did.
+/// Publishes why a cell failed.
+fn put_failure<P, S: Stamp, W: Drop>(
+    alloc: Global,
+    publishing: &mut Publishing<P, S>,
+    block: &OpenBlock,
+    fault: &InterpFault,
+) -> Result<(), AllocError>
+where
+    P: Publish<Item = Event<W>>,
+    ensures { let grew = Puts P.sink S.stamp block.now.heading publishing.old publishing.new in
+        let error = Error (fault_name fault.now) (fault_value fault.now) in
+        MatchResult result (λ _. grew (unless_silent block.now.silent (error ∷ []))) (λ _. grew []) }
+{
+    let (ename, evalue) = error_words(alloc, fault)?;
+    let error = Publication::Error { ename, evalue };
+    publishing.put(alloc, block, error)
+}
+
+/// Publishes what came of a cell: why it failed, if it did.
 fn put_last<P, S: Stamp, W: Drop>(
     alloc: Global,
     publishing: &mut Publishing<P, S>,
@@ -134,12 +153,13 @@ where
             publishing.put(alloc, block, result)?;
             Ok(None)
         }
-        Err(fault) => {
-            let (ename, evalue) = error_words(alloc, fault)?;
-            let error = Publication::Error { ename, evalue };
-            publishing.put(alloc, block, error)?;
-            Ok(Some(fault))
-        }
+        Err(fault) => match put_failure(alloc, publishing, block, &fault) {
+            Ok(()) => Ok(Some(fault)),
+            Err(AllocError) => {
+                drop(fault);
+                Err(AllocError)
+            }
+        },
     }
 }
 
@@ -177,7 +197,7 @@ impl<I: Interpreter, P, S: Stamp, W: Drop> Parts<I, P, S, W>
 where
     P: Publish<Item = Event<W>>,
 {
-    /// Runs the cell of a text and publishes it: the cell, what it wrote, what came of it. Why it failed, where it did.
+    /// Runs the cell of a text and publishes it: the cell, what it wrote, what came of it. Why it failed, if it did.
     pub(crate) fn run_cell<T: Stop>(
         &mut self,
         alloc: Global,

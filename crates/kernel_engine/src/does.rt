@@ -69,7 +69,7 @@ pub enum Does {
         silent: bool,
         /// Whether it counts.
         counts: bool,
-        /// The expressions that are evaluated behind it, by their names.
+        /// The expressions that are evaluated after it, by their names.
         expressions: Row<(Text, Text)>,
     },
     /// Its content is refused.

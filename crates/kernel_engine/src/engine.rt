@@ -6,7 +6,7 @@ ghost use Rattle.kernel_engine.specs.declared.response.Response.{Response};
 ghost use Rattle.kernel_engine.specs.Handles.{HandlesErr, HandlesOk, Pays, PaysNot};
 ghost use Rattle.kernel_engine.specs.Last.{HandlesLast, HandlesLastErr};
 ghost use Rattle.kernel_engine.specs.Orders.{handled_of};
-ghost use Rattle.kernel_engine.specs.Takes.{Asks, Finishes, Misses, Takes};
+ghost use Rattle.kernel_engine.specs.Takes.{Asks, Finishes, GoesUnread, Misses, Takes};
 ghost use Rattle.kernel_engine.specs.Starts.{SaysNothing, SaysStarting, StartsNot};
 ghost use Rattle.kernel_engine.specs.World.{world_of};
 
@@ -26,11 +26,11 @@ use listed::Frames;
 use std::alloc::Global;
 use std::marker::Model;
 
-/// An engine of one channel: handles requests one after the other, over an interpreter, a sink for what it publishes, a
-/// stamp for ids and dates, and a signer. A contract sees its parts.
+/// An engine of one channel. It handles requests one after the other, over an interpreter, a sink for what it
+/// publishes, a stamp for ids and dates, and a signer. A contract sees its parts.
 ///
-/// What it published is always well blocked: that the kernel starts, where it said so, and then one block behind the
-/// other, each from busy to idle; the last block is open exactly where its idle is owed.
+/// What it published is always well blocked. First comes that the kernel starts, if it said so, and then one block
+/// after the other, each from busy to idle. The last block is open exactly if its idle is owed.
 #[derive(Drop)]
 pub struct Engine<I: Interpreter, P, S: Stamp, W>
 where
@@ -87,12 +87,12 @@ where
         }
     }
 
-    /// Publishes that the kernel starts, where this is an engine of the shell that has published nothing. Any other
-    /// does nothing.
+    /// Publishes that the kernel starts, if this is an engine of the shell that has published nothing. Any other does
+    /// nothing.
     ///
     /// # Errors
     ///
-    /// `Memory` where memory was refused, or the sink refused. Then nothing is published.
+    /// `Memory` if memory was refused, or the sink refused. Then nothing is published.
     pub fn start(&mut self, alloc: Global) -> Result<(), EngineFault>
         ensures { MatchResult result
             (λ _. SaysStarting P.sink S.stamp self.old self.new
@@ -106,7 +106,7 @@ where
     ///
     /// # Errors
     ///
-    /// `NoRequest` where they are none, and `NoMemory` where memory was refused.
+    /// `NoRequest` if they are none, and `NoMemory` if memory was refused.
     pub fn read(&self, alloc: Global, frames: Frames) -> Result<Asked, Unread>
         ensures { MatchResult result (Asks self.now.publishing.signer self.now.side frames)
             (Misses self.now.publishing.signer frames) }
@@ -125,13 +125,13 @@ where
         Ok(Asked { request, does })
     }
 
-    /// Handles a request that was read: its block is published, from busy to idle, and its reply is answered with what
+    /// Handles a request that was read. Its block is published, from busy to idle, and its reply is answered with what
     /// the kernel is to do.
     ///
-    /// It is refused as `Worn` where 2^62 ids were given, and as `OwedIdle` with the request where the idle of the one
-    /// before is owed and the sink refused it again: then nothing changes. It is refused as `Memory` where memory was
-    /// refused, or the sink refused: then nothing was published of the request, or a cut block was, whose idle may be
-    /// owed. The cells that ran stay.
+    /// It is refused as `Worn` if 2^62 ids were given. It is refused as `OwedIdle`, with the request, if the idle of
+    /// the one before is owed and the sink refused it again. In both cases nothing changes. It is refused as `Memory`
+    /// if memory was refused, or the sink refused. Then nothing was published of the request, or a cut block was, whose
+    /// idle may be owed. The cells that ran stay.
     pub fn finish<T: Stop>(&mut self, alloc: Global, asked: Asked, stop: &T) -> Done
         requires { IsRead asked.does (message_comes self.old.side asked.request) }
         ensures { Finishes (world_of I.meaning P.sink S.stamp) (T.may_ask stop.now) asked self.old result self.new }
@@ -167,14 +167,30 @@ where
         }
     }
 
-    /// Takes the frames of a message: opens them as a request under the engine's key, reads it, and handles it.
+    /// Takes the frames of a message: opens them as a request under the engine's key, reads it, and handles it. If no
+    /// memory was left to open them, and 2^62 ids were given, they are refused as `Worn`.
     pub fn take<T: Stop>(&mut self, alloc: Global, frames: Frames, stop: &T) -> Done
         ensures { Takes (world_of I.meaning P.sink S.stamp) (T.may_ask stop.now) frames self.old result self.new }
     {
         match self.read(alloc, frames) {
             Ok(asked) => self.finish(alloc, asked, stop),
-            Err(Unread::NoRequest) => Done::Ignored,
-            Err(Unread::NoMemory) => Done::Lost,
+            Err(unread) => self.unread_done(unread),
+        }
+    }
+
+    /// What comes of a message that isn't read. If it is no request it is ignored. If no memory was left for it, it is
+    /// lost, or refused as `Worn` if 2^62 ids were given.
+    pub fn unread_done(&self, unread: Unread) -> Done
+        ensures { GoesUnread self.now unread result }
+    {
+        match unread {
+            Unread::NoRequest => Done::Ignored,
+            Unread::NoMemory => {
+                if self.parts.is_worn() {
+                    return Done::Refused(EngineFault::Worn);
+                }
+                Done::Lost
+            }
         }
     }
 
@@ -201,7 +217,7 @@ where
     P: PublishAfter<Item = Event<W>>,
 {
     /// Handles a request as `handle` does. In the view of the sink's publisher the idle that closes its block stands
-    /// behind all that the word tells of, so what the word tells of is taken before it, in every schedule. If no idle is
+    /// after all that the word tells of. So what the word tells of is taken before it, in every schedule. If no idle is
     /// published the word is dropped.
     ///
     /// # Errors

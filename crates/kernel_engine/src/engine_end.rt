@@ -11,8 +11,8 @@ use iopub_queue::Publish;
 use jmsg_envelope::Stamp;
 use std::marker::Model;
 
-/// What an engine leaves that was closed: its parts, of which its interpreter, its sink, its stamp and its signer come
-/// back. What it published is well blocked, and the last block is open exactly where its idle is owed.
+/// What an engine leaves that was closed: its parts. Its interpreter, its sink, its stamp and its signer come back of
+/// these. What it published is well blocked. The last block is open exactly if its idle is owed.
 #[derive(Drop)]
 pub struct EngineEnd<I: Interpreter, P, S: Stamp, W>
 where

@@ -23,8 +23,8 @@ impl<I: Interpreter, P, S: Stamp, W: Drop> Parts<I, P, S, W>
 where
     P: Publish<Item = Event<W>>,
 {
-    /// Runs a cell, publishes it unless it is silent, and evaluates the user expressions where it didn't fail: the
-    /// reply. The execution count is the one behind the cell.
+    /// Runs a cell, publishes it unless it is silent, and evaluates the user expressions if it didn't fail: the reply.
+    /// The execution count is the one after the cell.
     pub(crate) fn execute<T: Stop>(
         &mut self,
         alloc: Global,
@@ -67,7 +67,9 @@ where
 fn tell_failure(alloc: Global, fault: InterpFault, count: u64) -> Result<Reply, AllocError>
     ensures { IfOk result (λ reply. reply ≡ ExecuteError (fault_name fault) (fault_value fault) count) }
 {
-    let (ename, evalue) = error_words(alloc, fault)?;
+    let words = error_words(alloc, &fault);
+    drop(fault);
+    let (ename, evalue) = words?;
     Ok(Reply::ExecuteError {
         ename,
         evalue,

@@ -1,4 +1,4 @@
-//! User expressions, which are evaluated behind a cell.
+//! User expressions, which are evaluated after a cell.
 
 ghost use Rattle.std.specs.Prelude.{◌≡◌, ℕ, List, [], ◌∷◌, ◌++◌, Result, MatchResult};
 ghost use Rattle.interp_core.specs.declared.fault.InterpFault.{InterpFault};
@@ -29,7 +29,7 @@ pub(crate) fn evaluate_all<I: Interpreter>(
     Ok(Row::new(values))
 }
 
-/// Evaluates the next expression, and puts what it came to behind the others.
+/// Evaluates the next expression, and puts what it came to after the others.
 fn evaluate_next<I: Interpreter>(
     alloc: Global,
     interp: &mut I,
@@ -68,7 +68,9 @@ fn evaluate<I: Interpreter>(alloc: Global, interp: &mut I, text: &str) -> Result
     match interp.evaluate(alloc, text) {
         Ok(value) => Ok(Shown::Text(value)),
         Err(fault) => {
-            let (ename, evalue) = own_words(alloc, fault)?;
+            let words = own_words(alloc, &fault);
+            drop(fault);
+            let (ename, evalue) = words?;
             Ok(Shown::Fault { ename, evalue })
         }
     }

@@ -10,7 +10,7 @@ use listed::Frames;
 /// What came of a request that was handled.
 #[derive(Debug, Drop)]
 pub struct Handled {
-    /// The frames of its reply, where it has one.
+    /// The frames of its reply, if it has one.
     pub reply: Option<Frames>,
     /// Whether the kernel is to end.
     pub end: bool,

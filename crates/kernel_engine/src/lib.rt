@@ -32,7 +32,6 @@ pub use fault::EngineFault;
 pub use handled::Handled;
 pub use heading::Heading;
 pub use laws::law_one_course;
-pub use open_block::OpenBlock;
 pub use parts::Parts;
 pub use publishing::{Body, Publishing};
 pub use respond::{Answered, read_does};

@@ -7,13 +7,13 @@ use listed::Frames;
 
 /// A block that is open: what its messages share, the message that closes it, and whether its cell is silent.
 #[derive(Debug, Drop)]
-pub struct OpenBlock {
+pub(crate) struct OpenBlock {
     /// What its messages share.
-    pub heading: Heading,
+    pub(crate) heading: Heading,
     /// The message that the kernel is idle.
-    pub idle: Frames,
+    pub(crate) idle: Frames,
     /// Whether nothing of its cell is published.
-    pub silent: bool,
+    pub(crate) silent: bool,
 }
 
 /// A request whose block is open.

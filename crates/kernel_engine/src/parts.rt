@@ -41,7 +41,7 @@ pub struct Parts<I, P, S, W> {
     pub count: u64,
     /// What its messages are made and published with.
     pub publishing: Publishing<P, S>,
-    /// The idle of the latest block, where it isn't published yet.
+    /// The idle of the latest block, if it isn't published yet.
     pub owed: Option<Event<W>>,
 }
 
@@ -49,7 +49,7 @@ impl<I, P, S, W: Drop> Parts<I, P, S, W>
 where
     P: Publish<Item = Event<W>>,
 {
-    /// Publishes the idle that is owed, where one is: whether none is owed then.
+    /// Publishes the idle that is owed, if one is: whether none is owed then.
     pub(crate) fn pay(&mut self) -> bool
         ensures { MatchBool result (Pays P.sink self.old self.new)
             (PaysNot P.sink self.old self.new) }
@@ -128,11 +128,11 @@ where
         })
     }
 
-    /// Publishes that the kernel starts, where these are the parts of an engine of the shell that gave no id.
+    /// Publishes that the kernel starts, if these are the parts of an engine of the shell that gave no id.
     ///
     /// # Errors
     ///
-    /// `Memory` where memory was refused, or the sink refused. Then nothing is published.
+    /// `Memory` if memory was refused, or the sink refused. Then nothing is published.
     pub(crate) fn start(&mut self, alloc: Global) -> Result<(), EngineFault>
         ensures { MatchResult result
             (λ _. StartsFirst P.sink S.stamp self.old self.new
@@ -148,7 +148,14 @@ where
         }
     }
 
-    /// What a request comes to: `Unread` where memory was refused.
+    /// Whether so many ids were given that no further request is begun.
+    pub(crate) fn is_worn(&self) -> bool
+        ensures { MatchBool result (2 ^ 62 < self.now.publishing.next) (self.now.publishing.next ≤ 2 ^ 62) }
+    {
+        self.publishing.next > LAST_BEGIN
+    }
+
+    /// What a request comes to: `Unread` if memory was refused.
     pub fn read(&self, alloc: Global, request: &Envelope) -> Does
         ensures { IsRead result (message_comes self.now.side request.now) }
     {
@@ -180,8 +187,7 @@ where
         ensures owed { OnOk result (self.new.owed ≡ None) }
         ensures counted { OnErr result (self.new.count ≤ self.new.publishing.next) }
     {
-        let is_worn = self.publishing.next > LAST_BEGIN;
-        if is_worn {
+        if self.is_worn() {
             drop(asked);
             return Err(EngineFault::Worn);
         }
@@ -203,8 +209,8 @@ where
     ///
     /// # Errors
     ///
-    /// `Worn` where 2^62 ids were given, `OwedIdle` where an idle stays owed: then nothing changes. `Memory` where
-    /// memory was refused, or the sink refused: then nothing was published of the request, or a cut block was.
+    /// `Worn` if 2^62 ids were given, `OwedIdle` if an idle stays owed: then nothing changes. `Memory` if memory was
+    /// refused, or the sink refused: then nothing was published of the request, or a cut block was.
     pub fn finish<T: Stop>(
         &mut self,
         alloc: Global,
@@ -235,7 +241,7 @@ impl<I: Interpreter, P, S: Stamp, W: Drop> Parts<I, P, S, W>
 where
     P: PublishAfter<Item = Event<W>>,
 {
-    /// Publishes the idle of a block behind all that the word tells of, or owes it.
+    /// Publishes the idle of a block after all that the word tells of, or owes it.
     fn close_behind(&mut self, word: Word<Event<W>>, block: OpenBlock)
         requires owed { self.old.owed ≡ None }
         requires queue { word.queue ≡ (P.publisher self.old.publishing.sink).queue }
@@ -254,7 +260,7 @@ where
         }
     }
 
-    /// Handles a request that was read as `finish` does, its idle behind all that the word tells of. If no idle is
+    /// Handles a request that was read as `finish` does, its idle after all that the word tells of. If no idle is
     /// published the word is dropped.
     ///
     /// # Errors

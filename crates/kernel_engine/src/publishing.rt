@@ -22,7 +22,7 @@ use std::collections::VecDeque;
 /// The last number for an id.
 pub(crate) const LAST_NUMBER: u64 = 1 << 63;
 
-/// What a message says: its content, and the buffers behind it.
+/// What a message says: its content, and the buffers after it.
 #[derive(Drop)]
 pub struct Body {
     /// The content, which is JSON.
@@ -50,7 +50,7 @@ impl<P, S: Stamp> Publishing<P, S> {
     /// # Errors
     ///
     /// As `publish`. Then nothing is published.
-    pub fn put<W: Drop>(
+    pub(crate) fn put<W: Drop>(
         &mut self,
         alloc: Global,
         block: &OpenBlock,
@@ -72,7 +72,7 @@ impl<P, S: Stamp> Publishing<P, S> {
     ///
     /// # Errors
     ///
-    /// Where memory was refused, the sink refused, or no number is left. Then nothing is published.
+    /// If memory was refused, the sink refused, or no number is left. Then nothing is published.
     pub fn publish<W: Drop>(
         &mut self,
         alloc: Global,
@@ -107,7 +107,7 @@ impl<P, S: Stamp> Publishing<P, S> {
     ///
     /// As `put`. Then a beginning of it is published.
     #[tactic(auto, using(crate::proofs::GrowthLemmas::puts_none))]
-    pub fn put_outputs<W: Drop>(
+    pub(crate) fn put_outputs<W: Drop>(
         &mut self,
         alloc: Global,
         block: &OpenBlock,
@@ -126,8 +126,8 @@ impl<P, S: Stamp> Publishing<P, S> {
         Ok(())
     }
 
-    /// What is published under this number, as a message behind its topic.
-    pub fn publication(
+    /// What is published under this number, as a message after its topic.
+    pub(crate) fn publication(
         &self,
         alloc: Global,
         heading: &Heading,
@@ -149,9 +149,9 @@ impl<P, S: Stamp> Publishing<P, S> {
         self.message(alloc, heading, prefix, number, msg_type, body)
     }
 
-    /// The message of this number and type that says this, sealed behind a prefix.
+    /// The message of this number and type that says this, sealed after a prefix.
     #[tactic(auto, unfolding(crate::specs::Block::message))]
-    pub fn message(
+    pub(crate) fn message(
         &self,
         alloc: Global,
         heading: &Heading,
@@ -287,5 +287,6 @@ fn publication_of(output: Output) -> Publication
         Output::Stdout(text) => Publication::Stream { err: false, text },
         Output::Stderr(text) => Publication::Stream { err: true, text },
         Output::Display(text, buffers) => Publication::Display { text, buffers },
+        Output::DisplayHtml { text, html } => Publication::DisplayHtml { text, html },
     }
 }

@@ -40,7 +40,7 @@ use std::alloc::{AllocError, Global};
 /// What a request is answered.
 #[derive(Debug, Drop)]
 pub struct Answered {
-    /// The content of its reply, where it has one.
+    /// The content of its reply, if it has one.
     pub reply: Option<Reply>,
     /// What the kernel is to do.
     pub order: Order,
@@ -62,7 +62,7 @@ impl Answered {
 ///
 /// # Errors
 ///
-/// Where memory was refused.
+/// If memory was refused.
 pub fn read_does(
     alloc: Global,
     side: Side,
@@ -153,7 +153,7 @@ where
     ///
     /// # Errors
     ///
-    /// Where memory was refused, or the sink refused.
+    /// If memory was refused, or the sink refused.
     pub(crate) fn respond<T: Stop>(
         &mut self,
         alloc: Global,
@@ -247,7 +247,7 @@ where
     }
 }
 
-/// Publishes this, where there is something, and replies this.
+/// Publishes this, if there is something, and replies this.
 fn say<P, S: Stamp, W: Drop>(
     alloc: Global,
     publishing: &mut Publishing<P, S>,
@@ -270,7 +270,7 @@ where
     Ok(Answered { reply, order })
 }
 
-/// Publishes this, where there is something.
+/// Publishes this, if there is something.
 fn publish<P, S: Stamp, W: Drop>(
     alloc: Global,
     publishing: &mut Publishing<P, S>,
@@ -316,7 +316,9 @@ fn fault_reply(alloc: Global, fault: InterpFault) -> Result<Reply, AllocError>
     ensures reply { IfOk result (λ reply. reply ≡ tells.Error (fault_name fault) (fault_value fault)) }
     ensures memory { fault ≡ InterpFault.OutOfMemory → IsErr result }
 {
-    let (ename, evalue) = own_words(alloc, fault)?;
+    let words = own_words(alloc, &fault);
+    drop(fault);
+    let (ename, evalue) = words?;
     Ok(Reply::Error { ename, evalue })
 }
 

@@ -9,10 +9,10 @@ use listed::Text;
 use std::alloc::{AllocError, Global};
 
 /// The `ename` and the `evalue` of a fault.
-pub(crate) fn error_words(alloc: Global, fault: InterpFault) -> Result<(Text, Text), AllocError>
-    ensures { IfOk result (λ words. (words.0 ≡ fault_name fault) × (words.1 ≡ fault_value fault)) }
+pub(crate) fn error_words(alloc: Global, fault: &InterpFault) -> Result<(Text, Text), AllocError>
+    ensures { IfOk result (λ words. (words.0 ≡ fault_name fault.now) × (words.1 ≡ fault_value fault.now)) }
 {
-    let Ok((ename, evalue)) = fault_words(alloc, &fault) else {
+    let Ok((ename, evalue)) = fault_words(alloc, fault) else {
         return Err(AllocError);
     };
     let ename = String::from_str(alloc, ename)?;
@@ -23,10 +23,10 @@ pub(crate) fn error_words(alloc: Global, fault: InterpFault) -> Result<(Text, Te
 ///
 /// # Errors
 ///
-/// Also where the fault is want of memory.
-pub(crate) fn own_words(alloc: Global, fault: InterpFault) -> Result<(Text, Text), AllocError>
-    ensures words { IfOk result (λ words. (words.0 ≡ fault_name fault) × (words.1 ≡ fault_value fault)) }
-    ensures memory { fault ≡ OutOfMemory → IsErr result }
+/// Also if the fault is want of memory.
+pub(crate) fn own_words(alloc: Global, fault: &InterpFault) -> Result<(Text, Text), AllocError>
+    ensures words { IfOk result (λ words. (words.0 ≡ fault_name fault.now) × (words.1 ≡ fault_value fault.now)) }
+    ensures memory { fault.now ≡ OutOfMemory → IsErr result }
 {
     match fault {
         InterpFault::OutOfMemory => Err(AllocError),
@@ -35,6 +35,7 @@ pub(crate) fn own_words(alloc: Global, fault: InterpFault) -> Result<(Text, Text
         | InterpFault::ZeroDivision
         | InterpFault::Shift
         | InterpFault::TooDeep
+        | InterpFault::Raised { .. }
         | InterpFault::Interrupted => error_words(alloc, fault),
     }
 }

@@ -11,7 +11,7 @@ joined full last = flat_map (λ (chunk : Vec ℕ). chunk.items) full ++ last
 abbrev pub AreSome : List (Vec ℕ) → Type 0
 AreSome full = All (λ (chunk : Vec ℕ). 0 < length chunk.items) full
 
--- So many octets are kept in full chunks, none of which is empty, and in the one that is being filled.
+-- So many octets are kept, in full chunks and in the one that is being filled. No full chunk is empty.
 pub record IsKept (len : ℕ) (full : List (Vec ℕ)) (last : List ℕ) : Type 0 where
   pub counted : len ≡ length (joined full last)
   pub some : AreSome full

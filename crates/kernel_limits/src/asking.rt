@@ -7,8 +7,8 @@ ghost use Rattle.kernel_limits.specs.Limits.{is_asked};
 const REQUEST: &[u8] = b"_request";
 
 /// Whether a message of this type comes from a client. The kernel signs what it publishes with the same key, and who
-/// reads IOPub can send that back: a signature shows that its sender holds the key only if the kernel sends no message
-/// of that type. It sends a `comm_close`, and another kernel's messages on stdin are an `input_request`.
+/// reads IOPub can send that back. So a signature shows that its sender holds the key only if the kernel sends no
+/// message of that type. It sends a `comm_close`, and another kernel's messages on stdin are an `input_request`.
 pub fn is_asked(msg_type: &[u8]) -> bool
     ensures { result ≡ is_asked msg_type.now }
 {

@@ -27,8 +27,8 @@ pub enum Claim {
     Signs,
 }
 
-/// Whether another connection of the same identity gets the replies from now on. The newest one does; but identities
-/// are no secret, so a peer that has shown that it holds the key gives way only to one that shows it, too, or once it
+/// Whether another connection of the same identity gets the replies from now on. The newest one does, but identities
+/// are no secret. So a peer that has shown that it holds the key gives way only to one that shows it, too, or once it
 /// has left.
 pub fn takes_over(holder: Holder, claim: Claim) -> bool
     ensures { result ≡ takes_over holder claim }

@@ -63,12 +63,12 @@ impl Kept {
         self.len == 0
     }
 
-    /// Keeps the first octets of a piece, as long as fewer than its share are kept, and answers how many: some of them,
-    /// if they are some and there is room.
+    /// Keeps the first octets of a piece, as long as fewer than its share are kept, and answers how many. It keeps some
+    /// of them, if there are some and there is room.
     ///
     /// # Errors
     ///
-    /// Where memory is refused. What is kept stays.
+    /// If memory is refused. What is kept stays.
     pub fn put(&mut self, piece: &[u8], share: usize) -> Result<usize, AllocError>
         ensures appends { IfOk result (λ count. self.new ≡ self.old ++ take count piece.now) }
         ensures bound { IfOk result (λ count. (count ≤ length piece.now) × (count ≤ share - length self.old)) }
@@ -105,7 +105,7 @@ impl Kept {
 ///
 /// # Errors
 ///
-/// Where memory is refused. The chunks stay as they are.
+/// If memory is refused. The chunks stay as they are.
 fn turn_over(
     alloc: Global,
     full: &mut VecDeque<Vec<u8>>,

@@ -32,8 +32,8 @@ pub const SMALL_OCTETS: usize = 64 << 10;
 /// Octets of all unfinished messages together, beyond the small ones: two messages of the greatest size.
 pub const UNFINISHED_OCTETS: usize = 64 << 20;
 
-/// Octets by which a message may be longer than its shortest text, and count as finished all the same: 64 frames whose
-/// sizes are spelled in eight octets, each seven longer than it needs be.
+/// Octets by which a message may be longer than its shortest text, and count as finished all the same. It has 64 frames
+/// at most, and each may spell its size in eight octets, seven more than it needs.
 pub const SPELLING_OCTETS: usize = 64 * 7;
 
 /// Topics of one subscriber. Jupyter's clients have one.
@@ -42,8 +42,8 @@ pub const TOPICS: usize = 10_000;
 /// Octets of these topics.
 pub const TOPIC_OCTETS: usize = 1 << 20;
 
-/// Octets of a topic of which the relay is told. What is published goes out under names of some tens, so a longer topic
-/// matches nothing.
+/// The longest topic that the relay is told of, in octets. What is published goes out under names of some tens, so a
+/// longer topic matches nothing.
 pub const TOLD_OCTETS: usize = 4 << 10;
 
 /// Octets that a topic takes beside its own.
@@ -55,7 +55,7 @@ pub const SMALL_TOPIC_OCTETS: usize = 16 << 10;
 /// Octets that the topics of all subscribers together may take, beyond these: a dozen subscribers with many topics.
 pub const TOPICS_OCTETS: usize = 16 << 20;
 
-/// What subscribers ask for that may wait for the relay: so few that none waits behind many of a stranger's.
+/// What subscribers ask for that may wait for the relay: so few that none waits after many of a stranger's.
 pub const EVENTS: usize = 64;
 
 /// Octets that are kept for one subscriber before anybody waits for it: a console that is suspended for a while gets
@@ -65,8 +65,8 @@ pub const SHARE_OCTETS: usize = 16 << 20;
 /// Octets that are kept for each subscriber in any case.
 pub const SMALL_SHARE_OCTETS: usize = 64 << 10;
 
-/// Octets that are kept for all subscribers together, beyond these: with them 63 MiB, so that strangers who read nothing
-/// don't fill the memory.
+/// Octets that are kept for all subscribers together, beyond these: with them 63 MiB, so that strangers who read
+/// nothing don't fill the memory.
 pub const SHARES_OCTETS: usize = 48 << 20;
 
 /// Octets that a subscriber takes in `PACE_MILLIS`, at least, while somebody waits for it.
@@ -79,8 +79,8 @@ pub const PACE_MILLIS: u64 = 10_000;
 /// that haven't kept the least pace before, so that many who read nothing stop output little longer than one of them.
 pub const WASTE_MILLIS: u64 = 60_000;
 
-/// Milliseconds after which a subscriber takes `PACE_OCTETS` that has kept the least pace. What it took before may lie in
-/// the buffers of sockets.
+/// Milliseconds after which a subscriber takes `PACE_OCTETS` that has kept the least pace. What it took before may lie
+/// in the buffers of sockets.
 pub const STEADY_MILLIS: u64 = 1_000;
 
 /// Milliseconds that a subscriber has for `PACE_OCTETS` in any case: who reads at once takes them in these.
@@ -103,8 +103,8 @@ pub const END_WAIT_MILLIS: u64 = 300;
 /// a second.
 pub const END_WRITE_MILLIS: u64 = 500;
 
-/// Milliseconds for which a connection waits, at most, until those that were closed let go of what they held: as long as
-/// the signature of a large message is looked at on a busy machine.
+/// Milliseconds for which a connection waits, at most, until those that were closed let go of what they held. It takes
+/// so long to look at the signature of a large message on a busy machine.
 pub const FREED_MILLIS: u64 = 10_000;
 
 /// Milliseconds for a connection of the program to a port of its own, by which it wakes who accepts there.

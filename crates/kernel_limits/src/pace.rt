@@ -47,8 +47,8 @@ impl Pace {
         };
     }
 
-    /// Whether the subscriber took less than the octets of the least pace in all the time that they may take: in so many
-    /// milliseconds, unless it took them before after more than a moment. What it took at once may lie in buffers.
+    /// Whether the subscriber didn't take `PACE_OCTETS` in its time. That is `PACE_MILLIS` if it has kept the pace for
+    /// more than a moment, and else `grace`. What it took at once may lie in buffers, and shows nothing.
     pub fn is_slow(&self, grace: u64, now: u64) -> bool
         ensures { result ≡ is_slow self.now grace now }
     {

@@ -5,8 +5,8 @@ ghost use Rattle.kernel_limits.specs.Limits.{share_of, share_excess};
 
 use crate::limits::{SHARE_OCTETS, SHARES_OCTETS, SMALL_SHARE_OCTETS};
 
-/// How many octets are kept for one subscriber before anybody waits for it, while so many are kept for it, and so many
-/// for all subscribers together beyond what is kept for each in any case.
+/// How many octets are kept for one subscriber before anybody waits for it. It depends on how many are kept for it, and
+/// on how many are kept for all beyond what each has in any case.
 pub fn share_of(kept: usize, beyond: usize) -> usize
     ensures { result ≡ share_of kept beyond }
 {

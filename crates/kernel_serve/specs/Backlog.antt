@@ -3,7 +3,7 @@ use Rattle.std.specs.Prelude.{⊤, ℕ, ◌≤◌}
 use Rattle.kernel_serve.specs.declared.backlog.Tried.{Tried}
 use Rattle.kernel_serve.specs.declared.backlog.Tried.TheVariants.{Kept, Waits, Failed}
 
--- of a piece of so many octets no more are kept than it has
+-- if a piece of so many octets was put into a backlog, no more octets than that are kept of it; else nothing is said
 abbrev pub IsTried : ℕ → Tried → Type 0
 IsTried len (Kept count) = count ≤ len
 IsTried len Waits = ⊤

@@ -1,4 +1,4 @@
-//! Accepting the connections of a port, each of which is served in a thread of its own.
+//! Accepting the connections of a port, and serving each in a thread of its own.
 
 use crate::gate::Gate;
 use crate::guest::Guest;
@@ -92,7 +92,7 @@ where
     unreachable!()
 }
 
-/// The next connection of a port. None where it can't be accepted.
+/// The next connection of a port. None if it can't be accepted.
 fn accept(listener: &TcpListener) -> Option<TcpStream> {
     match listener.accept() {
         Ok((stream, _)) => Some(stream),
@@ -103,7 +103,7 @@ fn accept(listener: &TcpListener) -> Option<TcpStream> {
     }
 }
 
-/// A connection that was accepted, and its number, behind this one. None where there is none of them.
+/// A connection that was accepted, and its number, after this one. None if there is none of them.
 fn next_of(accepted: Option<TcpStream>, id: u64) -> Option<(TcpStream, u64)> {
     let stream = accepted?;
     match id.checked_add(1) {
@@ -173,8 +173,8 @@ where
     drop(guest);
 }
 
-/// What the thread of a connection is to own, and its socket once more. None where the socket refuses what is set, or
-/// no memory is left; the connection is closed then.
+/// What the thread of a connection is to own, and its socket once more. None if the socket refuses what is set, or no
+/// memory is left; the connection is closed then.
 fn welcome<R: Wait + Clock + Drop>(
     rt: &R,
     alloc: Global,
@@ -190,7 +190,7 @@ fn welcome<R: Wait + Clock + Drop>(
     Some((guest, service, kept))
 }
 
-/// A connection as those see it who serve it, and what it is served with. None where no memory is left.
+/// A connection as those see it who serve it, and what it is served with. None if no memory is left.
 fn guest_of<R: Wait + Clock + Drop>(
     rt: &R,
     alloc: Global,
@@ -220,7 +220,7 @@ type Shares<R> = (
     Arc<Gauge, Global>,
 );
 
-/// What is shared with the threads of a port, once more, and a gauge. None where no memory is left.
+/// What is shared with the threads of a port, once more, and a gauge. None if no memory is left.
 fn shares<R: Wait + Clock + Drop>(rt: &R, alloc: Global, port: &Served<R>) -> Option<Shares<R>> {
     let service = port.service.try_clone().ok()?;
     match held(rt, alloc, port) {
@@ -232,7 +232,7 @@ fn shares<R: Wait + Clock + Drop>(rt: &R, alloc: Global, port: &Served<R>) -> Op
     }
 }
 
-/// The gate and the server once more, and a gauge. None where no memory is left.
+/// The gate and the server once more, and a gauge. None if no memory is left.
 fn held<R: Wait + Clock + Drop>(
     rt: &R,
     alloc: Global,
@@ -246,7 +246,7 @@ fn held<R: Wait + Clock + Drop>(
     Some((gate, server, gauge))
 }
 
-/// A gauge of a new connection. None where no memory is left.
+/// A gauge of a new connection. None if no memory is left.
 fn gauge_of<R: Clock>(
     rt: &R,
     alloc: Global,
@@ -256,7 +256,7 @@ fn gauge_of<R: Clock>(
     Arc::new(alloc, Gauge::new(rt, server)).ok()
 }
 
-/// The socket of a connection, twice. None where it refuses what is set, or no memory is left.
+/// The socket of a connection, twice. None if it refuses what is set, or no memory is left.
 fn sockets(alloc: Global, stream: TcpStream) -> Option<(Socket, Socket)> {
     let socket = Socket::new(alloc, stream).ok()?;
     match socket.try_clone() {

@@ -11,7 +11,7 @@ const DELIMITER: &[u8] = b"<IDS|MSG>";
 ///
 /// # Errors
 ///
-/// Where memory is refused.
+/// If memory is refused.
 pub(crate) fn shows_key(alloc: Global, frames: &[Vec<u8>]) -> Result<bool, AllocError> {
     let Some(octets) = header_of(frames) else {
         return Ok(false);

@@ -14,8 +14,8 @@ use std::io::{self, ErrorKind};
 use std::sync::{Arc, Condvar, Mutex, Wait};
 use std::time::{Clock, Duration};
 
-/// For how many milliseconds the relay waits for a subscriber before it looks at its pace again, and who waits for the
-/// end of its writing before it looks whether that was given up.
+/// For how many milliseconds somebody waits before it looks again. The relay looks at the pace of a subscriber. Who
+/// waits for the end of its writing looks whether that was given up.
 const LOOK: u64 = 50;
 
 /// What is kept for a subscriber, and how it stands.
@@ -143,7 +143,7 @@ impl Backlog {
     ///
     /// # Errors
     ///
-    /// Where the subscriber was too slow, a write failed, or memory is refused, now or before.
+    /// If the subscriber was too slow, a write failed, or memory is refused, now or before.
     pub(crate) fn put<R: Wait + Clock>(&self, rt: &R, piece: &[u8]) -> io::Result<usize>
         ensures { WritesAtMost result piece.now }
     {
@@ -213,7 +213,7 @@ impl Backlog {
         self.changed.notify_all();
     }
 
-    /// Takes the first chunk of what is kept, once there is one. None where nothing comes any more or something failed.
+    /// Takes the first chunk of what is kept, once there is one. None if nothing comes any more or something failed.
     fn take<R: Wait>(&self, rt: &R) -> Option<Vec<u8>> {
         let mut state = self.changed.wait_while(rt, self.state.lock(rt), |state| {
             state.kept.is_empty() && !state.has_ended && !state.has_failed
@@ -241,8 +241,8 @@ impl Backlog {
         true
     }
 
-    /// Writes the first octets of a piece, once there is room for some, and answers how many. None where a write
-    /// failed, the subscriber has failed meanwhile, or it took nothing for too long after the last octet came.
+    /// Writes the first octets of a piece, once there is room for some, and answers how many. None if a write failed,
+    /// the subscriber has failed meanwhile, or it took nothing for too long after the last octet came.
     fn write_some<R: Wait + Clock>(&self, rt: &R, socket: &Socket, piece: &[u8]) -> Option<usize>
         ensures { IfSome result (λ count. (0 < count) × (count ≤ length piece.now)) }
     {

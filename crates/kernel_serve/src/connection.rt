@@ -42,7 +42,7 @@ impl Channel {
     ///
     /// # Errors
     ///
-    /// Where it has too many owners.
+    /// If it has too many owners.
     pub(crate) fn try_clone(&self) -> Result<Channel, AllocError> {
         let inbox = self.inbox.clone()?;
         let (Ok(signer), Ok(mailboxes)) = (
@@ -130,13 +130,13 @@ pub(crate) fn octets_of(traffic: &Traffic) -> usize {
 }
 
 impl<R: Wait + Clock> Requests<R> {
-    /// Looks whether a message is signed, by a peer that has shown that it holds the key; puts it into the worker's
-    /// inbox, and waits while too much is in work. Until that was looked at, the message counts as unfinished. Answers
-    /// whether the worker is still there.
+    /// Looks whether a message is signed, by a peer that has shown that it holds the key. If so it puts it into the
+    /// worker's inbox, and waits while too much is in work. Until that was looked at, the message counts as unfinished.
+    /// Answers whether the worker is still there.
     ///
     /// # Errors
     ///
-    /// Where memory is refused.
+    /// If memory is refused.
     fn receive(&mut self, frames: Frames, octets: usize) -> Result<bool, AllocError> {
         match self.is_of_client(frames.as_slice()) {
             Ok(true) => self.gauge.finish(&self.rt, octets),
@@ -177,7 +177,7 @@ impl<R: Wait + Clock> Requests<R> {
     ///
     /// # Errors
     ///
-    /// Where memory is refused.
+    /// If memory is refused.
     fn is_of_client(&mut self, frames: &[Vec<u8>]) -> Result<bool, AllocError> {
         if check_signature(&self.channel.signer, frames).is_err() {
             return Ok(false);
@@ -231,7 +231,7 @@ impl<R: Wait + Clock> Requests<R> {
     ///
     /// # Errors
     ///
-    /// Where memory is refused.
+    /// If memory is refused.
     fn tell(&self, frames: Frames, octets: usize) -> Result<bool, AllocError> {
         let Ok(replies) = self.replies.clone() else {
             drop(frames);
@@ -304,9 +304,9 @@ fn is_named_well(peer: &OpenPeer) -> bool {
     peer.identity().len() <= IDENTITY_OCTETS
 }
 
-/// Serves a peer of shell or control as a ROUTER: shakes hands with it, and puts each message that it sends into the
-/// inbox, while a second thread writes the replies. Returns when its octets ended or are refused, and all replies
-/// were written or a write failed.
+/// Serves a peer of shell or control as a ROUTER. It shakes hands with it, and puts each message that it sends into the
+/// inbox, while a second thread writes the replies. Returns after the peer's octets ended or were refused, and all
+/// replies were written or a write failed.
 pub(crate) fn serve_requests<R>(rt: R, alloc: Global, guest: &Guest, channel: Channel)
 where
     R: Threads + Wait + Clock + Copy + Send + Sync + Drop + 'static,
@@ -408,7 +408,7 @@ where
     }
 }
 
-/// What the two threads of a connection work with. None where no memory is left.
+/// What the two threads of a connection work with. None if no memory is left.
 fn requests_of<R: Wait + Clock + Drop>(
     rt: R,
     alloc: Global,
@@ -445,7 +445,7 @@ type Ends = (
     Arc<Mailbox, Global>,
 );
 
-/// The mailbox of a peer, for both threads of its connection. None where no memory is left.
+/// The mailbox of a peer, for both threads of its connection. None if no memory is left.
 fn ends_of<R: Wait>(rt: &R, channel: &Channel, caller: Caller<'_>) -> Option<Ends> {
     let (replies, mailbox) = channel.mailboxes.open(rt, caller).ok()?;
     match Arc::try_clone(&mailbox) {
@@ -527,7 +527,7 @@ struct Shares {
     closed: Socket,
 }
 
-/// What the two threads of a connection share. None where no memory is left, or something has too many owners.
+/// What the two threads of a connection share. None if no memory is left, or something has too many owners.
 fn shares_of(alloc: Global, guest: &Guest, identity: &[u8]) -> Option<Shares> {
     let (reader, wakes_reader) = parker_of(alloc)?;
     let Some((writer, wakes_writer, identity)) = writing_of(alloc, identity) else {
@@ -560,7 +560,7 @@ fn shares_of(alloc: Global, guest: &Guest, identity: &[u8]) -> Option<Shares> {
     })
 }
 
-/// What the thread waits by that writes, what wakes it, and the identity once more. None where no memory is left.
+/// What the thread waits by that writes, what wakes it, and the identity once more. None if no memory is left.
 fn writing_of(alloc: Global, identity: &[u8]) -> Option<(Parker, Unparker, Vec<u8>)> {
     let identity = identity.to_vec(alloc).ok()?;
     match parker_of(alloc) {
@@ -572,7 +572,7 @@ fn writing_of(alloc: Global, identity: &[u8]) -> Option<(Parker, Unparker, Vec<u
     }
 }
 
-/// What a thread waits by, and what wakes it. None where no memory is left.
+/// What a thread waits by, and what wakes it. None if no memory is left.
 fn parker_of(alloc: Global) -> Option<(Parker, Unparker)> {
     let parker = Parker::new(alloc).ok()?;
     match parker.unparker().clone() {

@@ -32,7 +32,7 @@ pub(crate) struct Acceptor {
 ///
 /// # Errors
 ///
-/// `CannotBind` where the system doesn't say where it listens, `OutOfMemory` and `NoThread`.
+/// `CannotBind` if the system doesn't say where it listens, `OutOfMemory` and `NoThread`.
 pub(crate) fn start<R>(
     rt: R,
     alloc: Global,
@@ -76,7 +76,7 @@ where
 ///
 /// # Errors
 ///
-/// `CannotBind` where the system doesn't say where it listens, and `OutOfMemory`.
+/// `CannotBind` if the system doesn't say where it listens, and `OutOfMemory`.
 fn begin(
     alloc: Global,
     port: Port,

@@ -76,7 +76,7 @@ impl Gate {
     ///
     /// # Errors
     ///
-    /// Where memory is refused. The connection is not among them.
+    /// If memory is refused. The connection is not among them.
     pub(crate) fn enter<R: Wait>(
         &self,
         rt: &R,

@@ -29,7 +29,7 @@ impl Guest {
     ///
     /// # Errors
     ///
-    /// Where something has too many owners.
+    /// If something has too many owners.
     pub(crate) fn halves<R>(
         &self,
         rt: R,

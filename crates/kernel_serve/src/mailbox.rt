@@ -52,7 +52,7 @@ impl Holding {
         true
     }
 
-    /// Whether replies still wait for a peer that left, of which so many jobs are in work.
+    /// Whether replies still wait for a peer that left, and that has so many jobs in work.
     fn is_awaited(&mut self, jobs: usize, now: u64) -> bool {
         if jobs > 0 {
             self.since = None;
@@ -73,7 +73,7 @@ impl Holding {
 struct Due {
     /// A reply that was taken out, and not written.
     unsent: Option<ReplyMessage>,
-    /// Those behind it.
+    /// Those after it.
     replies: Receiver<ReplyMessage>,
 }
 

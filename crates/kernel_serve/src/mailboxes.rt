@@ -44,7 +44,7 @@ impl Named {
     ///
     /// # Errors
     ///
-    /// Where something has too many owners.
+    /// If something has too many owners.
     fn ends(&self) -> Result<Ends, AllocError> {
         let replies = self.replies.clone()?;
         match Arc::try_clone(&self.mailbox) {
@@ -79,7 +79,7 @@ impl Mailboxes {
     ///
     /// # Errors
     ///
-    /// Where memory is refused.
+    /// If memory is refused.
     pub(crate) fn open<R: Wait>(&self, rt: &R, caller: Caller<'_>) -> Result<Ends, AllocError> {
         let mut named = self.named.lock(rt);
         let ends = match &mut *named {
@@ -98,8 +98,8 @@ impl Mailboxes {
         }
     }
 
-    /// The peer of a connection that was opened has left. What is due to it waits, if it has an identity and has shown that it holds
-    /// the key.
+    /// The peer of a connection that was opened has left. What is due to it waits, if it has an identity and has shown
+    /// that it holds the key.
     pub(crate) fn leave<R: Wait>(&self, rt: &R, mailbox: &Mailbox, number: u64, now: u64) {
         let mut named = self.named.lock(rt);
         mailbox.exit(rt, number);
@@ -116,7 +116,7 @@ impl Mailboxes {
 }
 
 /// Wakes the thread that waits for replies, by one without frames: it looks again whether its connection has the
-/// mailbox. It doesn't wait where there are some. If there is no memory for that it looks within a second.
+/// mailbox. It doesn't wait if there are some. If there is no memory for that it looks within a second.
 pub(crate) fn wake<R: Wait>(rt: &R, alloc: Global, replies: &Sender<ReplyMessage>) {
     if replies.is_empty() {
         let nothing = ReplyMessage {
@@ -146,7 +146,7 @@ fn forget<R: Wait>(rt: &R, named: &mut Vec<Named>, now: u64) {
 ///
 /// # Errors
 ///
-/// Where memory is refused.
+/// If memory is refused.
 fn ends_among(
     alloc: Global,
     named: &mut Vec<Named>,
@@ -185,7 +185,7 @@ fn ends_among(
 ///
 /// # Errors
 ///
-/// Where memory is refused.
+/// If memory is refused.
 fn new_mailbox(alloc: Global, reader: &Unparker) -> Result<Ends, AllocError> {
     let account = Arc::new(alloc, Account::new(reader.clone()?))?;
     let Ok((replies, due)) = unbounded(alloc) else {

@@ -19,8 +19,8 @@ const PERIOD: u64 = 1;
 pub enum Until {
     /// Until a client asks for its end.
     Asked,
-    /// Until a client asks for its end, or the process has another parent than the one of this number: a client that
-    /// ended without a word leaves no kernel behind.
+    /// Until a client asks for its end, or the process has another parent than the one of this number. So a client that
+    /// ended without a word leaves no kernel over.
     ParentChanges(Process, u32),
 }
 
@@ -42,7 +42,7 @@ impl Watch {
     }
 }
 
-/// Starts to look after the parent, where that is asked for. Once it changed, control is told to end.
+/// Starts to look after the parent, if that is asked for. Once it changed, control is told to end.
 ///
 /// # Errors
 ///
@@ -87,7 +87,7 @@ fn look<R: Wait + Clock>(
             Err(RecvTimeoutError::Timeout) => {}
             Ok(()) | Err(RecvTimeoutError::Disconnected) => return,
         }
-        // Where memory is refused the next look tries again.
+        // If memory is refused the next look tries again.
         if parent_id(process) != parent && is_told(rt, control) {
             return;
         }

@@ -118,7 +118,7 @@ impl<R: Wait + Clock + Drop> Reader<R> {
     ///
     /// # Errors
     ///
-    /// Where no time is left, or the system refuses it.
+    /// If no time is left, or the system refuses it.
     fn wait_at_most(&mut self, millis: Option<u64>) -> io::Result<()> {
         match millis {
             Some(0) => Err(ErrorKind::TimedOut.into()),
@@ -141,7 +141,7 @@ impl<R: Wait + Clock + Drop> Reader<R> {
     ///
     /// # Errors
     ///
-    /// Where a limit is reached, or the read fails.
+    /// If a limit is reached, or the read fails.
     fn read_within(&mut self, buf: &mut [u8]) -> io::Result<usize>
         ensures { ReadsAtMost result buf.new }
     {
@@ -162,7 +162,7 @@ impl<R: Wait + Clock + Drop> Reader<R> {
     ///
     /// # Errors
     ///
-    /// Where the read fails.
+    /// If the read fails.
     fn read_counted(&mut self, buf: &mut [u8]) -> io::Result<usize>
         ensures { ReadsAtMost result buf.new }
     {

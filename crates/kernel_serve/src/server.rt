@@ -219,7 +219,7 @@ impl Server {
     }
 
     /// Counts what a connection holds of an unfinished message, beyond what every connection may hold. If all are too
-    /// much then, the connection that has held its part longest is closed, and so on; who holds more waits until those
+    /// much then, the connection that has held its part longest is closed, and so on. Who holds more waits until those
     /// have let go of so much that there is room. If there is no memory to count it, this connection is closed. Answers
     /// whether it was waited.
     pub(crate) fn hold<R: Wait + Clock>(&self, rt: &R, part: Part, socket: &Socket) -> bool {

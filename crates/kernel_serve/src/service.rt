@@ -25,7 +25,7 @@ impl<R: Wait + Clock + Drop> Service<R> {
     ///
     /// # Errors
     ///
-    /// Where an inbox has too many owners.
+    /// If an inbox has too many owners.
     pub(crate) fn try_clone(&self) -> Result<Service<R>, AllocError> {
         match self {
             Service::Requests(channel) => Ok(Service::Requests(channel.try_clone()?)),

@@ -1,4 +1,4 @@
-//! Serving a connection file: the ports, the kernel behind them, and their end.
+//! Serving a connection file: the ports, the kernel that answers on them, and their end.
 
 ghost use Rattle.std.specs.Prelude.{◌≡◌, ◌∷◌, ◌++◌, IfOk, IfSome, true, string_bytes};
 ghost use Rattle.kernel_serve.specs.Stamps.{AreApart};
@@ -69,7 +69,7 @@ type KernelParts<I, R> = Parts<I, KernelStamp<R>, Writer<R>>;
 /// # Errors
 ///
 /// `CannotBind` with the first port that can't be bound, in the order shell, iopub, control, heartbeat; `NoThread`,
-/// `NoRandomness` or `OutOfMemory` where the system gives none.
+/// `NoRandomness` or `OutOfMemory` if the system gives none.
 pub fn serve<I, R>(
     rt: R,
     alloc: Global,
@@ -131,7 +131,7 @@ fn key_of(connection: Connection) -> Vec<u8>
 ///
 /// # Errors
 ///
-/// `CannotBind` where the system doesn't say where a port listens; `NoThread`, `NoRandomness` or `OutOfMemory`.
+/// `CannotBind` if the system doesn't say where a port listens; `NoThread`, `NoRandomness` or `OutOfMemory`.
 fn serve_on<I, R>(
     rt: R,
     alloc: Global,
@@ -211,7 +211,7 @@ where
     served
 }
 
-/// Runs the kernel, and looks after the parent meanwhile, where that is asked for.
+/// Runs the kernel, and looks after the parent meanwhile, if that is asked for.
 ///
 /// # Errors
 ///
@@ -299,7 +299,7 @@ impl<I, R: Wait + Clock + Drop> Stage<I, R> {
 ///
 /// # Errors
 ///
-/// `NoRandomness` where the system gives no random octets, `OutOfMemory`.
+/// `NoRandomness` if the system gives no random octets, `OutOfMemory`.
 fn stage_of<I, R>(rt: R, alloc: Global, core: Core<I>) -> Result<Stage<I, R>, ServeFault>
 where
     I: Drop,
@@ -325,7 +325,7 @@ where
     }
 }
 
-/// Flags, what requests are signed with, and what all threads share. None where no memory is left.
+/// Flags, what requests are signed with, and what all threads share. None if no memory is left.
 fn shares_of<R: Clock>(
     rt: &R,
     alloc: Global,
@@ -342,7 +342,7 @@ fn shares_of<R: Clock>(
     Some((flags, signer, server))
 }
 
-/// Flags, and a server that sees them. None where no memory is left.
+/// Flags, and a server that sees them. None if no memory is left.
 fn server_of<R: Clock>(rt: &R, alloc: Global) -> Option<(Flags, Arc<Server, Global>)> {
     let flags = Flags::new(alloc).ok()?;
     let Ok(seen) = flags.try_clone() else {
@@ -363,7 +363,7 @@ fn server_of<R: Clock>(rt: &R, alloc: Global) -> Option<(Flags, Arc<Server, Glob
 ///
 /// # Errors
 ///
-/// `NoRandomness` where the system gives no random octets, `OutOfMemory`.
+/// `NoRandomness` if the system gives no random octets, `OutOfMemory`.
 fn parts_of<I, R>(
     rt: R,
     alloc: Global,
@@ -430,7 +430,7 @@ fn inboxes<R: Wait + Clock + Drop>(
 ///
 /// # Errors
 ///
-/// `NoRandomness` where the system gives no random octets, `OutOfMemory`.
+/// `NoRandomness` if the system gives no random octets, `OutOfMemory`.
 fn new_stamps<R>(rt: R, alloc: Global) -> Result<(KernelStamp<R>, KernelStamp<R>), ServeFault>
 where
     R: RandomSource + Copy + Drop,
@@ -443,7 +443,7 @@ where
     Ok(stamps_of(rt, alloc, session.encode_lower(&mut buffer))?)
 }
 
-/// The stamps of shell and control, no id of which is one of the other's.
+/// The stamps of shell and control, which have no id in common.
 fn stamps_of<R>(
     rt: R,
     alloc: Global,
@@ -507,7 +507,7 @@ where
     ///
     /// # Errors
     ///
-    /// `NoThread` or `OutOfMemory`, and `CannotBind` where the system doesn't say where a port listens.
+    /// `NoThread` or `OutOfMemory`, and `CannotBind` if the system doesn't say where a port listens.
     fn accept_on(
         &self,
         rt: R,
@@ -539,7 +539,7 @@ where
     ///
     /// # Errors
     ///
-    /// `NoThread` or `OutOfMemory`, and `CannotBind` where the system doesn't say where it listens.
+    /// `NoThread` or `OutOfMemory`, and `CannotBind` if the system doesn't say where it listens.
     fn accept(
         &self,
         rt: R,
@@ -557,7 +557,7 @@ where
         Ok(())
     }
 
-    /// What the peers of a port are served with, and what all share. None where something has too many owners.
+    /// What the peers of a port are served with, and what all share. None if something has too many owners.
     fn shares(&self, alloc: Global, port: Port) -> Option<(Service<R>, Arc<Server, Global>)> {
         let service = self.service_of(alloc, port).ok()?;
         match Arc::try_clone(self.server) {
@@ -573,7 +573,7 @@ where
     ///
     /// # Errors
     ///
-    /// Where memory is refused, or something has too many owners.
+    /// If memory is refused, or something has too many owners.
     fn service_of(&self, alloc: Global, port: Port) -> Result<Service<R>, AllocError> {
         match port {
             Port::Shell => Ok(Service::Requests(channel_of(alloc, self.shell, self.signer)?)),
@@ -588,7 +588,7 @@ where
 ///
 /// # Errors
 ///
-/// Where memory is refused, or something has too many owners.
+/// If memory is refused, or something has too many owners.
 fn channel_of(
     alloc: Global,
     inbox: &Sender<Note<Job>>,

@@ -13,7 +13,7 @@ pub(crate) struct SharedWriter {
 }
 
 impl SharedWriter {
-    /// What a peer is written to, for both threads. None where no memory is left.
+    /// What a peer is written to, for both threads. None if no memory is left.
     pub(crate) fn twice(
         alloc: Global,
         writer: Counted<Socket>,

@@ -45,7 +45,7 @@ impl Socket {
     ///
     /// # Errors
     ///
-    /// Where it refuses what is set, or memory is refused. The connection is closed then.
+    /// If it refuses what is set, or memory is refused. The connection is closed then.
     pub(crate) fn new(alloc: Global, stream: TcpStream) -> io::Result<Socket> {
         stream.set_nodelay(true)?;
         stream.set_write_timeout(Some(Duration::from_millis(PAUSE)))?;
@@ -64,7 +64,7 @@ impl Socket {
     ///
     /// # Errors
     ///
-    /// Where it has too many owners.
+    /// If it has too many owners.
     pub(crate) fn try_clone(&self) -> Result<Socket, AllocError> {
         Ok(Socket {
             shared: Arc::try_clone(&self.shared)?,
@@ -75,7 +75,7 @@ impl Socket {
     ///
     /// # Errors
     ///
-    /// Where the system refuses it.
+    /// If the system refuses it.
     pub(crate) fn wait_at_most(&self, millis: Option<u64>) -> io::Result<()> {
         let wait = match millis {
             Some(millis) => Some(Duration::from_millis(millis.max(1))),
@@ -164,7 +164,7 @@ impl Read for Socket {
     }
 }
 
-/// Where a write fails the socket is shut down: its peer learns that it gets no more, and isn't heard any more either.
+/// If a write fails the socket is shut down: its peer learns that it gets no more, and isn't heard any more either.
 impl Write for Socket {
     fn write(&mut self, buf: &[u8]) -> io::Result<usize> {
         let written = self.put(buf);
@@ -179,7 +179,7 @@ impl Write for Socket {
     }
 }
 
-/// Gives a socket a small send buffer, so that what was written to it was taken by its peer but for little; and has the
+/// Gives a socket a small send buffer, so that what was written to it was taken by its peer but for little. It has the
 /// system ask whether a silent peer's machine is still there, so that one that vanished without a word holds no place.
 fn set_options(stream: &TcpStream) {
     set_option(stream, net::SOL_SOCKET, net::SO_SNDBUF, SEND_BUFFER);

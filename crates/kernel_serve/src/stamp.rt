@@ -10,7 +10,7 @@ use jmsg_envelope::Stamp;
 use std::alloc::{AllocError, Global};
 use std::time::{Clock, Instant};
 
-/// A session of a kernel: ids are a label and a number behind it, and dates those of a clock (RFC 3339, in UTC, with
+/// A session of a kernel: ids are a label and a number after it, and dates those of a clock (RFC 3339, in UTC, with
 /// microseconds).
 #[derive(Drop)]
 pub struct KernelStamp<C> {
@@ -75,7 +75,7 @@ impl<C: Clock> Stamp for KernelStamp<C> {
 ///
 /// # Errors
 ///
-/// `OutOfMemory` where there is no memory for the text, and another where the clock can't be read.
+/// `OutOfMemory` if there is no memory for the text, and another if the clock can't be read.
 fn date_now<C: Clock>(clock: &C, alloc: Global) -> Result<String, Error> {
     Timestamp::now(clock)?.strftime(alloc, b"%Y-%m-%dT%H:%M:%S%.6fZ".as_slice())
 }
@@ -91,7 +91,7 @@ pub fn can_be_read<C: Clock>(clock: &C) -> bool {
 ///
 /// # Errors
 ///
-/// Where an allocation is refused.
+/// If an allocation is refused.
 pub fn is_utc_date(alloc: Global, text: &[u8]) -> Result<bool, AllocError>
     ensures { IfOk result (λ is. is ≡ is_utc_date text.now) }
 {
@@ -103,7 +103,7 @@ pub fn is_utc_date(alloc: Global, text: &[u8]) -> Result<bool, AllocError>
 ///
 /// # Errors
 ///
-/// Where an allocation is refused.
+/// If an allocation is refused.
 fn has_form(alloc: Global, text: &[u8]) -> Result<bool, AllocError>
     ensures { IfOk result (λ has. has ≡ has_form text.now) }
 {

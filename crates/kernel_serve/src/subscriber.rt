@@ -59,7 +59,7 @@ impl Asked {
     ///
     /// # Errors
     ///
-    /// Where memory is refused.
+    /// If memory is refused.
     fn note<W, R: Wait>(&mut self, rt: &R, event: &Event<W>) -> Result<Asks, AllocError> {
         match event {
             Event::Subscribe(_, topic) => self.add(rt, topic.as_slice()),
@@ -74,7 +74,7 @@ impl Asked {
     ///
     /// # Errors
     ///
-    /// Where memory is refused.
+    /// If memory is refused.
     fn add<R: Wait>(&mut self, rt: &R, topic: &[u8]) -> Result<Asks, AllocError> {
         if !self.is_counted(rt, topic.len()) {
             return Ok(Asks::TooMuch);
@@ -175,7 +175,7 @@ impl<R: Wait + Clock + Drop> Subscriptions<R> {
     ///
     /// # Errors
     ///
-    /// Where memory is refused.
+    /// If memory is refused.
     fn ask(&mut self, event: Event<Writer<R>>, octets: usize) -> Result<bool, AllocError> {
         let noted = self.asked.note(&self.rt, &event);
         match noted {
@@ -204,7 +204,7 @@ impl<R: Wait + Clock + Drop> Subscriptions<R> {
     ///
     /// # Errors
     ///
-    /// Where memory is refused.
+    /// If memory is refused.
     fn tell_in_turn(&self, event: Event<Writer<R>>) -> Result<bool, AllocError> {
         if self.waits_its_turn() {
             self.tell(event)
@@ -236,7 +236,7 @@ impl<R: Wait + Clock + Drop> Subscriptions<R> {
     ///
     /// # Errors
     ///
-    /// Where memory is refused.
+    /// If memory is refused.
     fn tell(&self, event: Event<Writer<R>>) -> Result<bool, AllocError> {
         match self.inbox.send(&self.rt, Note::Item(event)) {
             Ok(()) => Ok(true),
@@ -270,9 +270,9 @@ impl<R: Wait + Clock + Drop> Subscriptions<R> {
     }
 }
 
-/// Serves a subscriber as a PUB: shakes hands with it, and tells the worker of subscriptions that it came, what it asks
-/// for and that it left, while a second thread writes what the relay has for it. Returns when its octets ended or are
-/// refused, and all that the relay had for it was written or a write failed.
+/// Serves a subscriber as a PUB. It shakes hands with it, and tells the worker of subscriptions that it came, what it
+/// asks for and that it left. A second thread writes meanwhile what the relay has for it. Returns after the
+/// subscriber's octets ended or were refused, and all that the relay had for it was written or a write failed.
 pub(crate) fn serve_subscriber<R>(rt: R, alloc: Global, guest: &Guest, inbox: SubscriptionsInbox<R>)
 where
     R: Threads + Wait + Clock + Copy + Send + Sync + Drop + 'static,
@@ -375,7 +375,7 @@ where
     drop(backlog);
 }
 
-/// Where the subscriptions of a subscriber go. None where something has too many owners.
+/// Where the subscriptions of a subscriber go. None if something has too many owners.
 fn subscriptions_of<R: Wait + Clock + Drop>(
     rt: R,
     alloc: Global,
@@ -424,7 +424,7 @@ fn hear_subscriber<R: Wait + Clock + Drop>(
     drop(subscriptions);
 }
 
-/// The feed of a subscriber, and the thread that writes it. None where no memory or no thread is left.
+/// The feed of a subscriber, and the thread that writes it. None if no memory or no thread is left.
 fn start_feed<R>(rt: R, alloc: Global, guest: &Guest) -> Option<Feeding<R>>
 where
     R: Threads + Wait + Clock + Copy + Send + Sync + Drop + 'static,
@@ -451,7 +451,7 @@ where
     }
 }
 
-/// A backlog, for the relay, the thread that reads, and the thread that writes it. None where no memory is left.
+/// A backlog, for the relay, the thread that reads, and the thread that writes it. None if no memory is left.
 fn backlog_thrice(
     alloc: Global,
     server: &Arc<Server, Global>,

@@ -49,7 +49,8 @@ module _ {I P S W Cell : Type 0} (world : World I P S W Cell)
   sink_one old new message reply (Err (Shutdown restart)) through = through.works.does.adds.same
   sink_one old new message reply (Err (Failed fault)) (inl refuses) =
       sink_refused refuses.request old new fault refuses.why
-  sink_one old new message reply (Err (Failed fault)) (inr vain) = vain.works.does.adds.same
+  sink_one old new message reply (Err (Failed fault)) (inr (inl vain)) = vain.works.does.adds.same
+  sink_one old new message reply (Err (Failed fault)) (inr (inr lost)) = sink_stays old new lost.worn.same
 
   -- one traffic
   sink_treated : (old new : Parts I P S W) (item : Traffic) (reply : List ℕ) (answered : Result Answered SessionEnd)

@@ -460,9 +460,14 @@ module _ {I P S W Cell : Type 0} (world : World I P S W Cell) (may : Type 0) whe
       (inl refuses)
       mark breaks =
       absurd (no_break served.converses.replies last.reply served.replies breaks refuses.silent)
-  told_cut old new octets written ending is served last (traffic.Message message) named (Err (Failed fault)) (inr vain)
+  told_cut old new octets written ending is served last (traffic.Message message) named (Err (Failed fault))
+      (inr (inl vain))
       mark breaks =
       absurd (no_break served.converses.replies last.reply served.replies breaks vain.silent)
+  told_cut old new octets written ending is served last (traffic.Message message) named (Err (Failed fault))
+      (inr (inr lost))
+      mark breaks =
+      absurd (no_break served.converses.replies last.reply served.replies breaks lost.silent)
 
   -- a session that the engine ended at one traffic
   told_last : (old new : Parts I P S W) (octets written : List ℕ) (ending : Ending SessionEnd) → IsTold ending

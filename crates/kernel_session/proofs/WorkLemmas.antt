@@ -64,7 +64,7 @@ module _ {I P S W Cell : Type 0} (world : World I P S W Cell) (may : Type 0) whe
   finished old message handled octets (Err (Shutdown restart)) new works (is, ends) =
       record { handled = handled; works = works; end = ends; replied = is }
   finished old message handled octets (Err (Failed fault)) new works (none, memory) =
-      inr (record { handled = handled; works = works; silent = none; memory = memory })
+      inr (inl (record { handled = handled; works = works; silent = none; memory = memory }))
 
   -- what came of a message, with what was added for it, is a step of the session
   pub taken : (old : Parts I P S W) (message : Message) (done : Came) (octets : List ℕ)
@@ -73,13 +73,17 @@ module _ {I P S W Cell : Type 0} (world : World I P S W Cell) (may : Type 0) whe
   taken old message variant.Ignored octets answered new (refused, same) (silent, is) =
       subst (λ a. WorksOne world may old message octets new a) (sym is)
       (inl (record { refused = refused; silent = silent; same = same }))
-  taken old message variant.Lost octets answered new same (silent, is) =
-      subst (λ a. WorksOne world may old message octets new a) (sym is) (record { silent = silent; same = same })
+  taken old message variant.Lost octets answered new (few, same) (silent, is) =
+      subst (λ a. WorksOne world may old message octets new a) (sym is)
+      (record { few = few; silent = silent; same = same })
   taken old message (variant.Handled handled) octets answered new (request, opened, ok) writes =
       finished old message handled octets answered new (record { request = request; opened = opened; does = ok }) writes
-  taken old message (variant.Refused fault) octets answered new (request, opened, why) (silent, is) =
+  taken old message (variant.Refused fault) octets answered new (inl (request, opened, why)) (silent, is) =
       subst (λ a. WorksOne world may old message octets new a) (sym is)
       (inl (record { request = request; opened = opened; why = why; silent = silent }))
+  taken old message (variant.Refused fault) octets answered new (inr worn) (silent, is) =
+      subst (λ a. WorksOne world may old message octets new a) (sym is)
+      (inr (inr (record { worn = worn; silent = silent })))
 
   -- the reply to a message has frames
   pub taken_frames : (old : Parts I P S W) (message : Message) (handled : Response) (new : Parts I P S W)

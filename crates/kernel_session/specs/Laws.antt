@@ -12,12 +12,12 @@ abbrev pub is_asked : SessionEnd → Bool
 is_asked (Shutdown restart) = true
 is_asked (Failed fault) = false
 
--- what the peer sent ended a session, and neither memory, a device nor the engine's refusal did
+-- what the peer sent ended a session; it wasn't want of memory, nor a device, nor a refusal of the engine
 abbrev pub IsSettled : Ending SessionEnd → Type 0
 IsSettled ending = IsSettledBy is_asked ending
 
--- a session has one value for given courses and dates, where what the peer sent ended it: what is written, what the
--- engine has come to, its publications among it, and the end
+-- By the same courses and dates a session has one value, if what the peer sent ended it. That is what is written, what
+-- the engine has come to, with its publications, and the end.
 abbrev pub SessionOnce : {State Cell Stop : Type 0} → Meaning State Cell → (Stop → Type 0) → Type 0
 SessionOnce {State} {Stop = Stop} m may_ask =
     (stop : Stop) (setting : Setting) (old one other : Standing State) (octets written also : List ℕ)
@@ -26,7 +26,7 @@ SessionOnce {State} {Stop = Stop} m may_ask =
     → IsSession m (may_ask stop) setting old octets also other end
     → (written ≡ also) × (one ≡ other) × (ending ≡ end)
 
--- a session that a fault, the command ERROR or a shutdown ended is the same, whatever the peer sends then
+-- a session that a fault, the command ERROR or a shutdown ended is the same, whatever the peer sends after that
 abbrev pub SessionStays : {State Cell Stop : Type 0} → Meaning State Cell → (Stop → Type 0) → Type 0
 SessionStays {State} {Stop = Stop} m may_ask =
     (stop : Stop) (setting : Setting) (old new : Standing State) (octets after written : List ℕ)

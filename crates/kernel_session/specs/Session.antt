@@ -1,5 +1,6 @@
 -- A session of an engine with one peer ('Messaging in Jupyter' 5.3, "Introduction", "The Wire Protocol" and "Kernel
--- status"): what is written to the peer and what is published for the octets that it sends, and how the session ends.
+-- status"). This tells what is written to the peer and what is published for the octets that it sends, and how the
+-- session ends.
 use Rattle.std.specs.Prelude.{◌≡◌, ◌≢◌, ◌⊎◌, ⊤, ℕ, ◌+◌, List, [], ◌∷◌, ◌++◌, length, Bool, true, false}
 use Rattle.std.specs.Prelude.{Option, Some, None, Ok, Err}
 use Rattle.zmtp_wire.specs.declared.fault.WireFault.TheVariants.{OutOfMemory}
@@ -28,19 +29,19 @@ use Rattle.zmtp_connection.specs.declared.fault.ConnectionFault.TheVariants.{Mem
 use Rattle.zmtp_connection.specs.declared.server.Answered.TheVariants.{Done, Dropped}
 use Rattle.zmtp_connection.specs.Server.{Answering, Serves}
 
--- What stays in a session: the channel, what messages are sealed with, and which texts may be dates.
+-- What doesn't change in a session: the channel, what messages are sealed with, and which texts may be dates.
 pub record Setting : Type 0 where
   pub side : Side
   pub sealing : Sealing
   pub is_date : List ℕ → Bool
 
--- How one request is done, where nothing else settles it: the course of its cell, and the date of its messages.
+-- What nothing else settles of how one request is done: the course of its cell, and the date of its messages.
 pub record Run (State : Type 0) : Type 0 where
   pub course : Course State
   pub date : List ℕ
 
 -- What an engine has come to between two requests: the interpreter's state, the execution count, the number of the next
--- id, what was published, and how the requests to come are done.
+-- id and what was published. It also says how the requests to come are done.
 pub record Standing (State : Type 0) : Type 0 where
   pub state : State
   pub count : ℕ
@@ -48,22 +49,22 @@ pub record Standing (State : Type 0) : Type 0 where
   pub published : List Message
   pub runs : List (Run State)
 
--- what the messages of a request share that is done so
+-- what the messages of a request share if it is done as a run says
 abbrev pub heading_by : {State : Type 0} → Run State → Envelope → Heading
 heading_by run request = record { date = run.date; parent = request.header }
 
--- the number behind those of a block: busy and idle have one each, and each publication between them
+-- the number that follows those of a block: busy and idle have one each, and so has each publication
 abbrev pub number_behind : ℕ → List Publication → ℕ
 number_behind number publications = number + 2 + length publications
 
--- the text of a reply on the wire, nothing where there is none
+-- the text of a reply on the wire, or nothing if there is no reply
 abbrev pub reply_text : Option Message → List ℕ
 reply_text None = []
 reply_text (Some reply) = text reply
 
 module _ {State Cell : Type 0} (m : Meaning State Cell) (may : Type 0) (setting : Setting) where
-  -- A request is done as the next run says: its block is published, with the numbers from the next one on, the text of
-  -- its reply answers it, and this is what the engine has come to then.
+  -- A request is done as the next run says. Its block is published, with the numbers from the next one on. The text of
+  -- its reply answers it, if it has one. This is what the engine has come to then.
   pub record DoesRequest (old : Standing State) (request : Envelope) (answer : Answer State) (reply : List ℕ)
       (new : Standing State) : Type 0 where
     pub run : Run State
@@ -95,7 +96,7 @@ module _ {State Cell : Type 0} (m : Meaning State Cell) (may : Type 0) (setting 
   abbrev pub DropsMessage : Standing State → Message → List ℕ → Standing State → Type 0
   DropsMessage old message reply new = IsNoRequest setting.sealing.key message × (reply ≡ []) × (new ≡ old)
 
-  -- A message is dropped, or done as a request; and the session goes on, or a request for a shutdown ends it.
+  -- A message is dropped, or done as a request. The session goes on, unless the request was one for a shutdown.
   abbrev pub Performs : Answering (Standing State) SessionEnd
   Performs old message reply new (Ok Done) = DropsMessage old message reply new
       ⊎ ((done : DoesMessage old message reply new) × (ends done.answer.order ≡ None))
@@ -109,9 +110,9 @@ module _ {State Cell : Type 0} (m : Meaning State Cell) (may : Type 0) (setting 
   abbrev pub IsSession : Standing State → List ℕ → List ℕ → Standing State → Ending SessionEnd → Type 0
   IsSession old octets written new ending = Serves false Performs Router old octets written new ending
 
--- A session that ended so came to an end by what was read, or by a read or a write: no memory and no id was wanting,
--- and no request came back for an idle that is owed. Where a write failed, it is that of the messages and PINGs up to
--- the one in whose reply or PONG it did: what comes before that is written, and a beginning of it.
+-- Whether the whole session is told of one that ended so: what was read ended it, or a read or a write failed. Memory
+-- and ids weren't wanting, and no request came back for an idle that is owed. If a write failed, the messages and PINGs
+-- are those up to the one whose reply or PONG it cut.
 abbrev pub IsTold : Ending SessionEnd → Type 0
 IsTold (Connection ended.Eof) = ⊤
 IsTold (Connection (ended.Wire fault)) = fault ≢ OutOfMemory

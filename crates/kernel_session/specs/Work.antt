@@ -1,5 +1,5 @@
 -- What an engine makes of the messages of a session, as its parts tell it.
-use Rattle.std.specs.Prelude.{◌≡◌, ◌⊎◌, ℕ, List, [], ◌++◌, Bool, Option, Some, None, Result, Ok, Err, map}
+use Rattle.std.specs.Prelude.{◌≡◌, ◌≤◌, ◌^◌, ◌⊎◌, ℕ, List, [], ◌++◌, Bool, Option, Some, None, Result, Ok, Err, map}
 use Rattle.interp_core.specs.Interpreter.{Meaning}
 use Rattle.iopub_event.specs.declared.event.Event.{Event}
 use Rattle.jmsg_envelope.specs.declared.envelope.Envelope.{Envelope}
@@ -16,7 +16,7 @@ use Rattle.kernel_engine.specs.declared.asked.Done.TheVariants as came
 use Rattle.kernel_engine.specs.Block.{Message}
 use Rattle.kernel_engine.specs.Growth.{item_of, sealing_of}
 use Rattle.kernel_engine.specs.Handles.{HandlesOk, HandlesErr, owed_items}
-use Rattle.kernel_engine.specs.Takes.{IsNoRequest}
+use Rattle.kernel_engine.specs.Takes.{IsNoRequest, IsWornOut}
 use Rattle.kernel_engine.specs.World.{World}
 use Rattle.kernel_session.specs.declared.end.SessionEnd.{SessionEnd}
 use Rattle.kernel_session.specs.declared.end.SessionEnd.TheVariants.{Shutdown, Failed}
@@ -33,10 +33,16 @@ module _ {I P S W Cell : Type 0} (world : World I P S W Cell) (may : Type 0) whe
     pub silent : reply ≡ []
     pub same : new ≡ old
 
-  -- no memory was left to open the message, and nothing changes
+  -- no memory was left to open the message, some ids are left, and nothing changes
   pub record Loses (old : Parts I P S W) (reply : List ℕ) (new : Parts I P S W) : Type 0 where
+    pub few : old.publishing.next ≤ 2 ^ 62
     pub silent : reply ≡ []
     pub same : new ≡ old
+
+  -- No memory was left to open the message, and all ids were given. That ends the session, and nothing changes.
+  pub record LosesWorn (old : Parts I P S W) (reply : List ℕ) (fault : EngineFault) (new : Parts I P S W) : Type 0 where
+    pub worn : IsWornOut old fault new
+    pub silent : reply ≡ []
 
   -- the message was opened as a request, which was handled
   pub record Works (old : Parts I P S W) (message : Message) (handled : Response) (new : Parts I P S W) : Type 0 where
@@ -44,7 +50,8 @@ module _ {I P S W Cell : Type 0} (world : World I P S W Cell) (may : Type 0) whe
     pub opened : Opened old.publishing.signer message request
     pub does : HandlesOk world may request old handled new
 
-  -- a request was handled, and its reply is written, where it has one; it asked for the end of the kernel or not
+  -- A request was handled. If it has a reply, that is written. It asked for the end of the kernel or not, as `asked`
+  -- says.
   pub record WorksThrough (asked : Option Bool) (old : Parts I P S W) (message : Message) (reply : List ℕ)
       (new : Parts I P S W) : Type 0 where
     pub handled : Response
@@ -76,9 +83,9 @@ module _ {I P S W Cell : Type 0} (world : World I P S W Cell) (may : Type 0) whe
   WorksOne old message reply new (Err (Shutdown restart)) =
       WorksThrough (Some restart) old message reply new
   WorksOne old message reply new (Err (Failed fault)) =
-      Refuses old message reply fault new ⊎ WorksInVain old message reply fault new
+      Refuses old message reply fault new ⊎ WorksInVain old message reply fault new ⊎ LosesWorn old reply fault new
 
--- what is added for a request that was handled, by how the session goes on or ends
+-- what is written for a request that was handled, by how the session goes on or ends
 abbrev pub Finishes : Response → List ℕ → Result Answered SessionEnd → Type 0
 Finishes handled octets (Ok goes.Done) = (octets ≡ reply_text handled.reply) × (ends handled.order ≡ None)
 Finishes handled octets (Ok goes.Dropped) = ⊥
@@ -86,14 +93,14 @@ Finishes handled octets (Err (Shutdown restart)) =
     (octets ≡ reply_text handled.reply) × (ends handled.order ≡ Some restart)
 Finishes handled octets (Err (Failed fault)) = (octets ≡ []) × (fault ≡ Memory)
 
--- what is added for what came of a message, by how the session goes on or ends
+-- what is written for what came of a message, by how the session goes on or ends
 abbrev pub Writes : Done → List ℕ → Result Answered SessionEnd → Type 0
 Writes came.Ignored octets answered = (octets ≡ []) × (answered ≡ Ok goes.Done)
 Writes came.Lost octets answered = (octets ≡ []) × (answered ≡ Ok goes.Dropped)
 Writes (came.Handled handled) octets answered = Finishes handled octets answered
 Writes (came.Refused fault) octets answered = (octets ≡ []) × (answered ≡ Err (Failed fault))
 
--- what stays of an engine in a session
+-- what doesn't change of an engine in a session
 abbrev pub setting_of : {I P S W : Type 0} → Stamping S → Parts I P S W → Setting
 setting_of stamp parts = record {
   side = parts.side;
@@ -101,7 +108,7 @@ setting_of stamp parts = record {
   is_date = stamp.is_date (stamp.meaning parts.publishing.stamp);
 }
 
--- what an engine has come to that published this, and does the requests to come so
+-- what an engine with these parts has come to, if it published this and does the requests to come so
 abbrev pub standing_of : {I P S W : Type 0} → Parts I P S W → List Message → List (Run I) → Standing I
 standing_of parts published runs = record {
   state = parts.interp;
@@ -111,12 +118,12 @@ standing_of parts published runs = record {
   runs = runs;
 }
 
--- what an engine published, and the idle that is owed
+-- what an engine published, and after that the idle that is owed, if one is
 abbrev pub all_items : {I P S W : Type 0} → Sink P (Event W) → Parts I P S W → List (Option (Event W))
 all_items sink parts = sink.items parts.publishing.sink ++ owed_items parts.owed
 
--- The engine was in a session: for some courses and dates, what was written, and what it published, with the idle that
--- is owed, are those of the session with a peer that sends these octets, and so is how the session ended.
+-- An engine was in a session with a peer that sends these octets. By some courses and dates that is a session which has
+-- what was written and how it ended. The engine published, or owes as an idle, just the messages of that session.
 pub record TellsSession {I P S W Cell : Type 0} (world : World I P S W Cell)
     (may : Type 0) (old : Parts I P S W) (octets written : List ℕ) (new : Parts I P S W) (ending : Ending SessionEnd)
     : Type 0 where

@@ -6,5 +6,5 @@ mod laws;
 mod working;
 
 pub use end::SessionEnd;
-pub use laws::law_one_session;
+pub use laws::{law_one_session, law_session_stays};
 pub use working::session;

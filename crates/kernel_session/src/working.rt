@@ -1,5 +1,5 @@
-//! Sessions of an engine with a peer: each message is opened, handled as a request, and its reply written; and each PING
-//! is answered.
+//! Sessions of an engine with a peer. Each message is opened, handled as a request, and its reply written, and each
+//! PING is answered.
 
 ghost use Rattle.std.specs.Prelude.{◌≡◌, ◌<◌, ◌++◌, ℕ, List, Bool, length, IfSome};
 ghost use Rattle.zmtp_wire.specs.declared.handshake.socket_type.SocketType.TheVariants.{Router};
@@ -23,7 +23,7 @@ use std::alloc::Global;
 use zmtp_connection::{Answered, Ending, Server, serve};
 use zmtp_wire::{Inlet, Message, Outlet, SocketType, write_message};
 
-/// What answers the messages of a peer, where the cell that runs may be stopped.
+/// What answers the messages of a peer, if the cell that runs may be stopped.
 trait Worker {
     /// One step, by whether a stop may come.
     ghost works: { Type 0 → Answering Self SessionEnd };
@@ -32,7 +32,7 @@ trait Worker {
     ///
     /// # Errors
     ///
-    /// How the session ends: `Shutdown` where the message asked for it, or `Failed` where it couldn't be done.
+    /// How the session ends: `Shutdown` if the message asked for it, or `Failed` if it couldn't be done.
     fn work<T: Stop>(
         &mut self,
         alloc: Global,
@@ -69,8 +69,8 @@ where
     }
 }
 
-/// Adds the text of the reply to a request that was handled, where it has one, and ends the session where the request
-/// asked for a shutdown.
+/// Adds the text of the reply to a request that was handled, if it has one, and ends the session if the request asked
+/// for a shutdown.
 fn finish(alloc: Global, handled: Response, reply: &mut Vec<u8>) -> Result<Answered, SessionEnd>
     requires { IfSome handled.reply (λ frames. 0 < length frames) }
     ensures finishes { (octets : List ℕ) × (reply.new.items ≡ reply.old.items ++ octets)
@@ -81,7 +81,7 @@ fn finish(alloc: Global, handled: Response, reply: &mut Vec<u8>) -> Result<Answe
     finished
 }
 
-/// Adds the text of the reply to a request that was handled, and ends the session where it asked for a shutdown.
+/// Adds the text of the reply to a request that was handled, and ends the session if it asked for a shutdown.
 fn tell(alloc: Global, handled: &Response, reply: &mut Vec<u8>) -> Result<Answered, SessionEnd>
     requires { IfSome handled.now.reply (λ frames. 0 < length frames) }
     ensures finishes { (octets : List ℕ) × (reply.new.items ≡ reply.old.items ++ octets)
@@ -154,12 +154,15 @@ fn employ<R: Inlet, W: Outlet, E: Worker, T: Stop>(
     )
 }
 
-/// A session of an engine with a peer, as a ROUTER: greeting out, greeting in, READY out, READY in, and then each
-/// message opened, done as a request and its reply written, and each PING answered by its PONG. A message that is no
-/// request under the engine's key is dropped. A request for a shutdown ends the session as `Shutdown` with whether to restart, its reply written, and
-/// nothing is read behind it. Where the engine refuses a request, the session ends `Failed` with its fault. One that no
-/// memory was left to open is dropped, and the session goes on and ends as the connection, `Failed` with `Memory`. At
-/// most `turns` reads are made.
+/// A session of an engine with a peer, as a ROUTER: greeting out, greeting in, READY out, READY in. After that each
+/// message is opened, done as a request and its reply written, and each PING is answered by its PONG. At most `turns`
+/// reads are made.
+///
+/// A message that is no request under the engine's key is dropped. A request for a shutdown ends the session as
+/// `Shutdown` with whether to restart. Its reply is written, and nothing is read after it. If the engine refuses a
+/// request, the session ends `Failed` with its fault. A message that no memory was left to open is dropped. The session
+/// goes on then, and ends as the connection, `Failed` with `Memory`. If all ids were given, it ends the session
+/// `Failed` with `Worn`.
 pub fn session<R: Inlet, W: Outlet, I: Interpreter, P, S: Stamp, X: Drop, T: Stop>(
     alloc: Global,
     reader: &mut R,
@@ -177,7 +180,7 @@ where
         (devices_at (R.inflow reader.new) left (W.outflow writer.new)) engine.new ended
         × (result ≡ told dropped ended) }
 
-    // Where what the peer sent ended it, or a read or a write did: what was written and published is the session's, for
+    // If what the peer sent ended it, or a read or a write did: what was written and published is the session's, for
     // some courses and dates.
     ensures tells { IsTold result → (left : ℕ) × Exchange (λ octets written.
         TellsSession (world_of I.meaning P.sink S.stamp) (T.may_ask stop.now) engine.old octets written engine.new

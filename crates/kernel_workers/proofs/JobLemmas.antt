@@ -17,12 +17,12 @@ use Rattle.kernel_engine.specs.declared.parts.Parts.{Parts}
 use Rattle.kernel_engine.specs.Handles.{Adds, HandlesErr}
 use Rattle.kernel_engine.specs.WellBlocked.{Block}
 use Rattle.kernel_engine.specs.Orders.{ends, order_of}
-use Rattle.kernel_engine.specs.Takes.{Asks, Finishes, Misses, Takes}
+use Rattle.kernel_engine.specs.Takes.{Asks, Finishes, GoesUnread, Takes}
 use Rattle.kernel_engine.specs.World.{World, world_of}
 use Rattle.iopub_queue.specs.Sink.{publisher_sink}
 use Rattle.kernel_workers.specs.declared.outcomes.Outcome.{Outcome}
 use Rattle.kernel_workers.specs.declared.outcomes.Outcomes.{Outcomes}
-use Rattle.kernel_workers.specs.Jobs.{EndsNothing, unread_done}
+use Rattle.kernel_workers.specs.Jobs.{EndsNothing}
 use Rattle.kernel_workers.specs.Outcomes.{Records}
 use Rattle.kernel_workers.specs.Staying.{IsSameEngine}
 
@@ -75,9 +75,10 @@ module _ {I S W Cell : Type 0} (m : Meaning I Cell) (stamps : Stamping S) (may :
   pub taken_same : (frames : List (List ℕ)) (old new : Parts I (Publisher (Event W)) S W) (done : Done)
       → Takes world may frames old done new → IsSameEngine stamps old new
   taken_same frames old new Ignored (none, same) = stays old new same
-  taken_same frames old new Lost same = stays old new same
+  taken_same frames old new Lost (few, same) = stays old new same
   taken_same frames old new (Handled handled) (request, opened, ok) = added ok.block old new ok.adds
-  taken_same frames old new (Refused fault) (request, opened, why) = refused_same request old new fault why
+  taken_same frames old new (Refused fault) (inl (request, opened, why)) = refused_same request old new fault why
+  taken_same frames old new (Refused fault) (inr worn) = stays old new worn.same
 
   -- what came of a request that doesn't ask for the kernel's end
   pub ends_nothing : (frames : List (List ℕ)) (asked : Asked) (old new : Parts I (Publisher (Event W)) S W) (done : Done)
@@ -92,10 +93,10 @@ module _ {I S W Cell : Type 0} (m : Meaning I Cell) (stamps : Stamping S) (may :
   )
   ends_nothing frames asked old new (Refused fault) asks none why = tt
 
-  -- a message that isn't read was taken, and doesn't ask for the kernel's end
-  pub unread_taken : (frames : List (List ℕ)) (unread : Unread) (done : Done)
-      (engine : Parts I (Publisher (Event W)) S W) → Misses engine.publishing.signer frames unread
-      → done ≡ unread_done unread
-      → Takes world may frames engine done engine × EndsNothing engine.publishing.signer engine.side frames done
-  unread_taken frames NoRequest done engine misses is = rw (is) ((misses, refl), tt)
-  unread_taken frames NoMemory done engine misses is = rw (is) (refl, tt)
+  -- a message that isn't read doesn't ask for the kernel's end, as far as it is known
+  pub unread_ends : (frames : List (List ℕ)) (unread : Unread) (done : Done)
+      (engine : Parts I (Publisher (Event W)) S W) → GoesUnread engine unread done
+      → EndsNothing engine.publishing.signer engine.side frames done
+  unread_ends frames NoRequest done engine is = rw (is) tt
+  unread_ends frames NoMemory done engine (inl (few, is)) = rw (is) tt
+  unread_ends frames NoMemory done engine (inr (many, is)) = rw (is) tt

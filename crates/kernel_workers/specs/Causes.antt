@@ -9,14 +9,15 @@ use Rattle.kernel_engine.specs.declared.does.Order.TheVariants.{GoOn, Interrupt,
 use Rattle.kernel_workers.specs.declared.ended.Cause.{Cause}
 use Rattle.kernel_workers.specs.declared.ended.Cause.TheVariants.{Told, Shutdown, Asked, Worn}
 
--- whether the kernel is to begin anew, if a request for a shutdown was handled
+-- whether the kernel is to begin anew, if a request for a shutdown ended the worker
 abbrev pub restart_of : Cause → Option Bool
 restart_of Told = None
 restart_of (Shutdown restart) = Some restart
 restart_of (Asked asking) = None
 restart_of Worn = None
 
--- what a request for a shutdown says of whether the kernel is to begin anew: nothing if it was refused
+-- What a request for a shutdown that was left for later says of whether the kernel is to begin anew. If the request was
+-- refused, it says nothing.
 abbrev pub word_of : Option EngineFault → Bool → Option Bool
 word_of None restart = Some restart
 word_of (Some fault) restart = None
@@ -27,13 +28,13 @@ cause_of_order GoOn = None
 cause_of_order Interrupt = None
 cause_of_order (End restart) = Some (Shutdown restart)
 
--- the cause that a fault is: if all ids were given
+-- the cause that a fault is, if it ends the worker: only that all ids were given does
 abbrev pub cause_of_fault : EngineFault → Option Cause
 cause_of_fault (faults.OwedIdle request) = None
 cause_of_fault faults.Memory = None
 cause_of_fault faults.Worn = Some Worn
 
--- the cause that what came of a message is
+-- why the worker ends after what came of a message, if it does
 abbrev pub cause_of : Done → Option Cause
 cause_of came.Ignored = None
 cause_of came.Lost = None

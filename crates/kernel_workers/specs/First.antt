@@ -1,7 +1,7 @@
--- The first of a list.
+-- The first message of a list.
 use Rattle.std.specs.Prelude.{ℕ, List, [], ◌∷◌}
 
--- the message of a list of one
+-- the first message of a list, or no frames if the list is empty
 abbrev pub first_of : List (List (List ℕ)) → List (List ℕ)
 first_of [] = []
 first_of (message ∷ messages) = message

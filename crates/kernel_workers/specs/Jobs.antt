@@ -7,8 +7,6 @@ use Rattle.jmsg_envelope.specs.declared.envelope.Envelope.{Envelope}
 use Rattle.kernel_engine.specs.declared.asked.Asked.{Asked}
 use Rattle.kernel_engine.specs.declared.asked.Done.{Done}
 use Rattle.kernel_engine.specs.declared.asked.Done.TheVariants.{Ignored, Lost, Handled, Refused}
-use Rattle.kernel_engine.specs.declared.asked.Unread.{Unread}
-use Rattle.kernel_engine.specs.declared.asked.Unread.TheVariants.{NoRequest, NoMemory}
 use Rattle.kernel_engine.specs.declared.side.Side.{Side}
 use Rattle.kernel_engine.specs.declared.side.Side.TheVariants.{Shell, Control}
 use Rattle.kernel_engine.specs.Comes.{message_comes}
@@ -36,30 +34,26 @@ abbrev pub answered_in : List Answer → List (List (List ℕ))
 answered_in [] = []
 answered_in (answer ∷ more) = answer.to ∷ answered_in more
 
--- The jobs that came out of an inbox since it was this have one answer each, in their order, and there is no other.
+-- Each job that came out of an inbox since it was `before` has one answer, in the order of the jobs, and there is no
+-- other answer.
 abbrev pub AreAnswered : List (Option Job) → List (Option Job) → List Answer → Type 0
 AreAnswered before inbox answers = messages_of inbox ≡ messages_of before ++ answered_in answers
 
--- what comes of a message that isn't read
-abbrev pub unread_done : Unread → Done
-unread_done NoRequest = Ignored
-unread_done NoMemory = Lost
-
--- What may become of a job: whether it may be left undone with all that come after it, whether a request for a shutdown
--- is left for later, and whether a cell may be interrupted.
+-- What may become of a job. `may_leave`: it may be left undone, with all that come after it. `may_hold`: if it is a
+-- request for a shutdown it is left for later. `may_ask`: its cell may be interrupted.
 pub record Doing : Type 1 where
   pub may_leave : Type 0
   pub may_hold : Type 0
   pub may_ask : Type 0
 
--- What may become of a job of a channel. On shell jobs may be left undone, since the kernel is to end, and a cell
--- interrupted; on control a request for a shutdown is left for later.
+-- What may become of a job of a channel. On shell it may be left undone, with all that come after it, and a cell may be
+-- interrupted. On control neither may be, but a request for a shutdown is left for later.
 abbrev pub doing_of : Side → Doing
 doing_of Shell = record { may_leave = Unit; may_hold = ⊥; may_ask = Unit }
 doing_of Control = record { may_leave = ⊥; may_hold = Unit; may_ask = ⊥ }
 
--- What came of frames on control, if a request for a shutdown is left for later: one that was handled is of a request
--- that asks for no end. One that was refused may have been a shutdown that no memory was left to read.
+-- What came of frames on control, if a request for a shutdown is left for later. If a request was handled it is one
+-- that asks for no end. If one was refused, it may have been for a shutdown and there was no memory to read it.
 abbrev pub EndsNothing : List ℕ → Side → List (List ℕ) → Done → Type 0
 EndsNothing key side frames Ignored = ⊤
 EndsNothing key side frames Lost = ⊤
@@ -68,13 +62,13 @@ EndsNothing key side frames (Handled handled) = (request : Envelope) × Opened k
 EndsNothing key side frames (Refused fault) = ⊤
 
 module _ {I S W R Cell : Type 0} where
-  -- a worker took this out of its inbox
+  -- a worker took the next out of its inbox: a job, or that it is to end
   pub record TakesOut (old : Work I S W R Cell) (next : Option Job) (new : Work I S W R Cell) : Type 0 where
     pub inbox : new.inbox ≡ old.inbox ++ next ∷ []
     pub engine : new.engine ≡ old.engine
     pub outcomes : new.outcomes ≡ old.outcomes
 
-  -- the frames of a job were left undone, since the kernel is to end
+  -- The frames of a job were left undone, and their answer says that the kernel is to end.
   pub record LeavesJob (frames : List (List ℕ)) (old new : Work I S W R Cell) : Type 0 where
     pub engine : new.engine ≡ old.engine
     pub inbox : new.inbox ≡ old.inbox
@@ -93,8 +87,8 @@ module _ {I S W R Cell : Type 0} where
     pub told : TakesOut last None new
     pub engine : new.engine ≡ old.engine
 
-  -- The frames of a job were left undone, since the kernel is to end, and so were all that came after it, until the
-  -- worker was told to end; then it ends.
+  -- The frames of a job were left undone, and so were all that came after them until the worker was told to end. Then
+  -- it ends.
   pub record LeavesAll (frames : List (List ℕ)) (old : Work I S W R Cell) (cause : Option Cause)
       (new : Work I S W R Cell) : Type 0 where
     pub one : Work I S W R Cell
@@ -102,7 +96,7 @@ module _ {I S W R Cell : Type 0} where
     pub rest : LeavesRest one new
     pub cause_is : cause ≡ Some causes.Told
 
-  -- The frames of a job are a request for a shutdown, which is left for later, and its reply, too: nothing changes, and
+  -- The frames of a job are a request for a shutdown. It is left for later, and so is its reply. Nothing changes, and
   -- the worker ends.
   pub record HoldsJob (frames : List (List ℕ)) (old : Work I S W R Cell) (cause : Option Cause)
       (new : Work I S W R Cell) : Type 0 where
@@ -116,8 +110,8 @@ module _ {I S W R Cell : Type 0} where
     pub same : new ≡ old
 
 module _ {I S W R Cell : Type 0} (world : World I (Publisher (Event W)) S W Cell) (may : Doing) where
-  -- The frames of a job were taken, and what came of them was noted, and says whether the worker ends. If a request for
-  -- a shutdown is left for later, they were none.
+  -- The frames of a job were taken. What came of them was noted, and says whether the worker ends. If requests for a
+  -- shutdown are left for later, this was none of them.
   pub record TakesJob (frames : List (List ℕ)) (old : Work I S W R Cell) (cause : Option Cause)
       (new : Work I S W R Cell) : Type 0 where
     pub done : Done
@@ -127,18 +121,19 @@ module _ {I S W R Cell : Type 0} (world : World I (Publisher (Event W)) S W Cell
     pub cause_is : cause ≡ cause_of done
     pub goes_on : may.may_hold → EndsNothing old.engine.publishing.signer old.engine.side frames done
 
-  -- A job was done; or if that may be, it and all after it were left undone; or if that may be, it was left for later.
+  -- A job was done. Or, if the channel allows that, it was left undone with all after it, or it was left for later.
   abbrev pub DoesJob : List (List ℕ) → Work I S W R Cell → Option Cause → Work I S W R Cell → Type 0
   DoesJob frames old cause new = (may.may_leave × LeavesAll frames old cause new)
       ⊎ (may.may_hold × HoldsJob frames old cause new) ⊎ TakesJob frames old cause new
 
-  -- A worker took a job out of its inbox and did it; or it was told to end, and ends.
+  -- A worker took a job out of its inbox and did it, or it was told to end and ends.
   pub data TakesTurn (old : Work I S W R Cell) (cause : Option Cause) (new : Work I S W R Cell) : Type 0 where
     does : (job : Job) (taken : Work I S W R Cell) → TakesOut old (Some job) taken → DoesJob job.frames taken cause new
         → TakesTurn old cause new
     told : TakesOut old None new → cause ≡ Some causes.Told → TakesTurn old cause new
 
-  -- A worker took its turns, one after the other, each with what the one before left. Only the last may end it.
+  -- A worker took its turns, one after the other, each with what the one before left. Only the last one may end the
+  -- worker.
   pub data TakesTurns (first : Work I S W R Cell) : Option Cause → Work I S W R Cell → Type 0 where
     nothing : TakesTurns first None first
     one_more : (middle : Work I S W R Cell) (cause : Option Cause) (last : Work I S W R Cell)

@@ -8,7 +8,7 @@ use Rattle.kernel_workers.specs.declared.outcomes.Outcome.TheVariants.{Replied, 
 use Rattle.kernel_workers.specs.declared.outcomes.Outcome.TheVariants.{Ending}
 use Rattle.kernel_workers.specs.declared.outcomes.Outcomes.{Outcomes}
 
--- what became of a message that was done, by its reply, if it has one
+-- what became of a message that was handled, by whether it has a reply
 abbrev pub replied_by : Option (List (List ℕ)) → Outcome
 replied_by None = NoReply
 replied_by (Some reply) = Replied reply
@@ -29,12 +29,12 @@ is_undone NoMemory = true
 is_undone Refused = true
 is_undone Ending = true
 
--- a count of jobs after one more, which counts if this is so: at the greatest count it stays
+-- A count of jobs after one more, which counts or doesn't. The greatest count stays as it is.
 abbrev pub counted : Bool → ℕ → ℕ
 counted true count = risen count
 counted false count = count
 
--- A message was answered by what became of it, and counted if it wasn't done to its end.
+-- What became of a message was noted as its answer. If the message wasn't done to its end, it was counted.
 pub record Records (message : List (List ℕ)) (outcome : Outcome) (old new : Outcomes) : Type 0 where
   pub answered : new.answers ≡ old.answers ++ record { to = message; outcome = outcome } ∷ []
   pub counts : new.undone ≡ counted (is_undone outcome) old.undone

@@ -41,13 +41,14 @@ use Rattle.kernel_workers.specs.Shutdown.{EndsInOrder}
 use Rattle.kernel_workers.specs.Starting.{Setup, beginning, newcomer}
 use Rattle.kernel_workers.specs.Works.{WorksOff}
 
--- the number of a kernel's fault
+-- The number of a kernel's fault. A fault of its queue has the number that the queue gives it: 60 to 62. 65: a thread
+-- couldn't be made.
 abbrev pub kernel_fault_number : KernelFault → ℕ
 kernel_fault_number (Queue fault) = open_fault_number fault
 kernel_fault_number NoThread = 65
 
--- Why a kernel of this capacity doesn't run: the capacity is judged first, and only where it is one of a queue can
--- memory or a thread be wanting. The count of its publishers is never refused.
+-- Why a kernel of this capacity doesn't run. The capacity is judged first. Only if it is one that a queue may have,
+-- memory or a thread can be wanting. The count of its publishers is never refused.
 abbrev pub FailsBy : ℕ → KernelFault → Type 0
 FailsBy capacity (Queue Count) = ⊥
 FailsBy capacity (Queue Capacity) = ¬ IsCapacity capacity
@@ -71,8 +72,8 @@ restart_by None None = false
 abbrev pub taken_of : {W R : Type 0} → KernelEnd W R → List (Entry (Event W))
 taken_of ended = ended.relay.value.taker.taken
 
--- A kernel ended with all that was published taken: of each of its three publishers up to its close, and nothing else.
--- Its subscribers are those that are left of its relay, which took that.
+-- A kernel ended, and all that was published was taken: of each of its three publishers up to its close, and nothing
+-- else. Its subscribers are those that are left of its relay, which took that.
 pub record TookAll {W R : Type 0} (outflow : W → Outflow) (ended : KernelEnd W R) : Type 0 where
   pub says : ended.complete ≡ true
   pub count : ended.relay.value.taker.count ≡ 3
@@ -81,7 +82,7 @@ pub record TookAll {W R : Type 0} (outflow : W → Outflow) (ended : KernelEnd W
   pub others : AreOfNumbers 3 (taken_of ended)
   pub left : IsLeftOf outflow (taken_of ended) ended.no_room ended.subscribers.items
 
--- it took just these lists of shell, of control and of subscriptions, from a queue
+-- a kernel took from a queue just these lists, of shell, of control and of subscriptions
 pub record TookEach {W R : Type 0} (outflow : W → Outflow) (queue : TableId)
     (shell control subscriptions : List (Option (Event W))) (ended : KernelEnd W R) : Type 0 where
   pub took : TookAll outflow ended
@@ -98,15 +99,15 @@ pub record TellsOf {W R : Type 0} (outflow : W → Outflow) (relay : Relaying W)
   pub restart_is : ended.restart ≡ restart
   pub left : IsLeftOf outflow relay.taker.taken ended.no_room ended.subscribers.items
 
--- the tokens are the one that the worker of a publisher of subscriptions left, with room for two more
+-- There is one token: the one that the worker of this publisher of subscriptions left. There is room for two more.
 pub record IsLast {W : Type 0} (publisher : Publishing (Event W)) (tokens : Vec (Publishing (Event W))) : Type 0 where
   pub closed : Publishing (Event W)
   pub alone : tokens.items ≡ closed ∷ []
   pub ends : EndsSilent publisher closed
   pub room : 3 ≤ vec_capacity tokens
 
--- How a kernel ends that has these engines of shell and control: all that was published was taken, and what was taken
--- of each of the two is well blocked. Of shell it is all that its engine published. Of subscriptions no message was
+-- How a kernel ends that has these engines of shell and control. All that was published was taken. What was taken of
+-- each of the two is well blocked, and of shell it is all that its engine published. Of subscriptions no message was
 -- taken.
 pub record EndsOver {I S W R Cell : Type 0} (m : Meaning I Cell) (stamps : Stamping S) (outflow : W → Outflow)
     (shell control : Engine I (Publishing (Event W)) S W) (ended : KernelEnd W R) : Type 0 where
@@ -122,7 +123,7 @@ pub record Did : Type 0 where
   pub jobs : List (Option Job)
   pub outcomes : Outcomes
 
--- what the workers of shell and of control did, and whether it was published that the kernel starts
+-- what the workers of shell and of control did, and whether shell's worker began as it should (`Starts`)
 pub record BothDid : Type 0 where
   pub started : Bool
   pub shell : Did
@@ -140,8 +141,8 @@ did_by work = record { jobs = work.inbox; outcomes = work.outcomes }
 abbrev pub both_did : KernelWork → BothDid
 both_did work = record { started = work.started; shell = did_of work.shell; control = did_of work.control }
 
--- What is left of a kernel as the workers of shell and of control have ended: their engines, the publisher of
--- subscriptions as it was given, what the two did, and whether shell was asked for a shutdown.
+-- What is left of a kernel after the workers of shell and of control have ended. That is their engines, the publisher
+-- of subscriptions as it was given, what the two did, and whether shell was asked for a shutdown.
 pub record Leaving (I S W : Type 0) : Type 0 where
   pub shell : Engine I (Publishing (Event W)) S W
   pub control : Engine I (Publishing (Event W)) S W
@@ -159,8 +160,8 @@ leaving left work of_shell = record {
   of_shell = of_shell;
 }
 
--- A kernel ended without a request for a shutdown on control: what was taken of control is all that its engine
--- published, and shell's word says whether it is to begin anew.
+-- A kernel ended without a request for a shutdown on control. What was taken of control is all that its engine
+-- published. What shell was asked says whether the kernel is to begin anew.
 pub record EndsAtOnce {I S W R : Type 0} (left : Leaving I S W) (ended : KernelEnd W R) : Type 0 where
   pub control_is : of 1 (taken_of ended) ≡ closed_list left.control
   pub did_is : both_did ended.work ≡ left.did
@@ -171,14 +172,15 @@ abbrev pub last_outcome : Option (List (List ℕ)) → Option EngineFault → Ou
 last_outcome reply None = replied_by reply
 last_outcome reply (Some fault) = Refused
 
--- a request for a shutdown was answered, after all that control had answered
+-- a request for a shutdown was answered after all that control had answered before
 pub record AnswersLast (message : List (List ℕ)) (reply : Option (List (List ℕ))) (fault : Option EngineFault)
     (old new : BothDid) : Type 0 where
   pub records : Records message (last_outcome reply fault) old.control.outcomes new.control.outcomes
   pub rest : new ≡ record old { control = record old.control { outcomes = new.control.outcomes } }
 
--- How a kernel ends that was shut down by a request on control: in order, its relay's end told, and whether it is to
--- begin anew. The request's word of that counts before shell's. Its reply is the last that control answered.
+-- How a kernel ends that was shut down by a request on control. It ends in order, and tells its relay's end and whether
+-- it is to begin anew. If shell was asked for a shutdown, too, the request on control counts. Its reply is the last
+-- that control answered.
 pub record ShutsDown {I S W Cell : Type 0} (R : Type 0) (m : Meaning I Cell) (stamps : Stamping S)
     (outflow : W → Outflow) (asking : Asking) (relay : Relaying W) (left : Leaving I S W) (ended : KernelEnd W R) : Type 0 where
   pub end : ShutdownEnd W R
@@ -186,7 +188,7 @@ pub record ShutsDown {I S W Cell : Type 0} (R : Type 0) (m : Meaning I Cell) (st
   pub answers : AnswersLast asking.to end.reply end.fault left.did (both_did ended.work)
   pub tells : TellsOf outflow end.relay end.complete (restart_by (word_of end.fault end.restart) left.of_shell) ended
 
--- how a kernel ends by why control's worker did
+-- how a kernel ends, by why control's worker ended
 abbrev pub EndsFor : {I S W Cell : Type 0} (R : Type 0) → Meaning I Cell → Stamping S → (W → Outflow) → Cause
     → Leaving I S W → KernelEnd W R → Type 0
 EndsFor R m stamps outflow Told left ended = EndsAtOnce left ended
@@ -195,7 +197,7 @@ EndsFor {W = W} R m stamps outflow (Asked asking) left ended =
     (relay : Relaying W) × ShutsDown R m stamps outflow asking relay left ended
 EndsFor R m stamps outflow Worn left ended = EndsAtOnce left ended
 
--- what is left of a kernel whose workers of shell and control left this
+-- what is left of a kernel, if its workers of shell and control left this
 abbrev pub leaving_by : {I S W R Cell : Type 0} → Ended I S W R Cell → Ended I S W R Cell → Publishing (Event W)
     → Leaving I S W
 leaving_by shell control subscriptions = record {
@@ -207,7 +209,7 @@ leaving_by shell control subscriptions = record {
 }
 
 -- How a kernel ends whose workers were given this. Those of shell and of control did the jobs of their inboxes. What
--- was taken of each is what its engine published by that, and what its end tells of jobs and answers is theirs.
+-- was taken of each is what its engine published by that. The jobs and answers that the kernel's end tells are theirs.
 pub record EndsBy {I S W Cell : Type 0} (R : Type 0) (m : Meaning I Cell) (stamps : Stamping S)
     (outflow : W → Outflow) (setup : Setup I S W) (ended : KernelEnd W R) : Type 0 where
   pub took : TookAll outflow ended
@@ -223,14 +225,14 @@ pub record EndsBy {I S W Cell : Type 0} (R : Type 0) (m : Meaning I Cell) (stamp
   pub ends : EndsFor R m stamps outflow control.cause (leaving_by shell control setup.subscriptions) ended
 
 -- How a kernel ends. All that was published was taken, by the relay that it hands back. What was taken of shell, and of
--- control, is well blocked: each request's messages stand between its busy and its idle, signed with the kernel's key,
--- under the ids and dates of the channel's stamp. Of subscriptions no message was taken. Each subscriber that is left
--- got the texts of the messages of its life that match its topics, and the PONGs that it asked for, or that up to an
--- event at which it failed.
+-- control, is well blocked: each request's messages stand between its busy and its idle. They are signed with the
+-- kernel's key, under ids and dates of the channel's stamp. Of subscriptions no message was taken. Each subscriber that
+-- is left got the texts of the messages of its life that match its topics, and the PONGs that it asked for. If it has
+-- failed, it got that up to an event.
 --
 -- The blocks are those of the jobs that came out of the channel's own inbox, in their order, by the channel's own
--- interpreter, stamp and key. Which jobs these were, and what became of each, the kernel's end tells: each has one
--- answer, in their order.
+-- interpreter, stamp and key. The kernel's end tells which jobs these were, and what became of each. Each has one
+-- answer, in the order of the jobs.
 pub record EndsWell {I S W Cell : Type 0} (R : Type 0) (m : Meaning I Cell) (stamps : Stamping S)
     (outflow : W → Outflow) (parts : Parts I S W) (ended : KernelEnd W R) : Type 0 where
   pub capacity : IsCapacity parts.capacity

@@ -1,4 +1,5 @@
--- The ordered end of a kernel: shell's, then control's behind it.
+-- The ordered end of a kernel ('Messaging in Jupyter' 5.3, "Kernel shutdown"): that of shell, and after it that of
+-- control.
 use Rattle.std.specs.Prelude.{◌≡◌, ◌⊎◌, ◌≤◌, ◌<◌, ◌+◌, ◌^◌, ℕ, List, length, Bool, false, Option, Some, None}
 use Rattle.std.specs.Prelude.{Result, Ok, Err, MatchResult, IsTrue, ◌↔◌, vec_capacity}
 use Rattle.std.specs.Global.{Vec}
@@ -28,7 +29,7 @@ use Rattle.kernel_workers.specs.declared.draining.Drained.TheVariants.{Back, Ser
 use Rattle.kernel_workers.specs.declared.shutdown.ShutdownEnd.{ShutdownEnd}
 use Rattle.kernel_workers.specs.Ending.{EndsBlocked, IsBlockedBy, closed_list}
 
--- a publisher as the one that it is
+-- an engine's publisher is its sink itself
 abbrev pub itself : {T : Type 0} → Publishing T → Publishing T
 itself publisher = publisher
 
@@ -45,12 +46,12 @@ module _ {W : Type 0} where
     pub each : (number : ℕ) → number < taker.count → ((number ≡ shell) ⊎ (number ≡ control)) ⊎ HasNumber number tokens
 
 module _ {W R : Type 0} where
-  -- what becomes of a relay in a thread of its own: nothing, or it served what was published
+  -- What becomes of a relay in a thread of its own. It did nothing and came back, or it served what was published.
   abbrev pub DrainsFrom : Relaying W → Drained W R → Type 0
   DrainsFrom relay (Back same) = same ≡ relay
   DrainsFrom relay (Served new) = TakesMore relay.taker new.taker
 
-  -- a relay did nothing, and came back
+  -- a relay that did nothing came back
   abbrev pub IsBack : Drained W R → Relaying W → Type 0
   IsBack (Back same) relay = same ≡ relay
   IsBack (Served new) relay = ⊥
@@ -80,14 +81,14 @@ module _ {I S W : Type 0} where
   IsOneQueue shell control relay =
       (shell.publishing.sink.queue ≡ relay.taker.queue) × (control.publishing.sink.queue ≡ relay.taker.queue)
 
-  -- what gives tokens gives those of all publishers but shell's and control's, with room for these two
+  -- What gives tokens gives those of all publishers but shell's and control's. It has room for these two.
   abbrev pub GivesRest : Engine I S W → Engine I S W → Relaying W → (Vec (Publishing (Event W)) → Type 0) → Type 0
   GivesRest shell control relay Gives = (tokens : Vec (Publishing (Event W))) → Gives tokens
       → IsRest relay.taker shell.publishing.sink.number control.publishing.sink.number tokens.items
       × (length tokens.items + 2 ≤ vec_capacity tokens)
 
 module _ {I S W Cell : Type 0} (m : Meaning I Cell) (stamps : Stamping S) where
-  -- what came of a request that control handled behind a word, never interrupted
+  -- what came of a request that control handled after all that a word tells; its cell, if any, is never interrupted
   abbrev pub DoesLast : List (Entry (Event W)) → Envelope → Engine I S W → Result Handled EngineFault → Engine I S W
       → Type 0
   DoesLast word request old done new = MatchResult done
@@ -95,7 +96,7 @@ module _ {I S W Cell : Type 0} (m : Meaning I Cell) (stamps : Stamping S) where
       × HandlesLast (world_of m publisher_sink stamps) itself ⊥ request word old response new)
       (λ fault. HandlesLastErr (world_of m publisher_sink stamps) itself ⊥ request word old fault new)
 
-  -- Shell closed, and control handled a request behind all that shell's closing token tells, and closed.
+  -- Shell closed. Then control handled a request after all that shell's closing token tells, and closed.
   pub record ClosesInOrder (shell control : Engine I S W) (request : Envelope) (shell_closed control_closed :
       Publishing (Event W)) (done : Result Handled EngineFault) : Type 0 where
     pub shell_ends : EndsBlocked m stamps shell shell_closed
@@ -109,12 +110,13 @@ module _ {I S W Cell : Type 0} (m : Meaning I Cell) (stamps : Stamping S) where
     pub behind : after.owed ≡ None
         → StandsBehind control_closed.told (control.publishing.sink.number, None) after.publishing.sink.told
 
-  -- what an engine of a channel published, and its close, is all of its part of what was taken, and well blocked
+  -- The part of an engine's channel in what was taken is all that the engine published, with its close, and is well
+  -- blocked.
   abbrev pub IsBlockedIn : Engine I S W → List (Entry (Event W)) → Type 0
   IsBlockedIn engine taken = IsBlockedBy m stamps engine (of engine.publishing.sink.number taken)
 
-  -- The request was handled, after which control's engine is this: it has this reply, and if all was taken its idle is
-  -- behind all that the word tells.
+  -- The request was handled, and control's engine is then `after`. The request has this reply. If all was taken, its
+  -- idle was taken after all that the word tells.
   pub record RepliesInOrder {R : Type 0} (control : Engine I S W) (request : Envelope) (word : List (Entry (Event W)))
       (after : Engine I S W) (end : ShutdownEnd W R) : Type 0 where
     pub response : Response
@@ -127,7 +129,7 @@ module _ {I S W Cell : Type 0} (m : Meaning I Cell) (stamps : Stamping S) where
       item_of (idle_of (sealing_of stamps control.publishing) handles.handles.block),
     ) word
 
-  -- The block of the request was cut, and if all was taken its idle is behind all that the word tells.
+  -- The block of the request was cut. If all was taken, its idle was taken after all that the word tells.
   pub record CutInOrder {R : Type 0} (control : Engine I S W) (request : Envelope) (word : List (Entry (Event W)))
       (after : Engine I S W) (end : ShutdownEnd W R) : Type 0 where
     pub cut : HandlesCut (world_of m publisher_sink stamps) ⊥ request control after
@@ -136,7 +138,7 @@ module _ {I S W Cell : Type 0} (m : Meaning I Cell) (stamps : Stamping S) where
       item_of (idle_of (sealing_of stamps control.publishing) cut.block),
     ) word
 
-  -- what each refusal of the request says
+  -- what each fault says of the request that was refused
   abbrev pub RefusesBy : {R : Type 0} → Engine I S W → Envelope → List (Entry (Event W)) → Engine I S W
       → ShutdownEnd W R → EngineFault → Type 0
   RefusesBy control request word after end (OwedIdle back) =
@@ -145,7 +147,7 @@ module _ {I S W Cell : Type 0} (m : Meaning I Cell) (stamps : Stamping S) where
       HandlesNot (world_of m publisher_sink stamps) control after ⊎ CutInOrder control request word after end
   RefusesBy control request word after end Worn = (2 ^ 62 < control.publishing.next) × (after ≡ control)
 
-  -- The request was refused, after which control's engine is this: there is no reply, and this is why.
+  -- The request was refused, and control's engine is then `after`. There is no reply, and the fault tells why.
   pub record RefusesInOrder {R : Type 0} (control : Engine I S W) (request : Envelope) (word : List (Entry (Event W)))
       (after : Engine I S W) (end : ShutdownEnd W R) : Type 0 where
     pub why : EngineFault
@@ -154,11 +156,11 @@ module _ {I S W Cell : Type 0} (m : Meaning I Cell) (stamps : Stamping S) where
     pub restart : end.restart ≡ false
     pub fault : end.fault ≡ Some why
 
-  -- How a kernel ends that is shut down in order, by the relay that it was given, which took more, and by the tokens
-  -- that `rest` gave. Shell publishes what it has, and its close; control what the request brings behind what it has,
-  -- and its close. What was taken of each, and of each other publisher, is a beginning of what it published, and all of
-  -- it if it is complete: then shell's and control's parts are well blocked. The word tells all that shell published,
-  -- its close too, and the idle of the request is behind that.
+  -- How a kernel ends that is shut down in order. Its relay may have taken more since, and its tokens are such as
+  -- `Gives` allows. Shell publishes what it has, and its close. After that control publishes what the request brings,
+  -- and its close. What was taken of each publisher is a beginning of what it published. If all is complete it is all
+  -- of it, and shell's and control's parts are well blocked. The word tells all that shell published, with its close,
+  -- and the idle of the request comes after that.
   pub record EndsInOrder {R : Type 0} (shell control : Engine I S W) (request : Envelope) (relay : Relaying W)
       (Gives : Vec (Publishing (Event W)) → Type 0) (end : ShutdownEnd W R) : Type 0 where
     pub tokens : Vec (Publishing (Event W))

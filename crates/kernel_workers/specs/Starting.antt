@@ -1,4 +1,4 @@
--- A kernel's queue as it is opened, and its workers as they are set up.
+-- A kernel's queue after it was opened, and its workers after they were set up.
 use Rattle.std.specs.Prelude.{◌≡◌, ℕ, List, [], Option, None}
 use Rattle.atomic_table.specs.Seated.{TableId}
 use Rattle.iopub_event.specs.declared.event.Event.{Event}
@@ -36,7 +36,7 @@ pub record AreOfOne {T : Type 0} (shell control subscriptions : Publishing T) (t
   pub subscriptions_are : subscriptions.number ≡ 2
   pub count : taker.count ≡ 3
 
--- an engine of a channel that has published nothing: with this interpreter and stamp, this key and this publisher
+-- an engine of a channel that has published nothing, with this interpreter and stamp, this key and this publisher
 abbrev pub beginning : {I S W : Type 0} → Side → I × S → List ℕ → Publishing (Event W)
     → Engine I (Publishing (Event W)) S W
 beginning side language key publisher = record {
@@ -47,19 +47,19 @@ beginning side language key publisher = record {
   owed = None;
 }
 
--- what a worker of shell or control is given: its engine, and its inbox with what came out of that before
+-- What a worker of shell or control is given: its engine, and its inbox, which tells what came out of it before.
 pub record Given (I S W : Type 0) : Type 0 where
   pub side : Side
   pub engine : Engine I (Publishing (Event W)) S W
   pub inbox : List (Option Job)
 
--- what the workers of a kernel are given that publish
+-- what those workers of a kernel are given that publish
 pub record Setup (I S W : Type 0) : Type 0 where
   pub shell : Given I S W
   pub control : Given I S W
   pub subscriptions : Publishing (Event W)
 
--- a worker of a channel promises by what it was given
+-- what a worker of a channel promises speaks of the channel, the engine and the inbox that it was given
 pub record Promises {I S W R Cell : Type 0} (side : Side) (engine : Engine I (Publishing (Event W)) S W)
     (inbox : List (Option Job)) (promise : LeavesWork I S W R Cell) : Type 0 where
   pub side_is : promise.side ≡ side
@@ -83,9 +83,8 @@ module _ {I S W R Cell : Type 0} where
     subscriptions = subscriptions.sink.value;
   }
 
--- A kernel's workers are set up of its parts. The publishers and the taker are of one queue that was just opened. The
--- engine of each channel has the interpreter and the stamp of that channel, and the kernel's key, and its worker has
--- the inbox of that channel.
+-- A kernel's workers are set up of its parts. The publishers and the taker are of one queue that was just opened. Each
+-- channel's engine has that channel's interpreter and stamp, and the kernel's key. Its worker has that channel's inbox.
 pub record IsSetUp {I S W : Type 0} (parts : Parts I S W) (setup : Setup I S W) (taker : Taking (Event W))
     : Type 0 where
   pub opened : IsOpened setup.shell.engine.publishing.sink setup.control.engine.publishing.sink setup.subscriptions

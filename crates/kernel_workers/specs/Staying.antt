@@ -1,12 +1,12 @@
--- What of an engine no request changes, and what of a relay no pump does.
+-- What no request changes of an engine, and what no pump changes of a relay.
 use Rattle.std.specs.Prelude.{◌≡◌}
 use Rattle.iopub_queue.specs.Values.{Publishing as Publisher}
 use Rattle.iopub_relay.specs.Relay.{Relaying}
 use Rattle.jmsg_envelope.specs.Stamp.{Stamping}
 use Rattle.kernel_engine.specs.declared.parts.Parts.{Parts}
 
--- an engine is the one that it was, whatever was published in between: its channel, its publisher, the key, and what
--- its stamp means
+-- An engine is the same one, whatever was published in between: it has its channel, its publisher and its key, and its
+-- stamp means the same.
 pub record IsSameEngine {I S T W : Type 0} (stamps : Stamping S) (old new : Parts I (Publisher T) S W)
     : Type 0 where
   pub side : new.side ≡ old.side

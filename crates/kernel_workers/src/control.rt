@@ -4,7 +4,7 @@ ghost use Rattle.std.specs.Prelude.{◌≡◌, ◌⊎◌, IfSome};
 ghost use Rattle.iopub_queue.specs.Sink.{publisher_sink};
 ghost use Rattle.kernel_engine.specs.World.{world_of};
 ghost use Rattle.kernel_engine.specs.declared.side.Side.TheVariants.{Control};
-ghost use Rattle.kernel_workers.specs.Jobs.{HoldsJob, TakesJob, doing_of, unread_done};
+ghost use Rattle.kernel_workers.specs.Jobs.{HoldsJob, TakesJob, doing_of};
 ghost use Rattle.kernel_workers.specs.Starting.{Promises};
 ghost use Rattle.kernel_workers.specs.Staying.{IsSameEngine};
 ghost use Rattle.kernel_workers.specs.Works.{WorksOff};
@@ -24,7 +24,7 @@ use crossbeam_channel::Sender;
 use interp_core::Interpreter;
 use iopub_event::Event;
 use jmsg_envelope::Stamp;
-use kernel_engine::{Asked, Done, Engine, Side, Unread};
+use kernel_engine::{Asked, Engine, Side};
 use std::alloc::{AllocError, Global};
 use std::snapshot::Snapshot;
 use std::sync::Wait;
@@ -50,9 +50,9 @@ where
     W: Drop,
     R: Wait + Drop,
 {
-    /// Does the jobs of its inbox one after the other. It goes on until it is told to end, a request asks for a
-    /// shutdown, which it leaves for later, all ids were given, or nobody is left who could tell it anything. Then shell
-    /// is told to end.
+    /// Does the jobs of its inbox one after the other, until one of these happens. It is told to end, or a request asks
+    /// for a shutdown, which it leaves for later. Or all ids were given, or nobody is left who could tell it anything.
+    /// Then shell is told to end.
     pub fn run(self, rt: R, alloc: Global) -> Ended<I, S, W, R>
         ensures works { WorksOff I.meaning S.stamp Control self.engine self.inbox result }
         ensures same { IsSameEngine S.stamp self.engine result.work.engine }
@@ -86,7 +86,8 @@ where
     W: Drop + Send + 'static,
     R: Threads + Wait + Copy + Send + Sync + Drop + 'static,
 {
-    /// Runs it in a thread of its own, as shell's. None if no thread can be made; then the worker is dropped.
+    /// Runs it in a thread of its own, with the stack that the system gives a thread. It runs no cells. None if no thread
+    /// can be made; then the worker is dropped.
     pub fn spawn(
         self,
         rt: R,
@@ -173,7 +174,7 @@ impl ShellEnd {
         let asked = match work.engine.read(alloc, frames) {
             Ok(asked) => asked,
             Err(unread) => {
-                let done = unread_done(unread);
+                let done = work.engine.unread_done(unread);
                 return conclude(rt, done, to, &mut work.outcomes);
             }
         };
@@ -184,16 +185,6 @@ impl ShellEnd {
         self.heed(&asked);
         let done = work.engine.finish(alloc, asked, &Never);
         conclude(rt, done, to, &mut work.outcomes)
-    }
-}
-
-/// What comes of a message that isn't read.
-fn unread_done(unread: Unread) -> Done
-    ensures { result ≡ unread_done unread }
-{
-    match unread {
-        Unread::NoRequest => Done::Ignored,
-        Unread::NoMemory => Done::Lost,
     }
 }
 

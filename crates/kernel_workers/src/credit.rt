@@ -20,7 +20,7 @@ pub struct Account {
 }
 
 impl Account {
-    /// The account of a connection of which nothing is in work, and whose reader is woken by this.
+    /// The account of a connection that has nothing in work, and whose reader is woken by this.
     pub fn new(reader: Unparker) -> Account {
         Account {
             jobs: AtomicUsize::new(0),

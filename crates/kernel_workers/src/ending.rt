@@ -265,11 +265,12 @@ where
     }
 }
 
-/// Ends a kernel whose control was asked for a shutdown: in order, and sends the reply behind all that was published.
+/// Ends a kernel whose control was asked for a shutdown. It ends in order, and the reply is sent after all that was
+/// published.
 ///
 /// # Errors
 ///
-/// `OutOfMemory` if memory is refused for what is left; `NoThread` if no thread can be made for the relay, or no memory
+/// `OutOfMemory` if memory is refused for what is left. `NoThread` if no thread can be made for the relay, or no memory
 /// is left for what the two share. Then shell and control are dropped as they are, and subscriptions is ended.
 fn shut_down<I, S, W, R>(
     rt: R,
@@ -461,7 +462,8 @@ fn last_token<W: Drop, R: Threads + Wait>(
     tokens
 }
 
-/// Ends subscriptions, whose token `rest` gives, while the relay serves what it publishes. All else is dropped as it is.
+/// Ends subscriptions, whose token `rest` gives, while the relay serves what it publishes. All else is dropped as it
+/// is.
 fn give_up<I, S, W, R, F>(
     rt: &R,
     unbegun: Shutdown<I, S, W, R, F>,
@@ -501,7 +503,7 @@ fn pump_until_closed<W: Outlet + Drop, R: Wait>(
         match relay.pump() {
             Pumped::Complete => return,
             Pumped::Empty => {
-                // It drops its inbox behind its close.
+                // It drops its inbox after its close.
                 if is_gone(rt, to_subscriptions) {
                     return;
                 }

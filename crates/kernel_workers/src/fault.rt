@@ -13,7 +13,7 @@ pub enum KernelFault {
     /// The queue can't be opened, or no memory was left.
     #[error("the queue can't be opened, or no memory was left")]
     Queue(OpenFault),
-    /// A thread can't be made: of a worker, or for the shutdown, where it is also for want of memory.
+    /// A thread can't be made: of a worker, or for the shutdown. For the latter it is also want of memory.
     #[error("no thread can be made")]
     NoThread,
 }

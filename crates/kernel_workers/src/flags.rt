@@ -10,7 +10,7 @@ use std::sync::atomic::{AtomicBool, Ordering};
 
 /// The flags by which control stops what shell does, for both of them, and by which others see that the kernel is to
 /// end. Control raises the one of the end before the one of an interrupt, and shell lowers the latter before it reads
-/// the former: so a job that begins after the end was raised isn't done, and the cell of one that began before is
+/// the former. So a job that begins after the end was raised isn't done, and the cell of one that began before is
 /// interrupted.
 #[derive(Drop)]
 pub struct Flags {

@@ -1,6 +1,6 @@
-//! A running kernel: its workers, which are shell, control, subscriptions and the relay, each in a thread of its own.
-//! Shell and control leave their engines, and subscriptions the closing token of its publisher, each as its promise says,
-//! also after a join; so the kernel's end can say what was published, and what each subscriber got.
+//! A running kernel. Its workers are shell, control, subscriptions and the relay, each in a thread of its own. Shell
+//! and control leave their engines, and subscriptions the closing token of its publisher, each as its promise says,
+//! also after a join. So the kernel's end can say what was published, and what each subscriber got.
 #![tactic(auto)]
 
 mod arrivals;

@@ -37,18 +37,19 @@ use std::sync::Wait;
 use std::thread::{Promise, PromisedHandle, Threads};
 use zmtp_wire::Outlet;
 
-/// Runs a kernel until a request asks for a shutdown, all ids of a channel were given, or an end note comes into the
-/// inbox of control or of shell: four workers, each in a thread of its own. Shell and control handle the requests of
-/// their inboxes. The worker of subscriptions publishes that subscribers come, ask for topics or a PONG, give topics up
-/// and leave. The relay serves all that is published. The workers hold senders of the inboxes themselves, so dropping
-/// all others ends nothing. If control is asked for a shutdown the kernel ends by `shutdown_order`, and the reply is
-/// sent behind all that was published.
+/// Runs a kernel, until a request asks for a shutdown, all ids of a channel were given, or an end note comes into the
+/// inbox of control or of shell. It has four workers, each in a thread of its own. Shell and control handle the
+/// requests of their inboxes. The worker of subscriptions publishes that subscribers come, ask for topics or a PONG,
+/// give topics up and leave. The relay serves all that is published.
+///
+/// The workers hold senders of the inboxes themselves, so dropping all others ends nothing. If control is asked for a
+/// shutdown the kernel ends by `shutdown_order`, and the reply is sent after all that was published.
 ///
 /// # Errors
 ///
-/// `Queue` if the capacity isn't from 1 to 65,536, which is judged first, or memory is refused, also for what is left
-/// in the end; `NoThread` if a thread can't be made, also the one of the shutdown, or there is no memory for what that
-/// shares. The parts are dropped then.
+/// `Queue` if the capacity isn't from 1 to 65,536, which is judged first, or if memory is refused, also for what is
+/// left in the end. `NoThread` if a thread can't be made, also the one of the shutdown, or if there is no memory for
+/// what that shares. The parts are dropped then.
 pub fn run_kernel<I, S, W, R>(
     rt: R,
     alloc: Global,

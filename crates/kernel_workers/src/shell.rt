@@ -28,8 +28,11 @@ use kernel_engine::{Engine, Side};
 use std::alloc::Global;
 use std::snapshot::Snapshot;
 use std::sync::Wait;
-use std::thread;
-use std::thread::{PromisedHandle, Threads};
+use std::thread::{Builder, PromisedHandle, Threads};
+
+/// The octets of the stack of the thread that runs cells. A language may need 2 MiB for its deepest scripts; memory is
+/// taken only as the stack is used.
+const CELL_STACK: usize = 8 << 20;
 
 /// Shell's worker: what it owns, what it hears, and whom it tells that it ends.
 #[derive(Drop)]
@@ -95,8 +98,9 @@ where
     W: Drop + Send + 'static,
     R: Threads + Wait + Copy + Send + Sync + Drop + 'static,
 {
-    /// Runs it in a thread of its own, with the stack that the system gives a thread. What takes the most of one is
-    /// JSON that nests as deep as may be, 127 deep: 96 KiB. None if no thread can be made; then the worker is dropped.
+    /// Runs it in a thread of its own, with a stack of 8 MiB. Beside the cells of a language what takes the most of one
+    /// is JSON that nests as deep as may be, 127 deep: 96 KiB. None if no thread can be made; then the worker is
+    /// dropped.
     pub fn spawn(
         self,
         rt: R,
@@ -109,7 +113,8 @@ where
             engine: Snapshot::of(&self.engine),
             inbox: Snapshot::of(&self.inbox),
         };
-        match thread::spawn_with(&rt, promise, move || self.run(rt, alloc)) {
+        let builder = Builder::new().stack_size(CELL_STACK);
+        match builder.spawn_with(&rt, promise, move || self.run(rt, alloc)) {
             Ok(handle) => Some(handle),
             Err(refused) => {
                 drop(refused);

@@ -1,4 +1,4 @@
-//! The ordered end of a kernel: shell's, then control's behind it, while the relay serves what they publish.
+//! The ordered end of a kernel: shell's, then control's after it, while the relay serves what they publish.
 
 ghost use Rattle.std.specs.Prelude.{◌≡◌, ◌≤◌, ◌+◌, IfErr, IfOk, length, vec_capacity};
 ghost use Rattle.iopub_queue.specs.Entries.{EndsWithClose};
@@ -52,15 +52,15 @@ pub struct ShutdownEnd<W: Outlet, R> {
     pub fault: Option<EngineFault>,
 }
 
-/// Ends a kernel in order: closes shell, has control handle the request, its idle behind all that shell published, closes
-/// control, and asks for the tokens of all other publishers, while the relay serves in a thread of its own what they
-/// publish. Then the relay takes what is left. If all was taken, all that shell published, and its close, was taken
-/// before the request's idle, if that was published, in every schedule.
+/// Ends a kernel in order. It closes shell, and has control handle the request, its idle after all that shell
+/// published. Then it closes control, and asks for the tokens of all other publishers. Meanwhile the relay serves what
+/// they publish, in a thread of its own, and then takes what is left. If all was taken, all that shell published, and
+/// its close, was taken before the request's idle, if that was published. That is so in every schedule.
 ///
 /// # Errors
 ///
-/// What was given, if no thread can be made for the relay, or no memory is left for what the two share. Then nothing was
-/// done.
+/// What was given, if no thread can be made for the relay, or no memory is left for what the two share. Then nothing
+/// was done.
 pub fn shutdown_order<I, S, W, R, F>(
     rt: R,
     alloc: Global,
@@ -115,7 +115,7 @@ struct Channels<W> {
     done: Result<Handled, EngineFault>,
 }
 
-/// Closes shell, has control handle the request, its idle behind all that shell published, and closes control.
+/// Closes shell, has control handle the request, its idle after all that shell published, and closes control.
 fn close_channels<I, S, W, R>(
     alloc: Global,
     shell: Engine<I, Waking<Event<W>, R>, S, W>,

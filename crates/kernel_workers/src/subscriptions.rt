@@ -24,7 +24,7 @@ pub struct SubscriptionsWorker<W, R> {
 
 impl<W: Drop, R: Wait + Drop> SubscriptionsWorker<W, R> {
     /// Publishes what its subscribers come, ask for and leave by, and drops each message. Once it is told to end, or
-    /// nobody is left who could tell it anything, it closes. What comes after that is dropped with its inbox, behind the
+    /// nobody is left who could tell it anything, it closes. What comes after that is dropped with its inbox, after the
     /// close.
     pub fn run(self, rt: R) -> Closed<Event<W>>
         requires { self.sink.published ≡ [] }

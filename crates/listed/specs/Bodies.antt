@@ -1,4 +1,4 @@
--- The bodies of frames, without where they lie in memory.
+-- The bodies of frames, as lists of octets that say nothing of memory.
 use Rattle.std.specs.Prelude.{ℕ, List, map}
 use Rattle.std.specs.Global.{Vec}
 

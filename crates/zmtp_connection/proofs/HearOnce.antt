@@ -1,7 +1,6 @@
--- What is heard of a peer has one value.
-use Rattle.std.proofs.Common.{◌≡◌, ◌≢◌, ◌⊎◌, inl, inr, ℕ, ◌<◌, List, [], ◌∷◌, ◌++◌, take, drop}
+-- How a peer is opened, turned away and ends its connection has one value, and stays, whatever the peer sends then.
+use Rattle.std.proofs.Common.{◌≡◌, ◌≢◌, inl, inr, ℕ, ◌<◌, List, [], ◌∷◌, ◌++◌, take, drop}
 use Rattle.std.proofs.Common.{true, false, Ok, Err, refl, sym, ◌∙◌, ap, subst, arith, append_assoc, length-append}
-use Rattle.std.proofs.lemmas.List.{append-nil}
 use Rattle.zmtp_wire.specs.declared.fault.WireFault.{WireFault}
 use Rattle.zmtp_wire.specs.declared.fault.WireFault.TheVariants as faults
 use Rattle.zmtp_wire.specs.declared.handshake.socket_type.SocketType.{SocketType}
@@ -15,9 +14,9 @@ use Rattle.zmtp_wire.specs.Ready.{IsReady, ReadyHasOneOutcome}
 use Rattle.zmtp_wire.specs.Traffic.{is_error}
 use Rattle.zmtp_connection.specs.declared.end.ConnectionEnd.{ConnectionEnd}
 use Rattle.zmtp_connection.specs.declared.end.ConnectionEnd.TheVariants.{Eof, Failed, Wire}
-use Rattle.zmtp_connection.specs.Peer.{BeginsWithError, ComesFirst, EndsAs, EndsBehind, IsCalm, IsTurnedAway, Says}
-use Rattle.zmtp_connection.specs.Laws.{EndStays, HearsOnce, OpenOrTurnedAway}
-use Rattle.zmtp_connection.proofs.OpenLemmas.{take_more, drop_more, greeted_more, first_more, open_more}
+use Rattle.zmtp_connection.specs.Peer.{BeginsWithError, ComesFirst, EndsAs, EndsBehind, IsCalm, IsTurnedAway}
+use Rattle.zmtp_connection.specs.Laws.{OpenOrTurnedAway}
+use Rattle.zmtp_connection.proofs.OpenLemmas.{take_more, drop_more, greeted_more, first_more}
 
 -- the laws of the layer below
 pub record Laws : Type 0 where
@@ -82,36 +81,6 @@ no_more laws rest last end (first ∷ more) (inl (is, (head, comes, error)))
 pub calm_behind : (front more : List Traffic) → IsCalm (front ++ more) → IsCalm more
 calm_behind [] more calm = calm
 calm_behind (first ∷ front) more (harmless, calm) = calm_behind front more calm
-
--- what two readings say, of which one goes on
-says_on : (laws : Laws) (one more : List Traffic) (rest last : List ℕ) (ending end : ConnectionEnd)
-    → ReadsUpTo usual_limits rest more last → IsCalm (one ++ more) → EndsBehind rest ending → EndsBehind last end
-    → (one ≡ one ++ more) × (ending ≡ end)
-says_on laws one more rest last ending end reads calm first second =
-    let (none, same) = no_more laws rest last ending more first reads (calm_behind one more calm) in (
-      sym (ap (λ t. one ++ t) none ∙ append-nil one),
-      behind_once laws rest ending end first (subst (λ r. EndsBehind r end) (sym same) second),
-    )
-
-says_either : (laws : Laws) (octets : List ℕ) (traffic others : List Traffic) (ending end : ConnectionEnd)
-    (first : Says octets traffic ending) (second : Says octets others end)
-    → ((more : List Traffic) × (others ≡ traffic ++ more) × ReadsUpTo usual_limits first.rest more second.rest)
-    ⊎ ((more : List Traffic) × (traffic ≡ others ++ more) × ReadsUpTo usual_limits second.rest more first.rest)
-    → (traffic ≡ others) × (ending ≡ end)
-says_either laws octets traffic others ending end first second (inl (more, is, reads)) =
-    let (same, ends) = says_on laws traffic more first.rest second.rest ending end reads
-    (subst IsCalm is second.calm) first.ends second.ends in
-    (same ∙ sym is, ends)
-says_either laws octets traffic others ending end first second (inr (more, is, reads)) =
-    let (same, ends) = says_on laws others more second.rest first.rest end ending reads
-    (subst IsCalm is first.calm) second.ends first.ends in
-    (is ∙ sym same, sym ends)
-
-says_once : (laws : Laws) (octets : List ℕ) (traffic others : List Traffic) (ending end : ConnectionEnd)
-    → Says octets traffic ending → Says octets others end → (traffic ≡ others) × (ending ≡ end)
-says_once laws octets traffic others ending end first second =
-    says_either laws octets traffic others ending end first second
-    (laws.goes_on usual_limits octets traffic others first.rest second.rest first.read second.read)
 
 -- a greeting that is refused isn't accepted, and is refused for one fault
 refused_greeting : (octets : List ℕ) (fault : WireFault) → IsRefusedGreeting octets fault → IsGreeting octets → ⊥
@@ -226,21 +195,6 @@ open_away laws ours octets opening other peer behind end is_open (inr (inr (inr 
     refused in
     absurd cc
 
-pub hears_once : Laws → HearsOnce
-hears_once laws ours octets opening other traffic others ending end (inl (first, none)) (inl (second, nothing)) =
-    let (same, ends) = away_once laws ours octets opening other ending end first second in
-    (same, none ∙ sym nothing, ends)
-hears_once laws ours octets opening other traffic others ending end (inl (first, none)) (inr second) =
-    absurd (open_away laws ours octets other opening second.peer second.behind ending second.is_open first)
-hears_once laws ours octets opening other traffic others ending end (inr first) (inl (second, none)) =
-    absurd (open_away laws ours octets opening other first.peer first.behind end first.is_open second)
-hears_once laws ours octets opening other traffic others ending end (inr first) (inr second) =
-    let (same, rest) = first_once laws octets first.is_open.first second.is_open.first first.behind second.behind
-    first.is_open.comes second.is_open.comes in
-    let (said, ends) = says_once laws first.behind traffic others ending end first.says
-    (subst (λ o. Says o others end) (sym rest) second.says) in
-    (first.is_open.greeted.greets ∙ sym second.is_open.greeted.greets, said, ends)
-
 -- traffic and its rest, with more behind
 pub reads_more : (octets after : List ℕ) (traffic : List Traffic) (rest : List ℕ)
     → ReadsUpTo usual_limits octets traffic rest → ReadsUpTo usual_limits (octets ++ after) traffic (rest ++ after)
@@ -296,18 +250,3 @@ away_more laws ours octets after opening ending ended (inr (inr (inr away))) = i
   refused = away.refused;
   ends = away.ends;
 })))
-
-pub end_stays : Laws → EndStays
-end_stays laws ours octets after opening traffic ending ended (inl (away, none)) =
-    inl (away_more laws ours octets after opening ending ended away, none)
-end_stays laws ours octets after opening traffic ending ended (inr heard) = inr (record {
-  peer = heard.peer;
-  behind = heard.behind ++ after;
-  is_open = open_more ours octets after opening heard.peer heard.behind heard.is_open;
-  says = record {
-    rest = heard.says.rest ++ after;
-    read = reads_more heard.behind after traffic heard.says.rest heard.says.read;
-    calm = heard.says.calm;
-    ends = ends_more laws heard.says.rest after ending ended heard.says.ends;
-  };
-})

@@ -15,7 +15,7 @@ use Rattle.zmtp_connection.specs.Exchange.{Source, Leg, Reading}
 use Rattle.zmtp_connection.specs.Steps.{IsStop}
 use Rattle.zmtp_connection.specs.Listen.{Hearing, HearsAll}
 
--- The traffic in front of one was handed on, and none of it ended listening.
+-- The traffic before one traffic was handed on, and none of it ended listening.
 pub record HandsUpTo {Listener End : Type 0} (hears : Hearing Listener End) (old : Listener) (traffic : List Traffic)
     (last : Traffic) (now : Listener) : Type 0 where
   pub front : List Traffic
@@ -24,7 +24,7 @@ pub record HandsUpTo {Listener End : Type 0} (hears : Hearing Listener End) (old
   pub calm : IsCalm front
   pub handed : HearsAll hears old front now
 
--- traffic ended listening: by a command ERROR, or where the listener did so
+-- One traffic ended listening: it was the command ERROR, or the listener ended it there.
 abbrev pub HandsFront : {Listener End : Type 0} → Hearing Listener End → Listener → List Traffic → Listener
     → Ending End → Type 0
 HandsFront hears old traffic new (Connection end) =
@@ -39,8 +39,8 @@ abbrev pub HandsSome : {Listener End : Type 0} → Hearing Listener End → List
 HandsSome hears old traffic new (Ok done) = IsCalm traffic × HearsAll hears old traffic new
 HandsSome hears old traffic new (Err ending) = HandsFront hears old traffic new ending
 
--- what a piece brought was handed on, and then its fault ended listening, if it has one; its arguments are those of the
--- definition above, and the fault
+-- All that a piece brought was handed on, or some of it and listening ended there. After all of it the piece's fault
+-- ended listening, if it had one. The arguments are those of `HandsSome`, and the fault.
 abbrev pub HandsFed : {Listener End : Type 0} → Hearing Listener End → Listener → List Traffic → Option WireFault
     → Listener → Result Unit (Ending End) → Type 0
 HandsFed hears old traffic fault new (Ok done) = (fault ≡ None) × (IsCalm traffic × HearsAll hears old traffic new)
@@ -48,8 +48,8 @@ HandsFed hears old traffic fault new (Err ending) = HandsFront hears old traffic
     ⊎ ((found : WireFault) × (fault ≡ Some found) × (ending ≡ Connection (Wire found))
     × (IsCalm traffic × HearsAll hears old traffic new))
 
--- A piece was read in one turn, and what it brought was handed on. The arguments, here and below, are what a listener,
--- a decoder and what is read from were and are then.
+-- A piece was read in one turn, and what it brought was handed on. The arguments are a listener, a decoder and what is
+-- read from, each as it was and as it is then. So they are below.
 pub record HandsPiece {Listener End : Type 0} (hears : Hearing Listener End) (old new : Listener)
     (decoder decoder' : Decoding) (source source' : Source) (result : Result Unit (Ending End)) : Type 0 where
   pub octets : List ℕ
@@ -61,7 +61,7 @@ pub record HandsPiece {Listener End : Type 0} (hears : Hearing Listener End) (ol
   pub same : decoder'.limits ≡ decoder.limits
   pub hands : HandsFed hears old traffic fault new result
 
--- a piece was read, and what it brought was handed on; or reading stopped, which ended listening
+-- A piece was read, and what it brought was handed on. Or reading stopped, which ended listening.
 abbrev pub HearsPiece : {Listener End : Type 0} → Hearing Listener End → Listener → Listener → Decoding → Decoding
     → Source → Source → Result Unit (Ending End) → Type 0
 HearsPiece hears old new decoder decoder' source source' (Ok done) =

@@ -14,39 +14,40 @@ use Rattle.zmtp_connection.specs.Listen.{IsHeardOut, IsBrokenOff}
 abbrev pub Taking : Type 0 → Type 1
 Taking Intake = Intake → Traffic → Intake → Result Bool AllocError → Type 0
 
--- a list that is told grew by these, and nothing is said of one that isn't told
+-- A list that is told grew by these. If it isn't told, nothing is said.
 abbrev pub Grows : Option (List Traffic) → Option (List Traffic) → List Traffic → Type 0
 Grows None new more = ⊤
 Grows (Some old) None more = ⊥
 Grows (Some old) (Some new) more = new ≡ old ++ more
 
--- the traffic that a call put: this one where it says yes, and else none
+-- what a call put into the intake: the traffic if it answers yes, and else nothing
 abbrev pub put_by : Traffic → Result Bool AllocError → List Traffic
 put_by traffic (Ok true) = traffic ∷ []
 put_by traffic (Ok false) = []
 put_by traffic (Err error) = []
 
--- traffic was put; or the intake said no, which ends hearing as the peer's last octet does, or had no memory
+-- Traffic was put into the intake. Or the intake said no, which ends hearing as the peer's last octet does. Or it had
+-- no memory.
 abbrev pub Fills : {Intake : Type 0} → Taking Intake → Intake → Traffic → Intake → Result Unit ConnectionEnd → Type 0
 Fills takes old traffic new (Ok done) = takes old traffic new (Ok true)
 Fills takes old traffic new (Err end) = (takes old traffic new (Ok false) × (end ≡ Eof))
     ⊎ ((error : AllocError) × takes old traffic new (Err error) × (end ≡ Failed Memory))
 
--- the traffic that a step put: this one, unless it ended hearing
+-- what a step put into the intake: the traffic, unless it ended hearing
 abbrev pub put_of : Traffic → Result Unit ConnectionEnd → List Traffic
 put_of traffic (Ok done) = traffic ∷ []
 put_of traffic (Err end) = []
 
--- traffic was put or not, and the list of what was put grew by just that; its arguments are those of the definition
--- above, and the list
+-- Traffic was put or not, and the list of what was put grew by just that. The arguments are those of `Fills`, and the
+-- list.
 abbrev pub FillsOne : {Intake : Type 0} → Taking Intake → (Intake → Option (List Traffic)) → Intake → Traffic → Intake
     → Result Unit ConnectionEnd → Type 0
 FillsOne takes told old traffic new result =
     Fills takes old traffic new result × Grows (told old) (told new) (put_of traffic result)
 
--- What a peer says was put into an intake, whole and in order, and the list of it grew by just that; the connection
--- ended it, or the intake. The arguments are two ghost members of the intake, and what one call begins with and ends
--- with.
+-- What a peer says was put into an intake, whole and in order, and the list of what was put grew by just that. The
+-- connection or the intake ended it. The arguments are two ghost members of the intake, and what one call begins with
+-- and ends with.
 pub record FillsAll {Intake : Type 0} (takes : Taking Intake) (told : Intake → Option (List Traffic)) (old : Intake)
     (before : List ℕ) (source source' : Source) (new : Intake) (end : ConnectionEnd) : Type 0 where
   pub listens : IsHeardOut (Fills takes) old before source source' new end

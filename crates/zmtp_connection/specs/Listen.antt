@@ -1,4 +1,4 @@
--- Listening to what a peer says behind its READY: which traffic is handed on, and how listening ends.
+-- Listening to what a peer says after its READY: which traffic is handed on, and how listening ends.
 use Rattle.std.specs.Prelude.{◌≡◌, ◌⊎◌, ℕ, List, [], ◌∷◌, ◌++◌, false, Result, Ok, Err}
 use Rattle.zmtp_wire.specs.declared.fault.WireFault.{WireFault}
 use Rattle.zmtp_wire.specs.declared.fault.WireFault.TheVariants.{OutOfMemory}
@@ -15,7 +15,8 @@ use Rattle.zmtp_connection.specs.Peer.{IsCalm, BeginsWith, EndsBehind}
 use Rattle.zmtp_connection.specs.Exchange.{Source, Leg, Reading}
 use Rattle.zmtp_connection.specs.Steps.{IsPrompt, IsStop}
 
--- one step of a listener: what it was, the traffic that it hears, what it is then, and how it ends listening, if so
+-- One step of a listener: what it was, the traffic that it hears, what it is then, and how it ends listening, if it
+-- does.
 abbrev pub Hearing : Type 0 → Type 0 → Type 1
 Hearing Listener End = Listener → Traffic → Listener → Result Unit End → Type 0
 
@@ -25,7 +26,7 @@ HearsAll hears old [] new = new ≡ old
 HearsAll {Listener} hears old (first ∷ others) new =
     (middle : Listener) × hears old first middle (Ok tt) × HearsAll hears middle others new
 
--- The whole traffic in front of octets was heard, none of it the command ERROR, and none of it ended listening.
+-- All whole traffic with which octets begin was heard. None of it is the command ERROR, and none of it ended listening.
 pub record Heard {Listener End : Type 0} (hears : Hearing Listener End) (old : Listener) (octets : List ℕ)
     (new : Listener) : Type 0 where
   pub traffic : List Traffic
@@ -38,14 +39,14 @@ pub record Heard {Listener End : Type 0} (hears : Hearing Listener End) (old : L
 abbrev pub IsUndecided : ConnectionEnd → Type 0
 IsUndecided end = IsStop end ⊎ (end ≡ Failed Memory)
 
--- how listening ends at what stands behind the last whole traffic: nothing was decided and it isn't finished, or it is
--- refused or begins with the command ERROR, or there was no memory for it
+-- How listening ends at what follows the last whole traffic. That isn't finished, and nothing was decided. Or it is
+-- refused, or it begins with the command ERROR, or there was no memory for it.
 abbrev pub RunsOut : List ℕ → ConnectionEnd → Type 0
 RunsOut rest end = (IsUndecided end × IsUnfinished usual_limits rest)
     ⊎ ((fault : WireFault) × (end ≡ Wire fault) × ((fault ≡ OutOfMemory) ⊎ EndsBehind rest end))
 
 -- All that the octets say was heard, and then the connection ended it. The arguments are what one call begins with and
--- ends with, as in the next two definitions.
+-- ends with. So they are in the next two definitions.
 pub record IsHeardOut {Listener End : Type 0} (hears : Hearing Listener End) (old : Listener) (before : List ℕ)
     (source source' : Source) (new : Listener) (end : ConnectionEnd) : Type 0 where
   pub octets : List ℕ
@@ -53,7 +54,7 @@ pub record IsHeardOut {Listener End : Type 0} (hears : Hearing Listener End) (ol
   pub heard : Heard hears old (before ++ octets) new
   pub ends : RunsOut heard.rest end
 
--- The listener ended it at one traffic, which isn't the command ERROR. Nothing was read once that had come.
+-- The listener ended it at one traffic, which isn't the command ERROR. After that had come nothing was read.
 pub record IsBrokenOff {Listener End : Type 0} (hears : Hearing Listener End) (old : Listener) (before : List ℕ)
     (source source' : Source) (new : Listener) (end : End) : Type 0 where
   pub octets : List ℕ
@@ -66,8 +67,8 @@ pub record IsBrokenOff {Listener End : Type 0} (hears : Hearing Listener End) (o
   pub ends : hears now last new (Err end)
   pub prompt : (octets ≡ []) ⊎ IsPrompt source source' octets comes.behind
 
--- what a listener heard of octets that are read behind these, and how it ended; the arguments are what one call begins
--- with and ends with
+-- What a listener heard of these octets and of those that are read after them, and how it ended. The arguments are what
+-- one call begins with and ends with.
 abbrev pub Listens : {Listener End : Type 0} → Hearing Listener End → Listener → List ℕ → Source → Source → Listener
     → Ending End → Type 0
 Listens hears old before source source' new (Connection end) = IsHeardOut hears old before source source' new end

@@ -1,4 +1,5 @@
--- What is heard of a peer: whether it is open, which traffic it sends, and how its octets end the connection.
+-- Whether a peer is open, and how its octets end the connection (ZeroMQ RFC 23, rules `greeting`, `null`, `traffic` and
+-- `error`).
 use Rattle.std.specs.Prelude.{◌≡◌, ◌⊎◌, ℕ, ◌<◌, ◌≤◌, List, [], ◌∷◌, ◌++◌, length, take, drop, true, false, Ok}
 use Rattle.std.specs.Prelude.{Err, ⊤}
 use Rattle.zmtp_wire.specs.declared.fault.WireFault.{WireFault}
@@ -6,7 +7,7 @@ use Rattle.zmtp_wire.specs.declared.fault.WireFault.TheVariants.{PeerError}
 use Rattle.zmtp_wire.specs.declared.handshake.socket_type.SocketType.{SocketType}
 use Rattle.zmtp_wire.specs.declared.traffic.Traffic.{Traffic}
 use Rattle.zmtp_wire.specs.Limits.{usual_limits}
-use Rattle.zmtp_wire.specs.Grammar.{Spells, ReadsUpTo, IsFaulty, IsUnfinished}
+use Rattle.zmtp_wire.specs.Grammar.{Spells, IsFaulty, IsUnfinished}
 use Rattle.zmtp_wire.specs.Greeting.{greeting_octets, IsGreeting, IsRefusedGreeting}
 use Rattle.zmtp_wire.specs.Ready.{IsReady, ready_octets}
 use Rattle.zmtp_wire.specs.Traffic.{is_error}
@@ -25,29 +26,22 @@ pub record BeginsWith (octets : List ℕ) (first : Traffic) : Type 0 where
   pub split : octets ≡ front ++ behind
   pub spelled : Spells usual_limits front first
 
--- how the octets behind the last whole traffic end a connection: they aren't finished when the peer has sent its
--- last octet, or a fault is in them
+-- How the octets after the last whole traffic end a connection. The peer has sent its last octet and they aren't
+-- finished, or there is a fault in them.
 abbrev pub EndsAs : List ℕ → ConnectionEnd → Type 0
 EndsAs rest Eof = IsUnfinished usual_limits rest
 EndsAs rest (Wire fault) = IsFaulty usual_limits rest fault
 EndsAs rest (Failed fault) = ⊥
 
--- the octets begin with the command ERROR, whatever it says and whatever follows
+-- the octets begin with the command ERROR, whatever it says and whatever follows it
 abbrev pub BeginsWithError : List ℕ → Type 0
 BeginsWithError octets = (last : Traffic) × BeginsWith octets last × (is_error last ≡ true)
 
--- how the octets behind traffic without the command ERROR end a connection: by that command, or else as above
+-- how the octets after traffic without the command ERROR end a connection: by that command, or else as `EndsAs` says
 abbrev pub EndsBehind : List ℕ → ConnectionEnd → Type 0
 EndsBehind rest ending = ((ending ≡ Wire PeerError) × BeginsWithError rest) ⊎ EndsAs rest ending
 
--- What octets behind a peer's READY say: this traffic, up to a command ERROR, and how they end the connection.
-pub record Says (octets : List ℕ) (traffic : List Traffic) (ending : ConnectionEnd) : Type 0 where
-  pub rest : List ℕ
-  pub read : ReadsUpTo usual_limits octets traffic rest
-  pub calm : IsCalm traffic
-  pub ends : EndsBehind rest ending
-
--- the peer's greeting doesn't come whole
+-- the peer has sent its last octet, and its greeting isn't whole
 pub record IsSilent (octets opening : List ℕ) (ending : ConnectionEnd) : Type 0 where
   pub short : length octets < 64
   pub greets : opening ≡ greeting_octets
@@ -67,12 +61,12 @@ pub record IsGreeted (ours : SocketType) (octets opening : List ℕ) : Type 0 wh
   pub accepted : IsGreeting (take 64 octets)
   pub greets : opening ≡ greeting_octets ++ ready_octets ours
 
--- no traffic comes whole behind the peer's greeting
+-- after the peer's greeting no traffic comes whole, and this ends the connection
 pub record IsNotReady (ours : SocketType) (octets opening : List ℕ) (ending : ConnectionEnd) : Type 0 where
   pub greeted : IsGreeted ours octets opening
   pub ends : EndsAs (drop 64 octets) ending
 
--- the first traffic behind the peer's greeting
+-- this is the first traffic after the peer's greeting, and these octets follow it
 pub record ComesFirst (octets : List ℕ) (first : Traffic) (behind : List ℕ) : Type 0 where
   pub front : List ℕ
   pub split : drop 64 octets ≡ front ++ behind
@@ -94,23 +88,9 @@ IsTurnedAway ours octets opening ending =
     IsSilent octets opening ending ⊎ (IsNotGreeted octets opening ending
     ⊎ (IsNotReady ours octets opening ending ⊎ IsNotPaired ours octets opening ending))
 
--- The peer is open: its greeting and its READY are accepted, and these octets stand behind its READY.
+-- The peer is open: its greeting and its READY are accepted, and these octets follow its READY.
 pub record IsOpenPeer (ours : SocketType) (octets opening : List ℕ) (peer : SocketType) (behind : List ℕ) : Type 0 where
   pub greeted : IsGreeted ours octets opening
   pub first : Traffic
   pub comes : ComesFirst octets first behind
   pub accepted : IsReady first ours (Ok (record { peer = peer }))
-
--- a peer that is open says this traffic
-pub record IsListenedTo (ours : SocketType) (octets opening : List ℕ) (traffic : List Traffic) (ending : ConnectionEnd)
-    : Type 0 where
-  pub peer : SocketType
-  pub behind : List ℕ
-  pub is_open : IsOpenPeer ours octets opening peer behind
-  pub says : Says behind traffic ending
-
--- What is heard of a peer that sends these octets: what opens the connection to it, which traffic it sends up to a
--- command ERROR, and how it ends the connection.
-abbrev pub Hears : SocketType → List ℕ → List ℕ → List Traffic → ConnectionEnd → Type 0
-Hears ours octets opening traffic ending =
-    (IsTurnedAway ours octets opening ending × (traffic ≡ [])) ⊎ IsListenedTo ours octets opening traffic ending

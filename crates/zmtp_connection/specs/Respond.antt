@@ -18,12 +18,12 @@ pub record Seen (Server : Type 0) : Type 0 where
   pub outflow : Outflow
   pub serving : Serving Server
 
--- whether a session goes on behind an answer, or how it ends
+-- whether a session goes on after an answer, or how the server ends it
 abbrev pub went : {End : Type 0} → Result Answered End → Result Unit (Ending End)
 went (Ok answered) = Ok tt
 went (Err end) = Err (Host end)
 
--- a reply was written, and the session goes on or ends as the server answered; or a write failed and ends it
+-- A reply was written, and the session goes on or ends as the server answered. Or a write failed, which ends it.
 abbrev pub Writes : {End : Type 0} → Outflow → Outflow → List ℕ → Result Answered End → Result Unit (Ending End)
     → Type 0
 Writes before after reply answered result =
@@ -31,7 +31,7 @@ Writes before after reply answered result =
     ⊎ ((result ≡ Err (Connection (Failed Write)))
     × ((front : List ℕ) × (lost : List ℕ) × (reply ≡ front ++ lost) × (0 < length lost) × Puts before after front 1))
 
--- Traffic was treated, and the reply written.
+-- Traffic was treated, and what is replied to it was written, unless a write failed.
 pub record Responds {Server End : Type 0} (answers : Answering Server End) (old : Seen Server) (traffic : Traffic)
     (new : Seen Server) (result : Result Unit (Ending End)) : Type 0 where
   pub reply : List ℕ
@@ -40,13 +40,13 @@ pub record Responds {Server End : Type 0} (answers : Answering Server End) (old 
   pub mark : new.serving.dropped ≡ marked old.serving.dropped answered
   pub writes : Writes old.outflow new.outflow reply answered result
 
--- how it ended that ended as the connection did, or as another ending says
+-- how a session ended, if the end that a host tells is an ending itself
 abbrev pub flat : {End : Type 0} → Ending (Ending End) → Ending End
 flat (Connection end) = Connection end
 flat (Host ending) = ending
 
--- The exchange behind a peer's READY with a server, where these octets were read before. Where it ended at one traffic
--- of the peer, nothing was read once that had come. The arguments are what the call begins with and ends with.
+-- The exchange with a server after a peer's READY, if these octets were read before. If it ended at one traffic of the
+-- peer, nothing was read after that had come. The arguments are what the call begins with and ends with.
 pub record ConversesOn {Server End : Type 0} (dropped : Bool) (answers : Answering Server End) (old : Server)
     (before : List ℕ) (devices devices' : Devices) (new : Server) (ending : Ending End) : Type 0 where
   pub exchange : Exchange (λ octets written. Converses dropped answers old (before ++ octets) written new ending)

@@ -26,7 +26,8 @@ pub record LastRead (old new : Source) (octets : List ℕ) : Type 0 where
   pub read : Leg middle new piece
   pub one : middle.turns ≡ new.turns + 1
 
--- The last read brought an octet in front of those that stand behind: nothing was read once all in front had come.
+-- The last read brought an octet at least of what comes before `behind`. So nothing was read after all of that had
+-- come.
 pub record IsPrompt (old new : Source) (octets behind : List ℕ) : Type 0 where
   pub last : LastRead old new octets
   pub needed : length behind < length last.piece
@@ -39,11 +40,11 @@ IsStop end = (end ≡ Eof) ⊎ ((end ≡ Failed Read) ⊎ (end ≡ Failed Turns)
 abbrev pub fresh : Decoding
 fresh = record { limits = usual_limits; kept = []; spent = false }
 
--- what a decoder made of octets, and what it is then, as if they had come in one piece
+-- what a decoder makes of octets, and what it is then, if they come in one piece
 abbrev pub IsFed : Fed → Decoding → List ℕ → Type 0
 IsFed fed decoder octets = Feeds fresh octets fed.traffic fed.fault decoder × (decoder.limits ≡ usual_limits)
 
--- octets were written, or a beginning of them and not all before a write failed, and nothing else ends it
+-- Octets were written. Or a write failed, which ends it, and only a beginning of them was written.
 abbrev pub PutsAll : Outflow → Outflow → List ℕ → Result Unit ConnectionEnd → Type 0
 PutsAll before after octets (Ok done) = Puts before after octets 0
 PutsAll before after octets (Err end) = (end ≡ Failed Write)
@@ -53,12 +54,12 @@ PutsAll before after octets (Err end) = (end ≡ Failed Write)
 abbrev pub TurnsAway : SocketType → ConnectionEnd → List ℕ → List ℕ → Type 0
 TurnsAway ours end octets written = ComesToByEnd (IsTurnedAway ours) octets written end
 
--- The first traffic behind a peer's greeting came: no whole traffic stood in what was read before the last read.
+-- the first traffic after a peer's greeting is late: what was read before the last read has no whole traffic
 pub record ComesLate (old new : Source) (octets : List ℕ) : Type 0 where
   pub last : LastRead old new octets
   pub nothing : HasNoTraffic usual_limits last.front
 
--- octets behind a peer's greeting bring no whole traffic: reading stopped, or they are refused, or memory was
+-- Octets after a peer's greeting bring no whole traffic. Reading stopped, or they are refused, or memory was refused.
 abbrev pub BringsNothing : List ℕ → ConnectionEnd → Type 0
 BringsNothing octets end = (IsStop end × IsUnfinished usual_limits octets)
     ⊎ ((fault : WireFault) × (end ≡ Wire fault) × ((fault ≡ OutOfMemory) ⊎ IsFaulty usual_limits octets fault))

@@ -38,9 +38,9 @@ impl Server for Heartbeat {
     }
 }
 
-/// Serves a peer of the heartbeat channel, as a REP socket: shakes hands with it, and writes each message back whole,
-/// frame by frame, and a PONG for each PING, until the peer's octets end, are refused, or the connection can't go on. At
-/// most `turns` reads are made.
+/// Serves a peer of the heartbeat channel, as a REP socket. It shakes hands with it, and writes each message back
+/// whole, frame by frame, and a PONG for each PING. It ends after the peer's octets end or are refused, or if the
+/// connection can't go on. At most `turns` reads are made.
 pub fn echo<R: Inlet, W: Outlet>(
     alloc: Global,
     reader: &mut R,

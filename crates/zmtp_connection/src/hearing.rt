@@ -1,4 +1,4 @@
-//! Hearing a peer: what it says behind its READY is put into an intake.
+//! Hearing a peer: what it says after its READY is put into an intake.
 
 ghost use Rattle.std.specs.Prelude.{◌≡◌, ℕ, List, Option, None};
 ghost use Rattle.zmtp_wire.specs.declared.fault.WireFault.{WireFault};
@@ -19,7 +19,7 @@ pub trait Intake {
     /// One step: what the intake was, the traffic, what the intake is then, and whether the traffic was put.
     ghost takes: { Taking Self };
 
-    /// The traffic that was put so far, where the intake tells it.
+    /// The traffic that was put so far, if the intake tells it.
     ghost told: { Self → Option (List Traffic) };
 
     /// The ghost names of the references that the intake holds, which no step changes.
@@ -29,7 +29,7 @@ pub trait Intake {
     ///
     /// # Errors
     ///
-    /// Where memory was refused. The traffic wasn't put.
+    /// If memory was refused. The traffic wasn't put.
     fn put(&mut self, traffic: Traffic) -> Result<bool, AllocError>
         ensures names { names self.new ≡ names self.old }
         ensures takes { takes self.old traffic self.new result }
@@ -62,10 +62,9 @@ impl<I: Intake> Listener for Filling<'_, I> {
     }
 }
 
-/// Hears an open peer: puts each traffic that it says behind its READY into the intake, whole and in order, up to a
-/// command ERROR, which isn't put and ends hearing as `Wire` with `PeerError`. What came with READY is put first.
-/// Where the intake says no, hearing ends as `Eof`, and where it has no memory as `Failed` with `Memory`. At most
-/// `turns` reads are made.
+/// Hears an open peer: puts each traffic that it says after its READY into the intake, whole and in order. A command
+/// ERROR isn't put, and ends hearing as `Wire` with `PeerError`. What came with READY is put first. If the intake says
+/// no, hearing ends as `Eof`, and if it has no memory as `Failed` with `Memory`. At most `turns` reads are made.
 ///
 /// A peer is heard once: any end is for good, and nothing is left to hear. A further call reads nothing, puts nothing,
 /// and ends as `Wire` with `Spent`.

@@ -17,7 +17,7 @@ pub use echoing::echo;
 pub use end::{ConnectionEnd, Ending};
 pub use fault::ConnectionFault;
 pub use hearing::{Intake, hear};
-pub use laws::{law_one_hearing, law_one_serving};
+pub use laws::{law_one_serving, law_open_or_turned_away};
 pub use listening::{Listener, listen};
 pub use server::{Answered, Server};
 pub use serving::serve;

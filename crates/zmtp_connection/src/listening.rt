@@ -1,4 +1,4 @@
-//! Listening to a peer: one loop over what it says behind its READY, which hands each whole traffic to a listener.
+//! Listening to a peer: one loop over what it says after its READY, which hands each whole traffic to a listener.
 
 ghost use Rattle.std.specs.Prelude.{◌≡◌, ◌<◌, ℕ, List, length, None};
 ghost use Rattle.zmtp_wire.specs.declared.fault.WireFault.{WireFault};
@@ -34,16 +34,16 @@ pub trait Listener {
     ///
     /// # Errors
     ///
-    /// Where the listener ends listening: how. Nothing more is read then.
+    /// If the listener ends listening: how. Nothing more is read then.
     fn hear(&mut self, alloc: Global, traffic: Traffic) -> Result<(), Self::End>
         ensures names { names self.new ≡ names self.old }
         ensures hears { hears self.old traffic self.new result };
 }
 
-/// Listens to an open peer: hands each traffic that it sends behind its READY to the listener, whole and in order, up
-/// to a command ERROR, which ends it. What came with READY is handed on first. The connection ends listening with the
-/// peer's octets, where they are refused, or where a read fails, memory is refused or no turn is left; or the listener
-/// ends it. At most `turns` reads are made.
+/// Listens to an open peer: hands each traffic that it sends after its READY to the listener, whole and in order. What
+/// came with READY is handed on first. A command ERROR ends listening, and so may the listener. The connection ends it
+/// with the peer's octets, if they are refused, if a read fails, memory is refused or no turn is left. At most `turns`
+/// reads are made.
 ///
 /// A peer is heard once: any end is for good, and nothing is left to hear. A further call reads nothing, hands nothing
 /// on, and ends as the connection with `Wire(Spent)`.

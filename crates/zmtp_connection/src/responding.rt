@@ -77,7 +77,7 @@ impl<W: Outlet, S: Server> Desk<'_, '_, '_, W, S> {
 ///
 /// # Errors
 ///
-/// `Failed` with `Write`, where a beginning of it was written.
+/// `Failed` with `Write`, if a beginning of it was written.
 fn write_pong<W: Outlet>(writer: &mut W, traffic: &Traffic) -> Result<(), ConnectionEnd>
     ensures { PutsAll (W.outflow writer.old) (W.outflow writer.new) (pong_to traffic.now) result }
 {
@@ -97,7 +97,7 @@ fn mark<E>(dropped: bool, answered: &Result<Answered, E>) -> bool
     }
 }
 
-/// Goes on behind an answer that was written, or ends as it says; where the write failed, ends as that did.
+/// Goes on after an answer that was written, or ends as it says. If the write failed, it ends as that did.
 fn go<E: Drop>(
     answered: Result<Answered, E>,
     written: Result<(), ConnectionEnd>,

@@ -6,7 +6,7 @@ ghost use Rattle.zmtp_connection.specs.Server.{Answering};
 use std::alloc::Global;
 use zmtp_wire::Message;
 
-/// What became of a message, where the session goes on.
+/// What became of a message, if the session goes on.
 #[derive(Clone, Copy, Debug, PartialEq, Eq)]
 pub enum Answered {
     /// The message was done.
@@ -27,12 +27,12 @@ pub trait Server {
     /// The ghost names of the references that the server holds, which no step changes.
     ghost names: { Self → List ℕ };
 
-    /// Answers the message: adds the octets that are to be written to the peer, none where it has no answer. They
-    /// are written also where the session ends then.
+    /// Answers the message: adds the octets that are to be written to the peer, none if it has no answer. They are
+    /// written also if the session ends then.
     ///
     /// # Errors
     ///
-    /// Where the server ends the session: how. Nothing more is read then.
+    /// If the server ends the session: how. Nothing more is read then.
     fn answer(
         &mut self,
         alloc: Global,

@@ -13,10 +13,12 @@ use crate::shaking::shake_within;
 use std::alloc::Global;
 use zmtp_wire::{Inlet, Outlet, SocketType};
 
-/// Serves a peer: greeting out, greeting in, READY out, READY in, and then each message and each PING answered, until
-/// the peer's octets end, are refused, the server ends it, or the connection can't go on. Nothing is read once the message came at
-/// which the server ends it. A session of which a message was dropped for want of memory goes on, and ends as the
-/// connection, `Failed` with `Memory`. At most `turns` reads are made.
+/// Serves a peer: greeting out, greeting in, READY out, READY in, and then each message and each PING answered. It ends
+/// after the peer's octets end or are refused, if the server ends it, or if the connection can't go on. After the
+/// message has come at which the server ends it, nothing is read. At most `turns` reads are made.
+///
+/// If a message was dropped for want of memory the session goes on. It ends then as the connection, `Failed` with
+/// `Memory`.
 pub fn serve<R: Inlet, W: Outlet, S: Server>(
     alloc: Global,
     reader: &mut R,
@@ -41,7 +43,7 @@ pub fn serve<R: Inlet, W: Outlet, S: Server>(
     tell(dropped, ending)
 }
 
-/// The end that is told of a session: want of memory where a message was dropped, and else the end itself.
+/// The end that is told of a session: want of memory if a message was dropped, and else the end itself.
 fn tell<E: Drop>(dropped: bool, ending: Ending<E>) -> Ending<E>
     ensures { result ≡ told dropped ending }
 {

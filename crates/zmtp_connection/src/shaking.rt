@@ -28,7 +28,7 @@ const FIRST_PIECE: usize = 256;
 pub(crate) struct Unheard {
     /// What the octets brought.
     pub(crate) fed: Fed,
-    /// The decoder that reads on behind them.
+    /// The decoder that reads on after them.
     pub(crate) decoder: Decoder,
 }
 
@@ -88,15 +88,15 @@ impl OpenPeer {
     }
 }
 
-/// Shakes hands with a peer: writes our greeting whole before anything is read, reads the peer's, writes our READY
-/// where that is accepted, and reads the peer's READY, and nothing once that has come. Nothing more is written to a
-/// peer that is refused. At most `turns` reads are made.
+/// Shakes hands with a peer. It writes our greeting whole before anything is read, reads the peer's, and writes our
+/// READY if that is accepted. Then it reads the peer's READY, and nothing once that has come. Nothing more is written
+/// to a peer that is refused. At most `turns` reads are made.
 ///
 /// # Errors
 ///
-/// `Eof` where the peer's octets end before its READY came whole. `Wire` where its greeting, the octets of its
-/// first traffic or its READY are refused, or no memory was left for these. `Failed` where memory was refused, a
-/// read or a write failed, or no turn is left.
+/// `Eof` if the peer's octets end before its READY came whole. `Wire` if its greeting, the octets of its first traffic
+/// or its READY are refused, or no memory was left for these. `Failed` if memory was refused, a read or a write failed,
+/// or no turn is left.
 pub fn shake<R: Inlet, W: Outlet>(
     alloc: Global,
     reader: &mut R,
@@ -141,7 +141,7 @@ pub(crate) fn shake_within<R: Inlet, W: Outlet>(
     }
 }
 
-/// Writes our greeting, reads the peer's, and writes our READY where that is accepted.
+/// Writes our greeting, reads the peer's, and writes our READY if that is accepted.
 fn greet<R: Inlet, W: Outlet>(
     alloc: Global,
     reader: &mut R,
@@ -169,7 +169,7 @@ fn greet<R: Inlet, W: Outlet>(
     written
 }
 
-/// Reads the peer's greeting, and no octet behind it.
+/// Reads the peer's greeting, and no octet after it.
 fn read_opening<R: Inlet>(reader: &mut R, turns: &mut u64) -> Result<[u8; 64], ConnectionEnd>
     ensures ok { IfOk result (λ opening. (length opening ≡ 64)
         × Leg (source_at (R.inflow reader.old) turns.old) (source_at (R.inflow reader.new) turns.new) opening) }
@@ -185,7 +185,7 @@ fn read_opening<R: Inlet>(reader: &mut R, turns: &mut u64) -> Result<[u8; 64], C
     Ok(opening)
 }
 
-/// Reads until the first traffic behind the peer's greeting came whole.
+/// Reads until the first traffic after the peer's greeting came whole.
 fn read_first<R: Inlet>(
     reader: &mut R,
     decoder: &mut Decoder,

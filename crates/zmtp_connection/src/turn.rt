@@ -12,7 +12,7 @@ use zmtp_wire::{Inlet, Outlet, ReadFailed, WriteFailed, write_all};
 ///
 /// # Errors
 ///
-/// `Eof` where no octet is left, `Failed` with `Read` where the read failed, and with `Turns` where no turn is left.
+/// `Eof` if no octet is left, `Failed` with `Read` if the read failed, and with `Turns` if no turn is left.
 pub(crate) fn read_turn<R: Inlet>(
     reader: &mut R,
     into: &mut [u8],
@@ -41,7 +41,7 @@ pub(crate) fn read_turn<R: Inlet>(
 ///
 /// # Errors
 ///
-/// `Failed` with `Write`, where a beginning of them was written.
+/// `Failed` with `Write`, if a beginning of them was written.
 pub(crate) fn put<W: Outlet>(writer: &mut W, octets: &[u8]) -> Result<(), ConnectionEnd>
     ensures { PutsAll (W.outflow writer.old) (W.outflow writer.new) octets.now result }
 {

@@ -1,4 +1,4 @@
--- What a decoder holds, and what a feed makes of it.
+-- What a decoder holds, and what a feed makes of it (the octets that it reads are those of RFC 23, "Traffic").
 use Rattle.std.specs.Prelude.{◌≡◌, ℕ, Bool, true, false, List, [], ◌∷◌, ◌++◌, ◌⊎◌, Option, MatchOption}
 use Rattle.std.specs.List.{flat_map}
 use Rattle.zmtp_wire.specs.declared.traffic.limits.Limits.{Limits}
@@ -13,20 +13,20 @@ pub record Decoding : Type 0 where
   pub kept : List ℕ
   pub spent : Bool
 
--- Memory was refused, or the octets are.
+-- Memory was refused, or these octets have this fault.
 abbrev pub IsFaultOf : Limits → List ℕ → WireFault → Type 0
 IsFaultOf limits octets fault = (fault ≡ OutOfMemory) ⊎ IsFaulty limits octets fault
 
--- What was kept and the piece are spellings of the traffic and a rest. The rest is kept and isn't
--- finished, or its fault is answered and nothing is read from then on.
+-- What was kept and the piece are spellings of the traffic, and a rest. The rest is kept and isn't finished. Or it has
+-- a fault, which is answered, and nothing is read from then on.
 abbrev pub Feeds : Decoding → List ℕ → List Traffic → Option WireFault → Decoding → Type 0
 Feeds old piece traffic fault new = MatchOption fault
     (ReadsUpTo old.limits (old.kept ++ piece) traffic new.kept × IsUnfinished old.limits new.kept × (new.spent ≡ false))
     (λ found. ((rest : List ℕ) × ReadsUpTo old.limits (old.kept ++ piece) traffic rest
     × IsFaultOf old.limits rest found) × (new.spent ≡ true))
 
--- Feeds one after the other, each with its piece and its traffic, from what was kept at first to what is left
--- at last: what a feed without a fault keeps, or the rest behind the last one's traffic.
+-- Feeds follow each other, each with its piece and its traffic. They lead from what was kept at first to what is left
+-- at last. A feed without a fault leaves what it keeps, and another what follows its traffic.
 abbrev pub FeedsInTurn : Limits → List ℕ → List (List ℕ × List Traffic) → List ℕ → Type 0
 FeedsInTurn limits kept [] last = kept ≡ last
 FeedsInTurn limits kept (feed ∷ feeds) last =

@@ -1,4 +1,5 @@
--- Devices, which octets are read from and written to: what they tell, and counts that contracts alone see.
+-- Devices, from which octets are read and to which they are written: what they tell, and counts that contracts alone
+-- see.
 use Rattle.std.specs.Prelude.{◌≡◌, ℕ, zero, suc, ◌+◌, ◌<◌, min, List, ◌++◌, length, take, Option, Result, Ok}
 use Rattle.std.specs.Prelude.{Err}
 use Rattle.std.specs.Io.KnownBytes.{Appends, Consumes, IsAtEnd, Keeps}
@@ -9,7 +10,7 @@ use Rattle.zmtp_wire.specs.declared.device.WriteFailed.{WriteFailed}
 abbrev pub greatest_count : ℕ
 greatest_count = 18446744073709551615
 
--- a count after one more; at its greatest it stays, and has risen nevertheless
+-- A count after one more. The greatest count stays as it is, though it has risen.
 abbrev pub risen : ℕ → ℕ
 risen count = min (count + 1) greatest_count
 
@@ -18,20 +19,20 @@ abbrev pub risen_by : ℕ → ℕ → ℕ
 risen_by zero count = count
 risen_by (suc many) count = risen (risen_by many count)
 
--- an inlet: the octets that it has left, where it tells them; how often it was read; how many of these reads failed
+-- an inlet: the octets that it has left, if it tells them; how often it was read; how many of these reads failed
 pub record Inflow : Type 0 where
   pub left : Option (List ℕ)
   pub reads : ℕ
   pub failures : ℕ
 
--- an outlet: the octets that were written, where it tells them; how many writes failed or took nothing of a piece
+-- an outlet: the octets that were written, if it tells them; how many writes failed or took nothing of a piece
 pub record Outflow : Type 0 where
   pub written : Option (List ℕ)
   pub failures : ℕ
 
--- What a read does. Each one raises the count of reads. It takes the first of the octets left into the front of the
--- buffer, and none only where none is left or the buffer is empty; or it fails, takes none, and raises the count of
--- failures.
+-- What a read does. Each read raises the count of reads. It takes the first of the octets that are left into the front
+-- of the buffer. It takes none only if none is left or the buffer is empty. Or it fails, takes none, and raises the
+-- count of failures.
 abbrev pub ReadTakes : Inflow → Inflow → Result ℕ ReadFailed → List ℕ → Type 0
 ReadTakes old new (Ok count) buffer =
     Consumes old.left new.left (take count buffer) × (count ≡ 0 → 0 < length buffer → IsAtEnd new.left)
@@ -39,15 +40,15 @@ ReadTakes old new (Ok count) buffer =
 ReadTakes old new (Err failed) buffer =
     Keeps old.left new.left × (new.reads ≡ risen old.reads) × (new.failures ≡ risen old.failures)
 
--- how many failures a write that took this many octets of a piece of this length is: none, or one where it took
--- nothing of a piece that isn't empty
+-- how many failures a write is that took so many octets of a piece: one if it took none of a piece that isn't empty,
+-- and else none
 abbrev pub idle_writes : ℕ → ℕ → ℕ
 idle_writes zero (suc length) = 1
 idle_writes zero zero = 0
 idle_writes (suc taken) length = 0
 
--- What a write does. It adds the octets that it takes, the first of the piece; or it fails, and adds none. One that
--- failed, or took nothing of a piece that isn't empty, raises the count of failures.
+-- What a write does. It adds the octets that it takes, which are the first of the piece, or it fails and adds none. If
+-- it fails, or takes nothing of a piece that isn't empty, it raises the count of failures.
 abbrev pub WriteAdds : Outflow → Outflow → Result ℕ WriteFailed → List ℕ → Type 0
 WriteAdds old new (Ok count) piece =
     Appends old.written new.written (take count piece)
@@ -65,13 +66,13 @@ pub record Puts (old new : Outflow) (octets : List ℕ) (failures : ℕ) : Type 
   pub added : Appends old.written new.written octets
   pub fails : new.failures ≡ risen_by failures old.failures
 
--- All of the octets were added; or a beginning of them and not all, and then a write failed or took nothing.
+-- All of the octets were added. Or a write failed or took nothing, and only a beginning of them was added before.
 abbrev pub AddsAll : Outflow → Outflow → Result Unit WriteFailed → List ℕ → Type 0
 AddsAll old new (Ok done) octets = Puts old new octets 0
 AddsAll old new (Err failed) octets = (front : List ℕ) × (lost : List ℕ) × (octets ≡ front ++ lost)
     × (0 < length lost) × Puts old new front 1
 
--- a device and its counts
+-- a device of the standard library and its three counts: reads, failed reads, failed writes
 pub record Counting (Device : Type 0) : Type 0 where
   pub device : Device
   pub reads : ℕ

@@ -5,7 +5,7 @@ use Rattle.zmtp_wire.specs.declared.fault.WireFault.TheVariants.{Signature, Vers
 use Rattle.zmtp_wire.specs.declared.fault.WireFault.TheVariants.{TooManyFrames, MessageTooLong, Command, Pairing}
 use Rattle.zmtp_wire.specs.declared.fault.WireFault.TheVariants.{PeerError, Spent, OutOfMemory}
 
--- the number of a fault, from 1 on in the order in which the faults are listed
+-- the number of a fault; they count from 1 on, in the order in which the faults are listed
 abbrev pub wire_fault_number : WireFault → ℕ
 wire_fault_number Signature = 1
 wire_fault_number Version = 2

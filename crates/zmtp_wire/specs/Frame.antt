@@ -39,7 +39,7 @@ front_octets frames = flat_map (frame_octets true false) frames
 abbrev pub bodies_of : List Frame → List (List ℕ)
 bodies_of frames = map (λ frame. frame.body) frames
 
--- a frame as it is written: a long size only where one octet can't say it
+-- a frame as it is written: a long size only if one octet can't say it
 abbrev pub shortest : List ℕ → Frame
 shortest body = record { long = nat_lt 255 (length body); body = body }
 

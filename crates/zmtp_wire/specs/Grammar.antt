@@ -26,7 +26,7 @@ pub record SpellsMessage (limits : Limits) (octets : List ℕ) (bodies : List (L
   pub within : IsWithin limits bodies
   pub spelled : octets ≡ front_octets front ++ frame_octets false false last
 
--- a command's body: the name behind its length in one octet, and the rest
+-- a command's body: the name after its length in one octet, and the rest
 abbrev pub command_body : List ℕ → List ℕ → List ℕ
 command_body name rest = short_text name ++ rest
 
@@ -50,18 +50,18 @@ Reads limits octets [] = octets ≡ []
 Reads limits octets (first ∷ others) =
     (front : List ℕ) × (rest : List ℕ) × (octets ≡ front ++ rest) × Spells limits front first × Reads limits rest others
 
--- the octets begin with spellings of these, and the rest stands behind them
+-- the octets begin with spellings of these, and the rest follows them
 abbrev pub ReadsUpTo : Limits → List ℕ → List Traffic → List ℕ → Type 0
 ReadsUpTo limits octets traffic rest = (read : List ℕ) × (octets ≡ read ++ rest) × Reads limits read traffic
 
--- A flags octet that no frame may have behind the frames of a message that goes on: a reserved bit, or
--- COMMAND with MORE, or COMMAND inside a message.
+-- A flags octet that no frame may have after the frames of a message that goes on. It has a reserved bit, or COMMAND
+-- with MORE, or COMMAND inside a message.
 pub data IsBadFlags (before : List (List ℕ)) : ℕ → Type 0 where
   reserved : (flags : ℕ) → 8 ≤ flags → IsBadFlags before flags
   command_with_more : (long : Bool) → IsBadFlags before (flags_octet true long true)
   command_inside : (more long : Bool) → before ≢ [] → IsBadFlags before (flags_octet more long true)
 
--- a frame may have these flags behind the frames of a message that goes on
+-- a frame may have these flags after the frames of a message that goes on
 abbrev pub AcceptsFlags : Limits → List (List ℕ) → Bool → Bool → Type 0
 AcceptsFlags limits before more true = (more ≡ false) × (before ≡ [])
 AcceptsFlags limits before more false = length before < limits.frames
@@ -71,8 +71,8 @@ abbrev pub IsBadCommand : List ℕ → Type 0
 IsBadCommand [] = ⊤
 IsBadCommand (size ∷ rest) = (size ≡ 0) ⊎ (length rest < size)
 
--- The octets that stand behind the frames of a message that goes on are refused, as early as they say so:
--- the flags octet alone, then the head, and for a command its body.
+-- The octets that follow the frames of a message that goes on are refused. They are refused as early as they tell the
+-- fault: by the flags octet alone, then by the head, and for a command by its body.
 abbrev pub IsRefused : Limits → List (List ℕ) → List ℕ → WireFault → Type 0
 IsRefused limits before octets faults.Flags =
     (flags : ℕ) × (after : List ℕ) × (octets ≡ flags ∷ after) × IsBadFlags before flags
@@ -98,7 +98,7 @@ IsRefused limits before octets faults.PeerError = ⊥
 IsRefused limits before octets faults.Spent = ⊥
 IsRefused limits before octets faults.OutOfMemory = ⊥
 
--- the octets begin with frames of a message that goes on, none of them refused, and what follows is
+-- the octets begin with frames of a message that goes on, which are fine, and what follows them is refused
 pub record IsFaulty (limits : Limits) (octets : List ℕ) (fault : WireFault) : Type 0 where
   pub front : List Frame
   pub rest : List ℕ
@@ -107,12 +107,12 @@ pub record IsFaulty (limits : Limits) (octets : List ℕ) (fault : WireFault) : 
   pub spelled : octets ≡ front_octets front ++ rest
   pub refused : IsRefused limits (bodies_of front) rest fault
 
--- the octets begin with no whole traffic
+-- no whole traffic stands at the beginning of the octets
 abbrev pub HasNoTraffic : Limits → List ℕ → Type 0
 HasNoTraffic limits octets = (traffic : Traffic) (front rest : List ℕ) → octets ≡ front ++ rest
     → Spells limits front traffic → ⊥
 
--- the octets begin with no whole traffic, and nothing in them is refused yet
+-- no whole traffic stands at the beginning of the octets, and nothing in them is refused yet
 pub record IsUnfinished (limits : Limits) (octets : List ℕ) : Type 0 where
   pub no_traffic : HasNoTraffic limits octets
   pub no_fault : (fault : WireFault) → IsFaulty limits octets fault → ⊥

@@ -1,4 +1,5 @@
--- The greeting (ZeroMQ RFC 37, rule `greeting` of its grammar): 64 octets, which each peer sends before any frame.
+-- The greeting (ZeroMQ RFC 37, rule `greeting` of its grammar; RFC 23, rules `signature`, `version`, `mechanism` and
+-- "Version Negotiation"): 64 octets, which each peer sends before any frame.
 use Rattle.std.specs.Prelude.{◌≡◌, ℕ, ◌<◌, ◌≤◌, List, [], ◌∷◌, ◌++◌, codes, replicate, slice_index, slice_range}
 use Rattle.zmtp_wire.specs.declared.fault.WireFault.{WireFault}
 use Rattle.zmtp_wire.specs.declared.fault.WireFault.TheVariants as faults
@@ -48,7 +49,8 @@ pub record IsGreeting (octets : List ℕ) : Type 0 where
 abbrev pub peer_of : List ℕ → Peer
 peer_of octets = record { major = major_version octets; minor = minor_version octets }
 
--- why a greeting is refused: the first that isn't as it should be, of signature, version and mechanism
+-- why a greeting is refused: signature, version and mechanism are judged in this order, and the first that is wrong is
+-- told
 abbrev pub IsRefusedGreeting : List ℕ → WireFault → Type 0
 IsRefusedGreeting octets faults.Signature = ¬ (HasSignature octets)
 IsRefusedGreeting octets faults.Version = HasSignature octets × (major_version octets < 3)

@@ -8,14 +8,14 @@ use Rattle.zmtp_wire.specs.Frame.{text}
 use Rattle.zmtp_wire.specs.Grammar.{IsWithin, Spells, ReadsUpTo, HasNoTraffic, IsFaulty}
 use Rattle.zmtp_wire.specs.Decoding.{FeedsInTurn, pieces_of, traffic_of}
 
--- what stands in front of octets is one traffic, and its rest
+-- Octets begin with one traffic at most, in one spelling, and so what follows it is the same, too.
 abbrev pub FrontHasOneReading : Type 0
 FrontHasOneReading =
     (limits : Limits) (octets front others : List ℕ) (one other : Traffic) (rest after : List ℕ)
     → octets ≡ front ++ rest → Spells limits front one → octets ≡ others ++ after → Spells limits others other
     → (one ≡ other) × (rest ≡ after)
 
--- of two readings of octets one goes on where the other ends
+-- if octets are read in two ways, one reading begins with the other and goes on from its end
 abbrev pub ReadingGoesOn : Type 0
 ReadingGoesOn =
     (limits : Limits) (octets : List ℕ) (one other : List Traffic) (rest others : List ℕ)
@@ -23,7 +23,7 @@ ReadingGoesOn =
     → ((more : List Traffic) × (other ≡ one ++ more) × ReadsUpTo limits rest more others)
     ⊎ ((more : List Traffic) × (one ≡ other ++ more) × ReadsUpTo limits others more rest)
 
--- up to a rest that begins with no whole traffic, the traffic and the rest are these and no others
+-- If octets are read until no whole traffic is left, the traffic and the rest are these and no others.
 abbrev pub WholeHasOneReading : Type 0
 WholeHasOneReading =
     (limits : Limits) (octets : List ℕ) (one other : List Traffic) (rest others : List ℕ)
@@ -31,7 +31,7 @@ WholeHasOneReading =
     → ReadsUpTo limits octets other others → HasNoTraffic limits others
     → (one ≡ other) × (rest ≡ others)
 
--- what feeds in turn read of their pieces is read of the pieces joined
+-- what feeds in turn read of their pieces is what is read of the pieces joined
 abbrev pub FeedsReadJoined : Type 0
 FeedsReadJoined =
     (limits : Limits) (kept last : List ℕ) (feeds : List (List ℕ × List Traffic))
@@ -47,7 +47,7 @@ CuttingsAgree =
     → FeedsInTurn limits [] other others → HasNoTraffic limits others
     → (traffic_of feeds ≡ traffic_of other) × (last ≡ others)
 
--- octets are refused for one fault
+-- octets are refused for one fault only
 abbrev pub HasOneFault : Type 0
 HasOneFault =
     (limits : Limits) (octets : List ℕ) (one other : WireFault)

@@ -23,13 +23,13 @@ size_len true = 8
 abbrev pub head_of : Flags → ℕ → List ℕ
 head_of flags size = head_octets flags.more flags.long flags.command size
 
--- the octets of a frame that have come
+-- the octets of a frame that have come so far
 abbrev pub stage_octets : Stage → List ℕ
 stage_octets stages.Flags = []
 stage_octets (stages.Size flags octets) = flags_octet flags.more flags.long flags.command ∷ octets
 stage_octets (stages.Body flags size body) = head_of flags size ++ body.items
 
--- the octets of a message, or of a command, that have come
+-- the octets that have come of a message or of a command: its whole frames, and what its next one has so far
 abbrev pub pending_octets : Pending → List ℕ
 pending_octets pending = front_octets pending.frames.items ++ stage_octets pending.stage
 
@@ -37,7 +37,7 @@ pending_octets pending = front_octets pending.frames.items ++ stage_octets pendi
 abbrev pub bodies_before : Pending → List (List ℕ)
 bodies_before pending = bodies_of pending.frames.items
 
--- a frame may have this size behind the frames of a message that goes on
+-- a frame may have this size after the frames of a message that goes on
 pub record AcceptsSize (limits : Limits) (before : List (List ℕ)) (flags : Flags) (size : ℕ) : Type 0 where
   pub allowed : AcceptsFlags limits before flags.more flags.command
   pub said : size < size_bound flags.long
@@ -62,14 +62,14 @@ pub record IsPending (pending : Pending) : Type 0 where
   pub front : IsFront pending
   pub stage : IsStage pending.limits (bodies_before pending) pending.stage
 
--- the octets are kept now, or they spell traffic that was given and nothing is kept
+-- The octets are kept now. Or they spell traffic, which was given, and nothing is kept.
 pub record Keeps (limits : Limits) (octets : List ℕ) (new : Pending) (traffic : Option Traffic) : Type 0 where
   pub same : new.limits ≡ limits
   pub pending : IsPending new
   pub kept : MatchOption traffic (pending_octets new ≡ octets)
       (λ whole. Spells limits octets whole × (pending_octets new ≡ []))
 
--- memory was refused, or the octets are, however they go on
+-- memory was refused, or the octets are refused, however they go on
 abbrev pub Refuses : Limits → List ℕ → WireFault → Type 0
 Refuses limits octets fault = (fault ≡ OutOfMemory) ⊎ ((after : List ℕ) → IsFaulty limits (octets ++ after) fault)
 

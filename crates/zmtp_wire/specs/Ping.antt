@@ -7,7 +7,7 @@ use Rattle.zmtp_wire.specs.declared.traffic.Traffic.TheVariants.{Message, Comman
 use Rattle.zmtp_wire.specs.Frame.{frame_octets, shortest}
 use Rattle.zmtp_wire.specs.Grammar.{command_body}
 
--- the context behind two octets of time to live, of at most 16 octets
+-- the context that follows two octets of time to live, if it has 16 octets at most
 abbrev pub context_in : List ℕ → Option (List ℕ)
 context_in [] = None
 context_in (high ∷ []) = None
@@ -22,7 +22,7 @@ ping_context (Command name rest) = if bytes_eq name (codes "PING") then context_
 abbrev pub pong_octets : List ℕ → List ℕ
 pong_octets context = frame_octets false true (shortest (command_body (codes "PONG") context))
 
--- the PONG of a context of any length: one that is too long has none
+-- the PONG of a context, or nothing if the context is longer than 16 octets
 abbrev pub pong_if_short : List ℕ → List ℕ
 pong_if_short context = if nat_lt 16 (length context) then [] else pong_octets context
 

@@ -1,5 +1,5 @@
--- The command READY of the mechanism NULL (ZeroMQ RFC 23, section "The NULL Security Mechanism"): a list of
--- properties, which says the socket type of the peer, and its identity if it has one.
+-- The command READY of the mechanism NULL (ZeroMQ RFC 23, section "The NULL Security Mechanism"). It is a list of
+-- properties. They say the peer's socket type, and its identity if it has one.
 use Rattle.std.specs.Prelude.{◌≡◌, ◌≢◌, ◌⊎◌, ℕ, ◌<◌, ◌≤◌, ◌^◌, Bool, true, false, List, [], ◌++◌, length, codes}
 use Rattle.std.specs.Prelude.{find, Option, Some, None, Result, Ok, Err}
 use Rattle.std.specs.List.{AllByRecursion, flat_map}
@@ -22,7 +22,7 @@ pub record Property : Type 0 where
   pub name : List ℕ
   pub value : List ℕ
 
--- property = name value: the name behind one octet of length, the value behind four
+-- property = name value: the name after one octet of length, the value after four
 abbrev pub property_octets : Property → List ℕ
 property_octets p = short_text p.name ++ long_text p.value
 
@@ -36,7 +36,7 @@ pub record IsProperty (p : Property) : Type 0 where
 abbrev pub Properties : List ℕ → List Property → Type 0
 Properties octets ps = (octets ≡ flat_map property_octets ps) × AllByRecursion IsProperty ps
 
--- the octets begin with this property, and rest stands behind it
+-- the octets begin with this property, and the rest follows it
 abbrev pub BeginsWithProperty : List ℕ → Property → List ℕ → Type 0
 BeginsWithProperty octets p rest = IsProperty p × (octets ≡ property_octets p ++ rest)
 
@@ -57,15 +57,15 @@ abbrev pub ready_octets : SocketType → List ℕ
 ready_octets socket = frame_octets false true (shortest
     (command_body (codes "READY") (property_octets (type_property socket))))
 
--- the octets behind READY are properties, and the first of this name among them has this value
+-- the octets after READY are properties, and the first of this name among them has this value
 abbrev pub AnnouncesIn : List ℕ → List ℕ → List ℕ → Type 0
 AnnouncesIn name rest value = (ps : List Property) × Properties rest ps × (announced name ps ≡ Some value)
 
--- the octets behind READY are no list of properties
+-- the octets after READY are no list of properties
 abbrev pub HasNoProperties : List ℕ → Type 0
 HasNoProperties rest = (ps : List Property) → ¬ (Properties rest ps)
 
--- the octets behind READY are properties, and none of them has this name
+-- the octets after READY are properties, and none of them has this name
 abbrev pub AnnouncesNoneIn : List ℕ → List ℕ → Type 0
 AnnouncesNoneIn name rest = (ps : List Property) × Properties rest ps × (announced name ps ≡ None)
 
@@ -110,7 +110,7 @@ Accepts ours value peer = NamesType value peer × Pairs ours peer
 abbrev pub AcceptsNone : SocketType → List ℕ → Type 0
 AcceptsNone ours value = (peer : SocketType) → ¬ (Accepts ours value peer)
 
--- what a socket of ours makes of the first that comes behind the greeting, outcome by outcome
+-- what a socket of ours makes of the first traffic after the greeting, outcome by outcome
 abbrev pub IsReady : Traffic → SocketType → Result Ready WireFault → Type 0
 IsReady first ours (Ok ready) = (value : List ℕ) × Announces first value × Accepts ours value ready.peer
 IsReady first ours (Err fault.Pairing) = (value : List ℕ) × Announces first value × AcceptsNone ours value
@@ -136,13 +136,13 @@ abbrev pub OneIdentity : Type 0
 OneIdentity =
     (first : Traffic) (one other : List ℕ) → IsIdentity first one → IsIdentity first other → one ≡ other
 
--- what comes behind the greeting has one outcome at most
+-- what comes after the greeting has one outcome at most
 abbrev pub ReadyHasOneOutcome : Type 0
 ReadyHasOneOutcome =
     (first : Traffic) (ours : SocketType) (one other : Result Ready WireFault)
     → IsReady first ours one → IsReady first ours other → one ≡ other
 
--- a peer that accepts our type is told it by our READY
+-- our READY tells our type to a peer that accepts it
 abbrev pub OurReadyIsRead : Type 0
 OurReadyIsRead =
     (ours peer : SocketType) → Pairs peer ours

@@ -25,15 +25,15 @@ pub struct WriteFailed;
 
 /// What octets are read from.
 pub trait Inlet {
-    /// The octets left, where it tells them, and its counts.
+    /// The octets that are left, if it tells them, and its counts.
     ghost inflow: { Self → Inflow };
 
-    /// Reads the next octets into the front of `into`, and answers how many: 0 only where none is left, or where
-    /// `into` is empty.
+    /// Reads the next octets into the front of `into`, and answers how many: 0 only if none is left, or if `into` is
+    /// empty.
     ///
     /// # Errors
     ///
-    /// Where the read failed. It took no octet.
+    /// If the read failed. It took no octet.
     fn read(&mut self, into: &mut [u8]) -> Result<usize, ReadFailed>
         ensures bound { ReadsAtMost result into.new }
         ensures reads { ReadTakes (inflow self.old) (inflow self.new) result into.new };
@@ -41,14 +41,14 @@ pub trait Inlet {
 
 /// What octets are written to.
 pub trait Outlet {
-    /// The octets written, where it tells them, and its count.
+    /// The octets that were written, if it tells them, and its count.
     ghost outflow: { Self → Outflow };
 
-    /// Writes the first octets of a piece, and answers how many: 0 counts as a failure where the piece isn't empty.
+    /// Writes the first octets of a piece, and answers how many: 0 counts as a failure if the piece isn't empty.
     ///
     /// # Errors
     ///
-    /// Where the write failed. It added no octet.
+    /// If the write failed. It added no octet.
     fn write(&mut self, piece: &[u8]) -> Result<usize, WriteFailed>
         ensures bound { WritesAtMost result piece.now }
         ensures writes { WriteAdds (outflow self.old) (outflow self.new) result piece.now };

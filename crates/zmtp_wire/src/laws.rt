@@ -4,16 +4,16 @@
 ghost use Rattle.zmtp_wire.specs.Laws.{FrontHasOneReading, ReadingGoesOn, WholeHasOneReading, FeedsReadJoined};
 ghost use Rattle.zmtp_wire.specs.Laws.{CuttingsAgree, HasOneFault, FaultyHasNoTraffic, FaultStays, TextIsReadFirst};
 
-/// No octets are read in two ways: what stands in front is one traffic and its rest; of two readings one goes on
-/// where the other ends; and up to a rest that begins with no whole traffic, the traffic and the rest are these
-/// and no others.
+/// No octets are read in two ways. What stands at the front is one traffic and its rest. Of two readings one goes on
+/// from the end of the other. If octets are read until no whole traffic is left, the traffic and the rest are these and
+/// no others.
 pub fn law_one_reading()
     ensures front { FrontHasOneReading }
     ensures goes_on { ReadingGoesOn }
     ensures whole { WholeHasOneReading }
 {}
 
-/// The cutting doesn't matter: what feeds in turn read of their pieces is read of the pieces joined, and two
+/// The cutting doesn't matter. What feeds in turn read of their pieces is what is read of the pieces joined. Two
 /// cuttings of one stream give the same traffic and leave the same rest.
 pub fn law_any_cutting()
     ensures joined { FeedsReadJoined }

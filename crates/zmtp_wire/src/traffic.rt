@@ -1,4 +1,4 @@
-//! What a peer sends behind its greeting: frames, and the messages and commands that they spell (RFC 23, "Traffic").
+//! What a peer sends after its greeting: frames, and the messages and commands that they spell (RFC 23, "Traffic").
 
 mod command;
 pub(crate) mod decoder;

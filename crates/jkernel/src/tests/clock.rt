@@ -1,6 +1,6 @@
 //! Clocks that can't be read.
 
-use crate::program::tell_of_clock;
+use kernel_program::tell_of_clock;
 use std::io::{self, ErrorKind};
 use std::time::{Clock, Duration};
 
@@ -42,6 +42,7 @@ fn a_clock_that_cannot_be_read_is_told_once(rt: HostRuntime) {
                 has_date,
                 has_start,
             },
+            "jkernel",
             &mut faults,
         );
         let lines = faults.iter().filter(|octet| **octet == b'\n').count();

@@ -1,7 +1,8 @@
 //! One stored run whose octets come in pieces: cut anywhere, interrupted, and refused at a read. What the whole comes
 //! to, `tests/programs/sessions` compares octet by octet.
 
-use crate::replay::{ReplayFault, answer_peer, run_replay};
+use arith_shell::ShellArith;
+use kernel_program::{ReplayFault, answer_peer, run_replay};
 use std::alloc::Global;
 use std::io::{self, ErrorKind, Read};
 use std::test::Fail;
@@ -29,7 +30,7 @@ struct Pieces<'a> {
     rest: &'a [u8],
     /// How many octets come before the cut.
     front: usize,
-    /// How many octets a read gives behind it.
+    /// How many octets a read gives after it.
     width: usize,
     /// How many reads lie between two that are interrupted.
     calm: u32,
@@ -85,14 +86,25 @@ fn octets(alloc: Global) -> Result<Vec<u8>, Fail> {
 
 /// The lines of the session with this peer, under no key.
 fn answered(alloc: Global, peer: Pieces<'_>) -> Result<Vec<u8>, ReplayFault> {
-    answer_peer(alloc, Vec::new(alloc), &mut Counted::new(peer))
+    answer_peer(
+        alloc,
+        ShellArith::new(alloc),
+        Vec::new(alloc),
+        &mut Counted::new(peer),
+    )
 }
 
 /// The status of a replay of this text under no key, and what it prints.
 fn replayed(alloc: Global, text: Pieces<'_>) -> (u8, Vec<u8>) {
     let mut reader = text;
     let mut output = Vec::new(alloc);
-    let status = run_replay(alloc, &mut reader, &mut output, Vec::new(alloc));
+    let status = run_replay(
+        alloc,
+        ShellArith::new(alloc),
+        &mut reader,
+        &mut output,
+        Vec::new(alloc),
+    );
     (status, output)
 }
 
@@ -130,7 +142,7 @@ fn a_peer_in_pieces_is_answered_the_same(rt: HostRuntime) -> Result<(), Fail> {
 #[test]
 fn a_read_that_fails_ends_the_session(rt: HostRuntime) -> Result<(), Fail> {
     let sent = octets(rt.alloc())?;
-    // One octet a read, and a last read that finds the end; behind that none is made.
+    // One octet a read, and a last read that finds the end; after that none is made.
     let reads = SENT as u32 + 1;
     for fails in 1..=reads + 1 {
         let mut peer = Pieces::of(&sent, 1);

@@ -1,7 +1,8 @@
 //! The whole program on writers that keep what is written, and on words that no system gives here.
 
-use crate::program::run;
-use crate::tests::devices::Buffered;
+use crate::arithmetic::Arithmetic;
+use crate::tests::devices::{Buffered, Closed, Full};
+use kernel_program::run;
 use kernel_serve::Until;
 use std::alloc::Global;
 use std::io::{self, ErrorKind};
@@ -27,6 +28,7 @@ fn what_is_printed_and_told_is_flushed(rt: HostRuntime) -> Result<(), Fail> {
         run(
             &rt,
             alloc,
+            &Arithmetic,
             &words,
             Until::Asked,
             &mut reader,
@@ -49,6 +51,7 @@ fn words_for_which_there_is_no_memory_fail(rt: HostRuntime) {
     let status = run(
         &rt,
         alloc,
+        &Arithmetic,
         &words,
         Until::Asked,
         &mut reader,
@@ -57,4 +60,35 @@ fn words_for_which_there_is_no_memory_fail(rt: HostRuntime) {
     );
     assert!(rt; status == 1 && output.is_empty());
     assert!(rt; faults.as_slice() == b"jkernel: failed\n".as_slice());
+}
+
+#[test]
+fn fails_where_a_write_fails(rt: HostRuntime) -> Result<(), Fail> {
+    let alloc = rt.alloc();
+    let words = given(alloc, &["kernelspec"])?;
+    let mut reader = b"".as_slice();
+    let mut faults = Vec::new(alloc);
+    let closed = run(
+        &rt,
+        alloc,
+        &Arithmetic,
+        &words,
+        Until::Asked,
+        &mut reader,
+        &mut Closed,
+        &mut faults,
+    );
+    let full = run(
+        &rt,
+        alloc,
+        &Arithmetic,
+        &words,
+        Until::Asked,
+        &mut reader,
+        &mut Full,
+        &mut faults,
+    );
+    assert_eq!(rt; closed, 1);
+    assert_eq!(rt; full, 1);
+    Ok(())
 }

@@ -17,7 +17,7 @@ pub struct Peer {
 /// The first octet of the signature.
 const SIGNATURE_OPENS: u8 = 0xFF;
 
-/// The last octet of the signature, behind eight of padding.
+/// The last octet of the signature, after eight of padding.
 const SIGNATURE_CLOSES: u8 = 0x7F;
 
 /// The major version that we speak, and the least that we accept.

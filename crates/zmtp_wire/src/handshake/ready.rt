@@ -23,7 +23,7 @@ pub struct Ready {
 /// The flags octet of a command whose size stands in one octet.
 const SHORT_COMMAND: u8 = 0x04;
 
-/// What stands in our READY before the length of the value: two names behind their lengths.
+/// What stands in our READY before the length of the value: two names after their lengths.
 const NAMES: &[u8] = b"\x05READY\x0BSocket-Type";
 
 /// How long the body of our READY is but for the value: the names, and the four octets of the value's length.
@@ -49,8 +49,8 @@ pub fn ready_text(alloc: Global, socket: SocketType) -> Result<Vec<u8>, WireFaul
     Ok(text)
 }
 
-/// Reads the first that a peer sends behind its greeting, which has to be READY (RFC 23, "The NULL Security
-/// Mechanism"). The whole list of properties is judged; the first `Socket-Type` in it counts. Takes no memory.
+/// Reads the first that a peer sends after its greeting, which has to be READY (RFC 23, "The NULL Security Mechanism").
+/// The whole list of properties is judged; the first `Socket-Type` in it counts. Takes no memory.
 ///
 /// # Errors
 ///
@@ -144,7 +144,7 @@ fn announced_in<'a>(rest: &'a [u8], sought: &[u8]) -> Option<&'a [u8]>
     found
 }
 
-/// The name and the value of the property at the front, and what stands behind it.
+/// The name and the value of the property at the front, and what stands after it.
 fn property_at(octets: &[u8]) -> Option<(&[u8], &[u8], &[u8])>
     ensures found { IfSome result (λ x.
         BeginsWithProperty octets.now (record { name = x.0.now; value = x.1.now }) x.2.now) }
@@ -155,7 +155,7 @@ fn property_at(octets: &[u8]) -> Option<(&[u8], &[u8], &[u8])>
     Some((name, value, behind))
 }
 
-/// The text at the front behind its length in one octet, which isn't 0, and what stands behind it.
+/// The text at the front after its length in one octet, which isn't 0, and what stands after it.
 fn short_text_at(octets: &[u8]) -> Option<(&[u8], &[u8])>
     ensures found { IfSome result (λ x. (1 ≤ length x.0.now) × (length x.0.now < 256)
         × (octets.now ≡ short_text x.0.now ++ x.1.now)) }
@@ -169,7 +169,7 @@ fn short_text_at(octets: &[u8]) -> Option<(&[u8], &[u8])>
     Some(behind.split_at(len))
 }
 
-/// The text at the front behind its length in four octets, and what stands behind it.
+/// The text at the front after its length in four octets, and what stands after it.
 fn long_text_at(octets: &[u8]) -> Option<(&[u8], &[u8])>
     ensures found { IfSome result (λ x. (length x.0.now < 2 ^ 32) × (octets.now ≡ long_text x.0.now ++ x.1.now)) }
     ensures none { IfNone result ((text rest : List ℕ) → length text < 2 ^ 32 → octets.now ≢ long_text text ++ rest) }
@@ -192,7 +192,7 @@ pub fn law_one_identity()
     ensures { OneIdentity }
 {}
 
-/// What comes behind a greeting has one outcome at most.
+/// What comes after a greeting has one outcome at most.
 pub fn law_ready_has_one_outcome()
     ensures { ReadyHasOneOutcome }
 {}

@@ -10,7 +10,7 @@ use crate::traffic::Traffic;
 use listed::Octets;
 use std::alloc::Global;
 
-/// The command that a frame's body is. The body becomes what stands behind the name, and the name alone is copied.
+/// The command that a frame's body is. The body becomes what stands after the name, and the name alone is copied.
 pub(crate) fn command_of(alloc: Global, body: Vec<u8>) -> Result<Traffic, WireFault>
     ensures ok { IfOk result (IsCommandOf body.items) }
     ensures err { IfErr result (λ fault. (fault ≡ OutOfMemory)

@@ -16,15 +16,15 @@ use std::marker::Model;
 /// What a piece of the stream brought.
 #[derive(Debug, Drop)]
 pub struct Fed {
-    /// What became whole in this piece, in order, before the fault where there is one.
+    /// What became whole in this piece, in order, before the fault if there is one.
     pub traffic: Row<Traffic>,
     /// Why the rest is refused, or that no memory was left.
     pub fault: Option<WireFault>,
 }
 
-/// Reads a peer's messages and commands from the octets behind its greeting, in whatever pieces they come
-/// (RFC 23, "Traffic"). It keeps the octets that aren't whole traffic, no more than the limits allow and
-/// the heads of these frames, and looks at each octet once.
+/// Reads a peer's messages and commands from the octets after its greeting, in whatever pieces they come (RFC 23,
+/// "Traffic"). It keeps the octets that aren't whole traffic, no more than the limits allow and the heads of these
+/// frames, and looks at each octet once.
 #[derive(Debug, Drop)]
 pub struct Decoder {
     /// What has come of traffic that isn't whole.

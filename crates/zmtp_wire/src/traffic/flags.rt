@@ -27,7 +27,7 @@ const COMMAND: u8 = 4;
 const RESERVED: u8 = !(MORE | LONG | COMMAND);
 
 impl Flags {
-    /// What the octet says, or nothing where a reserved bit is set.
+    /// What the octet says, or nothing if a reserved bit is set.
     pub(crate) fn read(octet: u8) -> Option<Flags>
         ensures known { IfSome result (λ flags. octet ≡ flags_octet flags.more flags.long flags.command) }
         ensures reserved { IfNone result (8 ≤ octet) }

@@ -2,7 +2,7 @@
 
 use listed::Octets;
 
-/// A frame as it was spelled: the same body may stand behind a short or a long size.
+/// A frame as it was spelled: the same body may stand after a short or a long size.
 #[derive(Debug, Drop)]
 pub struct Frame {
     /// Whether the size has eight octets.

@@ -13,7 +13,7 @@ pub(crate) const LONGEST: usize = 23;
 /// no memory of its own, and a contract sees the list of the octets.
 #[derive(Debug, Drop)]
 pub struct Head {
-    /// The octets, and zeros behind them.
+    /// The octets, and zeros after them.
     pub(crate) octets: [u8; LONGEST],
     /// How many they are.
     pub(crate) len: usize,
@@ -38,8 +38,8 @@ impl Head {
     }
 }
 
-/// The head of a frame of a message whose body has `len` octets, with MORE where another frame follows (RFC 23,
-/// "Framing"): the size has one octet up to 255 and eight above. Needs no memory.
+/// The head of a frame of a message whose body has `len` octets, with MORE if another frame follows (RFC 23,
+/// "Framing"). The size has one octet up to 255 and eight above. Needs no memory.
 pub fn frame_head(more: bool, len: usize) -> Head
     ensures { result ≡ head_octets more (nat_lt 255 len) false len }
 {

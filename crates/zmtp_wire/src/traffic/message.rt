@@ -63,14 +63,14 @@ impl Message {
 ///
 /// # Errors
 ///
-/// `OutOfMemory`, where `out` hasn't that room and isn't given it, and nothing else. `out` stays as it was.
+/// `OutOfMemory`, if `out` hasn't that room and isn't given it, and nothing else. `out` stays as it was.
 pub fn write_message(_alloc: Global, frames: &[Vec<u8>], out: &mut Vec<u8>) -> Result<(), WireFault>
     requires { 0 < length frames.now }
     ensures ok { OnOk result (out.new.items ≡ out.old.items ++ text (bodies frames.now)) }
     ensures err { OnErr result (out.new.items ≡ out.old.items) }
     ensures fault { IfErr result (λ fault. fault ≡ OutOfMemory) }
 
-    // It is refused only where room was missing.
+    // It is refused only if room was missing.
     ensures full { OnErr result (vec_capacity out.old < vec_len out.old + length (text (bodies frames.now))) }
 {
     let Some(room) = text_len(frames) else {
@@ -81,8 +81,7 @@ pub fn write_message(_alloc: Global, frames: &[Vec<u8>], out: &mut Vec<u8>) -> R
     Ok(())
 }
 
-/// How many octets the text of a message of these frames has, or nothing where a `usize` can't say it. Needs no
-/// memory.
+/// How many octets the text of a message of these frames has, or nothing if a `usize` can't say it. Needs no memory.
 pub fn text_len(frames: &[Vec<u8>]) -> Option<usize>
     ensures said { IfSome result (λ len. len ≡ length (text (bodies frames.now))) }
     ensures unsaid { IfNone result (usize.MAX < length (text (bodies frames.now))) }

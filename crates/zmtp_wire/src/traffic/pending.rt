@@ -24,9 +24,9 @@ use std::mem;
 pub(crate) enum Stage {
     /// Its flags are next.
     Flags,
-    /// Its size is next, of which these octets have come.
+    /// Its size is next, and these octets of it have come.
     Size(Flags, SizeOctets),
-    /// Its body is next, of this size, of which these octets have come.
+    /// Its body is next, which has this size, and these octets of it have come.
     Body(Flags, usize, Vec<u8>),
 }
 
@@ -94,7 +94,7 @@ impl Pending {
         }
     }
 
-    /// Takes the flags octet of the next frame, and what follows it where the size is whole.
+    /// Takes the flags octet of the next frame, and what follows it, if the size is whole.
     #[inline(always)]
     fn begin(&mut self, alloc: Global, octets: &[u8]) -> Result<Step, WireFault>
         requires front { IsFront self.old }
@@ -135,7 +135,7 @@ impl Pending {
         Ok(flags)
     }
 
-    /// Takes octets of the size, and of the body behind it.
+    /// Takes octets of the size, and of the body after it.
     #[inline(never)]
     fn measure(
         &mut self,
@@ -323,7 +323,7 @@ impl Pending {
     }
 }
 
-/// Takes out the bodies of these frames, and puts the last one behind them, none of them copied.
+/// Takes out the bodies of these frames, and puts the last one after them, none of them copied.
 fn message(alloc: Global, frames: &mut Vec<Frame>, last: Vec<u8>) -> Result<Message, AllocError>
     ensures message { IfOk result (λ message. message ≡ bodies_of frames.old.items ++ last.items ∷ []) }
     ensures empty { OnOk result (frames.new.items ≡ []) }

@@ -10,15 +10,14 @@ use crate::traffic::head::{Head, LONGEST};
 /// How many octets the context of a PING or PONG has at most.
 pub const CONTEXT_LIMIT: usize = 16;
 
-/// The name of the command PONG, behind its length.
+/// The name of the command PONG, after its length.
 const PONG: [u8; 5] = *b"\x04PONG";
 
-/// Where a PONG's context begins: behind its flags, its size and its name.
+/// Where a PONG's context begins: after its flags, its size and its name.
 const BEFORE_CONTEXT: usize = 7;
 
-/// The context of a PING, which its PONG gives back: what stands behind two octets of time to live, at most 16 octets.
-/// A PING without these two, or with more than 16 behind them, has none, and neither has other traffic. Takes no
-/// memory.
+/// The context of a PING, which its PONG gives back: what stands after two octets of time to live, at most 16 octets. A
+/// PING without these two, or with more than 16 after them, has none, and neither has other traffic. Takes no memory.
 pub fn read_ping(traffic: &Traffic) -> Option<&[u8]>
     ensures context { option_map (λ context. context.now) result ≡ ping_context traffic.now }
     ensures short { IfSome result (λ context. length context.now ≤ 16) }
@@ -32,7 +31,7 @@ pub fn read_ping(traffic: &Traffic) -> Option<&[u8]>
     context_in(rest.as_slice())
 }
 
-/// The context in what stands behind a PING's name.
+/// The context in what stands after a PING's name.
 fn context_in(rest: &[u8]) -> Option<&[u8]>
     ensures context { option_map (λ context. context.now) result ≡ context_in rest.now }
     ensures short { IfSome result (λ context. length context.now ≤ 16) }

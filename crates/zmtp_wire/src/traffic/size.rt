@@ -9,7 +9,7 @@ use std::marker::Model;
 /// The octets of a long size that have come, eight at most. They take no memory of their own.
 #[derive(Debug, Drop)]
 pub(crate) struct SizeOctets {
-    /// The octets that have come, and zeros behind them.
+    /// The octets that have come, and zeros after them.
     octets: [u8; 8],
     /// How many have come.
     count: usize,
@@ -48,7 +48,7 @@ impl SizeOctets {
         taken
     }
 
-    /// The number that they say, where all have come.
+    /// The number that they say, if all have come.
     pub(crate) fn number(&self) -> Option<usize>
         ensures said { IfSome result (λ size. size < 2 ^ 64) }
         ensures value { IfSome result (λ size. size_octets true size ≡ self.now) }
@@ -61,7 +61,7 @@ impl SizeOctets {
     }
 }
 
-/// The size that these octets begin with, where all of it has come.
+/// The size that these octets begin with, if all of it has come.
 pub(crate) fn size_behind(long: bool, octets: &[u8]) -> Option<usize>
     ensures said { IfSome result (λ size. size < size_bound long) }
     ensures come { IfSome result (λ _. size_len long ≤ length octets.now) }

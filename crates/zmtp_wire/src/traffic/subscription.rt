@@ -6,15 +6,15 @@ ghost use Rattle.zmtp_wire.specs.Subscription.{sole_body, subscribed_topic, canc
 use crate::traffic::Traffic;
 use crate::traffic::message::Message;
 
-/// The first octet of a message that subscribes to the topic behind it.
+/// The first octet of a message that subscribes to the topic after it.
 const SUBSCRIBE: u8 = 1;
 
-/// The first octet of a message that gives up the topic behind it.
+/// The first octet of a message that gives up the topic after it.
 const CANCEL: u8 = 0;
 
 impl Traffic {
-    /// The topic that a subscriber subscribes to by it, where it does: the octets behind the 1 that its one frame
-    /// begins with (ZMTP 3.0, "The SUB Socket Type"), or what the command SUBSCRIBE says (ZMTP 3.1).
+    /// The topic that a subscriber subscribes to by it, if it does. That is what follows the 1 with which its one frame
+    /// begins (ZMTP 3.0, "The SUB Socket Type"), or what the command SUBSCRIBE says (ZMTP 3.1).
     pub fn subscribed_topic(&self) -> Option<&[u8]>
         ensures { option_map (λ topic. topic.now) result ≡ subscribed_topic self.now }
     {
@@ -37,8 +37,8 @@ impl Traffic {
         }
     }
 
-    /// The topic that a subscriber gives up by it, where it does: the octets behind the 0 that its one frame begins
-    /// with, or what the command CANCEL says.
+    /// The topic that a subscriber gives up by it, if it does. That is what follows the 0 with which its one frame
+    /// begins, or what the command CANCEL says.
     pub fn cancelled_topic(&self) -> Option<&[u8]>
         ensures { option_map (λ topic. topic.now) result ≡ cancelled_topic self.now }
     {
@@ -58,7 +58,7 @@ impl Traffic {
     }
 }
 
-/// The body of its frame, where a message has one.
+/// The body of its frame, if a message has one.
 fn sole_frame(message: &Message) -> Option<&[u8]>
     ensures { option_map (λ frame. frame.now) result ≡ sole_body message.now }
 {

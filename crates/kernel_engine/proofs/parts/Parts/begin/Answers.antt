@@ -1,10 +1,8 @@
-use Rattle.std.proofs.Common.{arith, ◌≤◌, ◌^◌}
 use Rattle.kernel_engine.proofs.parts.Parts.begin.Goals as goal
 
 pub returns-clause-begun : goal.returns-clause-begun
 returns-clause-begun g c =
-    let few : c.args.self.now.publishing.next ≤ 2 ^ 62 =
-    let test = c.if-is_worn.false in omega (arith, test) in
+    let few = rw (c.if-is_worn.false) at (c.is_worn.ensures) in
     let pays = rw (c.if-not-pay.false) at (c.pay.ensures) in
     let (header, pending) = c.into_pending-header.ensures in
     record {

@@ -1,21 +1,23 @@
 use Rattle.std.proofs.Common.{inl, inr, refl, sym}
-use Rattle.kernel_engine.proofs.TakeLemmas.{taken}
+use Rattle.kernel_engine.proofs.TakeLemmas.{taken, unread_taken}
 use Rattle.kernel_engine.specs.World.{world_of}
 use Rattle.iopub_queue.specs.Sink.{publisher_sink}
-use Rattle.kernel_workers.proofs.JobLemmas.{ends_nothing, recorded, taken_same, unread_taken}
+use Rattle.kernel_workers.proofs.JobLemmas.{ends_nothing, recorded, taken_same, unread_ends}
 use Rattle.kernel_workers.proofs.control.ShellEnd.take.Goals as goal
 
 pub returns-in-Err-clause-does : goal.returns-in-Err-clause-does
 returns-in-Err-clause-does g c =
-    let took = unread_taken g.I.Interpreter.meaning g.S.Stamp.stamp ⊥ c.args.job.frames c.in-Err.unread
-    c.unread_done-done.result c.args.work.now.engine c.in-Err.ensures c.unread_done-done.ensures in
+    let took = unread_taken (world_of g.I.Interpreter.meaning publisher_sink g.S.Stamp.stamp) ⊥ c.args.job.frames
+    c.in-Err.unread c.args.work.now.engine c.unread_done-done.result c.in-Err.ensures c.unread_done-done.ensures in
+    let none = unread_ends g.I.Interpreter.meaning g.S.Stamp.stamp ⊥ c.args.job.frames c.in-Err.unread
+    c.unread_done-done.result c.args.work.now.engine c.unread_done-done.ensures in
     inr (record {
       done = c.unread_done-done.result;
-      takes = took.0;
+      takes = took;
       inbox = refl;
       records = recorded _ _ _ _ _ c.args.job.own c.conclude.ensures.records;
       cause_is = c.conclude.ensures.cause;
-      goes_on = λ holds. took.1;
+      goes_on = λ holds. none;
     })
 
 pub returns-then-ends-clause-does : goal.returns-then-ends-clause-does

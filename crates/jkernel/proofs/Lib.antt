@@ -1,6 +1,0 @@
-pub mod HexText
-pub mod KnownReads
-pub mod WordsLemmas
-pub mod ReplayLemmas
-pub mod TextOnce
-mod OrderLemmas

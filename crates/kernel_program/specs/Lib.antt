@@ -1,0 +1,9 @@
+pub mod Lines
+pub mod Profile
+pub mod Program
+pub mod Replay
+pub mod Session
+pub mod Stamp
+pub mod Status
+pub mod Told
+pub mod Words

@@ -1,0 +1,2 @@
+pub mod Parrot
+pub mod Program

@@ -1,0 +1,4 @@
+mod CellLemmas
+mod OfferLemmas
+mod PartLemmas
+mod StatementLemmas

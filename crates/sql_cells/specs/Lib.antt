@@ -1,0 +1,13 @@
+pub mod Values
+pub mod Tables
+pub mod Parts
+pub mod Places
+pub mod Dots
+pub mod Words
+pub mod Offers
+pub mod Inspections
+pub mod Statement
+pub mod Faults
+pub mod Shown
+pub mod Meaning
+pub mod Laws
