@@ -6,6 +6,7 @@ ghost use Rattle.conn_file.specs.Kernelspec.{kernel_words, started_by};
 ghost use Rattle.kernel_program.specs.Program.{DoesOrder, GivenWords, RefusesToBegin};
 ghost use Rattle.kernel_program.specs.Session.{LinesHaveOneValue};
 ghost use Rattle.jkernel.specs.Arithmetic.{arithmetic, kernelspec, program_name};
+ghost use Rattle.jkernel.specs.Unraised.{NeverRaises};
 
 use crate::arithmetic::Arithmetic;
 use arith_shell::ShellArith;
@@ -29,6 +30,9 @@ pub fn law_kernel_is_of_arithmetic(language: &Arithmetic)
 
     // The lines of an input are one text, for a given state to begin in and given courses and dates.
     ensures lines { LinesHaveOneValue shell_meaning }
+
+    // It never answers 57: shell arithmetic raises no fault of its own.
+    ensures raises { NeverRaises shell_meaning }
 {
     law_program_is_started(language);
     law_one_text::<ShellArith>();

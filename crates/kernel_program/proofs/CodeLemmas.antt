@@ -6,8 +6,8 @@ use Rattle.kernel_program.specs.declared.status.Status.TheVariants.{Done, Failed
 use Rattle.kernel_program.specs.declared.status.Status.TheVariants.{FileUnreadable, FileRefused, CannotBind}
 use Rattle.kernel_program.specs.declared.status.Status.TheVariants.{Incomplete, InputRefused, BeginRefused}
 use Rattle.kernel_program.specs.Profile.{Profile}
-use Rattle.kernel_program.specs.Program.{DoesOrder, Ends, GivenWords, IsSilent, OrdersServe, RefusesInput}
-use Rattle.kernel_program.specs.Program.{RefusesToBegin, RefusesWords}
+use Rattle.kernel_program.specs.Program.{DoesOrder, Ends, GivenWords, IsSilent, IsUnbegun, OrdersServe}
+use Rattle.kernel_program.specs.Program.{RefusesInput, RefusesToBegin, RefusesWords}
 use Rattle.kernel_program.specs.Status.{status_code}
 
 -- each exit status but 0 and 1 is of a program that printed nothing
@@ -22,6 +22,11 @@ is_silent (CannotBind port) none one = tt
 is_silent Incomplete none one = tt
 is_silent InputRefused none one = tt
 is_silent (BeginRefused said) none one = tt
+
+-- with 7 the language refused to begin
+pub is_unbegun : (status : Status) → status_code status ≡ 7 → IsUnbegun status
+is_unbegun (BeginRefused said) is = tt
+is_unbegun status is = absurd (let e = is in cc)
 
 module _ {State Cell : Type 0} (m : Meaning State Cell) (profile : Profile State) (words : GivenWords)
     (input left before after : Option (List ℕ)) where

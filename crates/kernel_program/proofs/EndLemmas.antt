@@ -1,5 +1,5 @@
 -- What a program's way to end says of its order, by what the parts of the program say.
-use Rattle.std.proofs.Common.{◌≡◌, ◌⊎◌, inl, inr, ℕ, List, Option, Some, None, refl}
+use Rattle.std.proofs.Common.{◌≡◌, ◌⊎◌, inl, inr, ℕ, List, Option, Some, None, refl, subst}
 use Rattle.std.specs.Prelude.{IfSome, []}
 use Rattle.interp_core.specs.Interpreter.{Meaning}
 use Rattle.kernel_program.specs.declared.input.HexFault.{HexFault}
@@ -14,7 +14,7 @@ use Rattle.kernel_program.specs.declared.words.Order.{Order}
 use Rattle.kernel_program.specs.declared.words.Order.TheVariants.{Replay, Serve}
 use Rattle.kernel_program.specs.Lines.{hex_octets}
 use Rattle.kernel_program.specs.Profile.{IsRefusal, Profile}
-use Rattle.kernel_program.specs.Program.{EndsPrint, EndsReplay, EndsServe, EndsServing, IsDone, IsSilent, JudgesFile}
+use Rattle.kernel_program.specs.Program.{EndsPrint, EndsReplay, EndsServe, EndsServing, IsDone, IsSilent, IsUnbegun, JudgesFile}
 use Rattle.kernel_program.specs.Program.{Obeys}
 use Rattle.kernel_program.specs.Replay.{EndsAnswer, IsNotHex, IsReplayed, Replays}
 use Rattle.kernel_program.specs.Status.{begin_status, unread_status}
@@ -70,6 +70,19 @@ print_is_not_silent (CannotBind port) ends silent = ends
 print_is_not_silent Incomplete ends silent = ends
 print_is_not_silent InputRefused ends silent = ends
 print_is_not_silent (BeginRefused said) ends silent = ends
+
+-- if the language refused to begin nothing was printed
+unbegun_is_silent : (status : Status) → IsUnbegun status → IsSilent status
+unbegun_is_silent (BeginRefused said) never = tt
+unbegun_is_silent Done never = absurd never
+unbegun_is_silent Failed never = absurd never
+unbegun_is_silent (WordsRefused said) never = absurd never
+unbegun_is_silent WordsUnreadable never = absurd never
+unbegun_is_silent FileUnreadable never = absurd never
+unbegun_is_silent (FileRefused fault) never = absurd never
+unbegun_is_silent (CannotBind port) never = absurd never
+unbegun_is_silent Incomplete never = absurd never
+unbegun_is_silent InputRefused never = absurd never
 
 module _ {State Cell : Type 0} (m : Meaning State Cell) (state : State) where
   -- octets that were read and answered
@@ -131,6 +144,12 @@ module _ {State Cell : Type 0} (m : Meaning State Cell) (state : State) where
   silent_replay key input left before after Incomplete ends silent = absurd ends
   silent_replay key input left before after InputRefused ends silent = refl
   silent_replay key input left before after (BeginRefused said) ends silent = absurd ends
+
+  -- a replay that began isn't refused to begin
+  pub begun_replay : (key : List ℕ) (input left before after : Option (List ℕ)) (status : Status)
+      → Replays m state key input left before after status → IsUnbegun status → ⊥
+  begun_replay key input left before after status ends never =
+      subst IsUnbegun (silent_replay key input left before after status ends (unbegun_is_silent status never)) never
 
 module _ {State Cell : Type 0} (m : Meaning State Cell) (profile : Profile State) where
   -- a replay with an interpreter as the language begins them

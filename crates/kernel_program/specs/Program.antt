@@ -100,6 +100,19 @@ IsSilent Incomplete = ⊤
 IsSilent InputRefused = ⊤
 IsSilent (BeginRefused said) = ⊤
 
+-- with such a status the language refused to begin
+abbrev pub IsUnbegun : Status → Type 0
+IsUnbegun Done = ⊥
+IsUnbegun Failed = ⊥
+IsUnbegun (WordsRefused said) = ⊥
+IsUnbegun WordsUnreadable = ⊥
+IsUnbegun FileUnreadable = ⊥
+IsUnbegun (FileRefused fault) = ⊥
+IsUnbegun (CannotBind port) = ⊥
+IsUnbegun Incomplete = ⊥
+IsUnbegun InputRefused = ⊥
+IsUnbegun (BeginRefused said) = ⊤
+
 -- command words as the system gives them: texts, or the error of reading them
 abbrev pub GivenWords : Type 0
 GivenWords = Result (Vec (String Global) Global) Error

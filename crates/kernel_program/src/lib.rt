@@ -20,6 +20,6 @@ pub use laws::{law_one_text, law_program_is_started};
 pub use program::run;
 pub use replay::{ReplayFault, answer_peer, run_replay};
 pub use serving::tell_of_clock;
-pub use starting::{start, start_on};
+pub use starting::{command_words, start, start_on};
 pub use status::end_status;
 pub use words::{Order, WordsFault, read_words};

@@ -3,8 +3,9 @@
 ghost use Rattle.std.specs.Prelude.{◌≡◌, ◌++◌, ◌⊎◌, [], ◌∷◌, Ok};
 ghost use Rattle.std.specs.Io.KnownBytes.{Appends};
 ghost use Rattle.std.specs.declared.io.ErrorKind.TheVariants.{InvalidData};
-ghost use Rattle.kernel_program.specs.Program.{DoesOrder, Ends, EndsPrint, EndsReplay, IsReplay, IsSilent, Obeys};
-ghost use Rattle.kernel_program.specs.Program.{OrdersReplay, OrdersServe, RefusesInput, RefusesToBegin, RefusesWords};
+ghost use Rattle.kernel_program.specs.Program.{DoesOrder, Ends, EndsPrint, EndsReplay, IsReplay, IsSilent, IsUnbegun};
+ghost use Rattle.kernel_program.specs.Program.{Obeys, OrdersReplay, OrdersServe, RefusesInput, RefusesToBegin};
+ghost use Rattle.kernel_program.specs.Program.{RefusesWords};
 ghost use Rattle.kernel_program.specs.Status.{begin_status, status_code};
 
 use crate::language::{BeginFault, Language};
@@ -73,8 +74,10 @@ where
     ensures input { result ≡ 6 → RefusesInput (L.profile language.now).name words.now (R.remaining reader.old)
         × (writer.new ≡ writer.old) }
 
-    // 7: the words order a replay or that a file be served, and nothing was printed: the language refuses to begin.
-    ensures begin { result ≡ 7 → RefusesToBegin (L.profile language.now) words.now × (writer.new ≡ writer.old) }
+    // 7: the words order a replay or that a file be served, and nothing was read or printed: the language refuses to
+    // begin.
+    ensures begin { result ≡ 7 → RefusesToBegin (L.profile language.now) words.now × (reader.new ≡ reader.old)
+        × (writer.new ≡ writer.old) }
 
     // And never 5: a kernel that ends has taken all that was published.
     ensures status { (result ≡ 0) ⊎ ((result ≡ 1) ⊎ ((result ≡ 2) ⊎ ((result ≡ 3) ⊎ ((result ≡ 4)
@@ -124,6 +127,7 @@ where
     ensures ends { Ends L.Interp.meaning (L.profile language.now) words.now (R.remaining reader.old)
         (R.remaining reader.new) (W.contents writer.old) (W.contents writer.new) result }
     ensures silent { IsSilent result → writer.new ≡ writer.old }
+    ensures unread { IsUnbegun result → reader.new ≡ reader.old }
     ensures reader { OrdersReplay (L.profile language.now).name words.now ⊎ (reader.new ≡ reader.old) }
 {
     match words {
@@ -171,6 +175,7 @@ where
     ensures ends { Ends L.Interp.meaning (L.profile language.now) (Ok words.now) (R.remaining reader.old)
         (R.remaining reader.new) (W.contents writer.old) (W.contents writer.new) result }
     ensures silent { IsSilent result → writer.new ≡ writer.old }
+    ensures unread { IsUnbegun result → reader.new ≡ reader.old }
     ensures reader { OrdersReplay (L.profile language.now).name (Ok words.now) ⊎ (reader.new ≡ reader.old) }
 {
     match read_words(alloc, language, words) {
@@ -209,6 +214,7 @@ where
     ensures obeys { Obeys L.Interp.meaning (L.profile language.now) order (R.remaining reader.old)
         (R.remaining reader.new) (W.contents writer.old) (W.contents writer.new) result }
     ensures silent { IsSilent result → writer.new ≡ writer.old }
+    ensures unread { IsUnbegun result → reader.new ≡ reader.old }
     ensures reader { IsReplay order ⊎ (reader.new ≡ reader.old) }
 {
     match order {
@@ -230,6 +236,7 @@ fn replay_begun<L: Language, R: Read, W: Write>(
     ensures replays { EndsReplay L.Interp.meaning (L.profile language.now) key (R.remaining reader.old)
         (R.remaining reader.new) (W.contents writer.old) (W.contents writer.new) result }
     ensures silent { IsSilent result → writer.new ≡ writer.old }
+    ensures unread { IsUnbegun result → reader.new ≡ reader.old }
 {
     match language.shell(alloc) {
         Ok(interp) => replay(

@@ -41,7 +41,7 @@ where
         + Drop
         + 'static,
 {
-    start_on(rt, process, faults, language, &words_behind(rt))
+    start_on(rt, process, faults, language, &command_words(rt))
 }
 
 /// As `start`, on these words in place of the command words: for a program that took some of those itself.
@@ -85,7 +85,11 @@ where
 }
 
 /// The command words after the program's name.
-fn words_behind<R: Env + AllocGlobal>(rt: &R) -> io::Result<Vec<String>> {
+///
+/// # Errors
+///
+/// `InvalidData` if one isn't UTF-8, or what kept the system from telling them.
+pub fn command_words<R: Env + AllocGlobal>(rt: &R) -> io::Result<Vec<String>> {
     let words: Vec<String> = env::args(rt)?.skip(1).collect(rt.alloc())?;
     Ok(words)
 }

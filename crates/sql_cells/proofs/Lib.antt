@@ -2,3 +2,4 @@ mod CellLemmas
 mod OfferLemmas
 mod PartLemmas
 mod StatementLemmas
+pub mod FileLemmas

@@ -1,5 +1,5 @@
 -- What is known of a name.
-use Rattle.std.specs.Prelude.{ℕ, Bool, ◌==◌, if◌then◌else◌, List, [], ◌∷◌, ◌++◌, codes, flat_map, length}
+use Rattle.std.specs.Prelude.{ℕ, ◌-◌, Bool, ◌==◌, if◌then◌else◌, List, [], ◌∷◌, ◌++◌, codes, flat_map, length, slice_get}
 use Rattle.std.specs.Prelude.{Option, Some, None}
 use Rattle.std.specs.Str.{str_eq_ignore_ascii_case}
 use Rattle.std.specs.Str.Lossy.{utf8_lossy}
@@ -47,17 +47,55 @@ create_table = codes "CREATE TABLE "
 unfoldable pub table_head : List ℕ → List ℕ
 table_head name = create_table ++ name ++ codes " (\n"
 
--- a table as it is shown: as the statement that makes its columns
+-- the name of a column, if there is one
+abbrev pub name_of : Option Column → List ℕ
+name_of (Some column) = column.name
+name_of None = []
+
+-- The column at a place of a row: place 0 is that of the INTEGER PRIMARY KEY, if there is one, and each column has a
+-- place of its own after that.
+abbrev pub column_at : Option ℕ → ℕ → Option ℕ
+column_at key place = if place == 0 then key else Some (place - 1)
+
+-- the name of a column by its number, if there is one
+abbrev pub name_in : List Column → Option ℕ → List ℕ
+name_in columns (Some at) = name_of (slice_get columns at)
+name_in columns None = []
+
+-- the name of the column at a place of a table's rows
+abbrev pub name_at : Table → ℕ → List ℕ
+name_at table place = name_in table.columns (column_at table.key place)
+
+-- the name of the column at a place, after another one
+abbrev pub next_name : Table → ℕ → List ℕ
+next_name table place = codes ", " ++ name_at table place
+
+-- the names of the columns at places, with commas between them
+abbrev pub names_at : Table → List ℕ → List ℕ
+names_at table [] = []
+names_at table (place ∷ places) = name_at table place ++ flat_map (next_name table) places
+
+-- how the line begins that tells a primary key
+unfoldable pub primary_head : List ℕ
+primary_head = codes ",\n  PRIMARY KEY ("
+
+-- a table's primary key, as it is shown
+abbrev pub primary_text : Table → List ℕ
+primary_text table =
+    if length table.primary == 0 then [] else primary_head ++ names_at table table.primary ++ codes ")"
+
+-- a table as it is shown: its columns and its primary key, in the form of the statement that makes a table
 abbrev pub table_lines : Table → List ℕ
-table_lines table = table_head table.name ++ columns_text table.columns ++ codes "\n);\n"
+table_lines table =
+    table_head table.name ++ columns_text table.columns ++ primary_text table ++ codes "\n);\n"
 
 -- a table, if this is its name
 abbrev pub table_words : List ℕ → Table → List ℕ
 table_words name table = if is_named name table.name then table_lines table else []
 
--- a view as it is shown: the statement that made it
+-- a view as it is shown: the statement that made it, which what isn't known here has none of
 abbrev pub view_lines : View → List ℕ
-view_lines view = view.sql ++ codes ";\n"
+view_lines view = if length view.sql == 0 then [] else view.sql ++ codes ";\n"
 
 -- a view, if this is its name
 abbrev pub view_words : List ℕ → View → List ℕ

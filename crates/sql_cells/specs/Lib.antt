@@ -11,3 +11,4 @@ pub mod Faults
 pub mod Shown
 pub mod Meaning
 pub mod Laws
+pub mod Within

@@ -1,4 +1,4 @@
--- What may stand for the word before a cursor, and what is known of a word.
+-- What may stand for the word before a cursor.
 use Rattle.std.specs.Prelude.{ℕ, Bool, true, false, not, ◌&&◌, if◌then◌else◌, List, [], ◌∷◌, ◌++◌, flat_map, length}
 use Rattle.std.specs.Prelude.{◌==◌, codes, map, slice_index, take}
 use Rattle.std.specs.Char.{is_ascii_digit}
@@ -52,19 +52,25 @@ all_columns tables = flat_map (λ table. column_names table.columns) tables
 unfoldable pub keywords : List (List ℕ)
 keywords = map (λ k. k.0.now) KEYWORDS
 
--- what may stand for a word: tables, views, columns and keywords that begin with it
-abbrev pub offers : Schema → List ℕ → List (List ℕ)
-offers schema word =
-    offer_all word (offer_all word (offer_all word (offer_all word [] (table_names schema.tables))
-    (view_names schema.views)) (all_columns schema.tables)) keywords
+-- what may stand for a word: names of tables, views and columns that begin with it
+abbrev pub names_for : Schema → List ℕ → List (List ℕ)
+names_for schema word =
+    offer_all word (offer_all word (offer_all word [] (table_names schema.tables)) (view_names schema.views))
+    (all_columns schema.tables)
+
+-- a name is one of these words, but for the case of ASCII letters
+abbrev pub is_among : List (List ℕ) → List ℕ → Bool
+is_among [] name = false
+is_among (word ∷ words) name = if str_eq_ignore_ascii_case word name then true else is_among words name
 
 -- an octet of a name in double quotes
 abbrev pub in_quotes : ℕ → List ℕ
 in_quotes b = if b == 34 then codes "\"\"" else b ∷ []
 
--- a name that needs no quotes: it has no other octets, and doesn't begin with a digit
+-- a name that needs no quotes: it has only octets of a word, doesn't begin with a digit, and is no keyword
 abbrev pub is_plain : List ℕ → Bool
-is_plain name = prefix_len is_name name == length name && not (is_ascii_digit (slice_index name 0))
+is_plain name =
+    prefix_len is_name name == length name && not (is_ascii_digit (slice_index name 0)) && not (is_among keywords name)
 
 -- a name as SQL writes it, in double quotes if it needs them
 abbrev pub written : List ℕ → List ℕ
@@ -74,10 +80,14 @@ written name = if is_plain name then name else codes "\"" ++ flat_map in_quotes 
 abbrev pub offered_text : List ℕ → List ℕ
 offered_text name = utf8_lossy (written name)
 
+-- the texts that may stand for a word: names, and after them keywords
+abbrev pub matches : Schema → List ℕ → List (List ℕ)
+matches schema word = map offered_text (names_for schema word) ++ map utf8_lossy (offer_all word [] keywords)
+
 -- what may stand for the word before a cursor
 abbrev pub completion : Schema → List ℕ → ℕ → Completion
 completion schema text cursor = record {
-  matches = map offered_text (offers schema (last_word (before cursor text)));
+  matches = matches schema (last_word (before cursor text));
   start = width (take (word_start (before cursor text)) (before cursor text));
   end = width (before cursor text);
 }

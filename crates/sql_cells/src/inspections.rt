@@ -1,10 +1,11 @@
 //! What is known of a name.
 
-ghost use Rattle.std.specs.Prelude.{◌≡◌, ◌++◌, [], codes, flat_map, if◌then◌else◌, IfOk, OnOk};
+ghost use Rattle.std.specs.Prelude.{◌≡◌, ◌++◌, [], codes, flat_map, if◌then◌else◌, IfOk, OnOk, Some};
 ghost use Rattle.sql_cells.specs.Inspections.{column_head, column_lines, column_text, column_words};
 ghost use Rattle.sql_cells.specs.Inspections.{columns_text, columns_words, create_table, described, next_column};
 ghost use Rattle.sql_cells.specs.Inspections.{if_some, inspection, is_named, kind_word, table_head, table_lines};
-ghost use Rattle.sql_cells.specs.Inspections.{table_words, view_lines, view_words};
+ghost use Rattle.sql_cells.specs.Inspections.{column_at, name_at, name_in, names_at, next_name, primary_head};
+ghost use Rattle.sql_cells.specs.Inspections.{primary_text, table_words, view_lines, view_words};
 
 use crate::rows::lossy;
 use crate::words::word_around;
@@ -106,7 +107,76 @@ fn push_table_lines(words: &mut Vec<u8>, table: &Table) -> Result<(), AllocError
 {
     push_table_head(words, table.name.as_slice())?;
     push_columns(words, table.columns.as_slice())?;
+    push_primary(words, table)?;
     words.extend_from_slice(b"\n);\n")
+}
+
+/// The column at a place of a row, of which place 0 is that of the INTEGER PRIMARY KEY.
+fn column_at(key: Option<usize>, place: usize) -> Option<usize>
+    ensures { result ≡ column_at key place }
+{
+    if place == 0 { key } else { Some(place - 1) }
+}
+
+/// The name of a column by its number, if there is one.
+fn name_in(columns: &[Column], at: usize) -> &[u8]
+    ensures { result.now ≡ name_in columns.now (Some at) }
+{
+    match columns.get(at) {
+        Some(column) => column.name.as_slice(),
+        None => b"",
+    }
+}
+
+/// The name of the column at a place of a table's rows.
+fn name_at(table: &Table, place: usize) -> &[u8]
+    ensures { result.now ≡ name_at table.now place }
+{
+    match column_at(table.key, place) {
+        Some(at) => name_in(table.columns.as_slice(), at),
+        None => b"",
+    }
+}
+
+/// Adds the names of the columns at places after another one.
+fn push_next_names(words: &mut Vec<u8>, table: &Table, places: &[usize]) -> Result<(), AllocError>
+    ensures { OnOk result (words.new.items ≡ words.old.items ++ flat_map (next_name table.now) places.now) }
+{
+    for place in places {
+        words.extend_from_slice(b", ")?;
+        words.extend_from_slice(name_at(table, *place))?;
+    }
+    Ok(())
+}
+
+/// Adds the names of the columns at places, with commas between them.
+fn push_names_at(words: &mut Vec<u8>, table: &Table, places: &[usize]) -> Result<(), AllocError>
+    ensures { OnOk result (words.new.items ≡ words.old.items ++ names_at table.now places.now) }
+{
+    let [first, others @ ..] = places else {
+        return Ok(());
+    };
+    words.extend_from_slice(name_at(table, *first))?;
+    push_next_names(words, table, others)
+}
+
+/// Adds how the line begins that tells a primary key.
+fn push_primary_head(words: &mut Vec<u8>) -> Result<(), AllocError>
+    ensures { OnOk result (words.new.items ≡ words.old.items ++ primary_head) }
+{
+    words.extend_from_slice(b",\n  PRIMARY KEY (")
+}
+
+/// Adds a table's primary key, if there is one.
+fn push_primary(words: &mut Vec<u8>, table: &Table) -> Result<(), AllocError>
+    ensures { OnOk result (words.new.items ≡ words.old.items ++ primary_text table.now) }
+{
+    if table.primary.as_slice().is_empty() {
+        return Ok(());
+    }
+    push_primary_head(words)?;
+    push_names_at(words, table, table.primary.as_slice())?;
+    words.extend_from_slice(b")")
 }
 
 /// Adds the tables that have this name.
@@ -133,6 +203,9 @@ fn push_view(words: &mut Vec<u8>, name: &[u8], view: &View) -> Result<(), AllocE
 fn push_view_lines(words: &mut Vec<u8>, view: &View) -> Result<(), AllocError>
     ensures { OnOk result (words.new.items ≡ words.old.items ++ view_lines view.now) }
 {
+    if view.sql.as_slice().is_empty() {
+        return Ok(());
+    }
     words.extend_from_slice(view.sql.as_slice())?;
     words.extend_from_slice(b";\n")
 }

@@ -5,6 +5,7 @@ mod cells;
 mod cut;
 mod dots;
 mod fault;
+mod file;
 mod gaps;
 mod inspections;
 mod offers;
@@ -19,5 +20,5 @@ mod words;
 
 pub use cells::{Pieces, STEP_LIMIT, Sql};
 pub use fault::error_words;
-pub use opening::FileSql;
+pub use file::FileSql;
 pub use statement::{Came, run_statement};

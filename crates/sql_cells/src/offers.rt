@@ -1,9 +1,11 @@
 //! What may stand for the word before a cursor.
 
 ghost use Rattle.std.specs.Prelude.{◌≡◌, ◌++◌, ◌∷◌, [], flat_map, map, IfOk, OnOk};
-ghost use Rattle.sql_cells.specs.Offers.{all_columns, begins, column_names, completion, has, in_quotes, is_plain};
-ghost use Rattle.sql_cells.specs.Offers.{keywords, offer, offer_all, offered_text, offers, table_names, view_names};
-ghost use Rattle.sql_cells.specs.Offers.{written};
+ghost use Rattle.std.specs.Str.{str_eq_ignore_ascii_case};
+ghost use Rattle.std.specs.Str.Lossy.{utf8_lossy};
+ghost use Rattle.sql_cells.specs.Offers.{all_columns, begins, column_names, completion, has, in_quotes, is_among};
+ghost use Rattle.sql_cells.specs.Offers.{is_plain, keywords, matches, names_for, offer, offer_all, offered_text};
+ghost use Rattle.sql_cells.specs.Offers.{table_names, view_names, written};
 
 use crate::gaps::octet;
 use crate::rows::lossy;
@@ -134,16 +136,50 @@ fn offer_keywords(alloc: Global, offered: &mut Vec<Octets>, word: &[u8]) -> Resu
     offer_words(alloc, offered, word, &KEYWORDS)
 }
 
-/// What may stand for a word.
-fn offers(alloc: Global, schema: &Schema, word: &[u8]) -> Result<Vec<Octets>, AllocError>
-    ensures { IfOk result (λ offered. offered.items ≡ offers schema.now word.now) }
+/// The names that may stand for a word.
+fn names_for(alloc: Global, schema: &Schema, word: &[u8]) -> Result<Vec<Octets>, AllocError>
+    ensures { IfOk result (λ names. names.items ≡ names_for schema.now word.now) }
 {
-    let mut offered = Vec::new(alloc);
-    offer_tables(alloc, &mut offered, word, schema.tables.as_slice())?;
-    offer_views(alloc, &mut offered, word, schema.views.as_slice())?;
-    offer_all_columns(alloc, &mut offered, word, schema.tables.as_slice())?;
-    offer_keywords(alloc, &mut offered, word)?;
-    Ok(offered)
+    let mut names = Vec::new(alloc);
+    offer_tables(alloc, &mut names, word, schema.tables.as_slice())?;
+    offer_views(alloc, &mut names, word, schema.views.as_slice())?;
+    offer_all_columns(alloc, &mut names, word, schema.tables.as_slice())?;
+    Ok(names)
+}
+
+/// The keywords that may stand for a word.
+fn keywords_for(alloc: Global, word: &[u8]) -> Result<Vec<Octets>, AllocError>
+    ensures { IfOk result (λ words. words.items ≡ offer_all word.now [] keywords) }
+{
+    let mut words = Vec::new(alloc);
+    offer_keywords(alloc, &mut words, word)?;
+    Ok(words)
+}
+
+/// Whether a name is a word, but for the case of ASCII letters.
+fn is_word(word: &[u8], name: &[u8]) -> bool
+    ensures { result ≡ str_eq_ignore_ascii_case word.now name.now }
+{
+    word.eq_ignore_ascii_case(name)
+}
+
+/// Whether a name is a word of a table, but for the case of ASCII letters.
+fn is_among(table: &[(&[u8], Kind)], name: &[u8]) -> bool
+    ensures { result ≡ is_among (map (λ k. k.0.now) table.now) name.now }
+{
+    for entry in table {
+        if is_word(entry.0, name) {
+            return true;
+        }
+    }
+    false
+}
+
+/// Whether a name is a keyword.
+fn is_keyword(name: &[u8]) -> bool
+    ensures { result ≡ is_among keywords name.now }
+{
+    is_among(&KEYWORDS, name)
 }
 
 /// Adds an octet of a name in double quotes.
@@ -171,7 +207,7 @@ fn push_all_in_quotes(text: &mut Vec<u8>, name: &[u8]) -> Result<(), AllocError>
 fn is_plain(name: &[u8]) -> bool
     ensures { result ≡ is_plain name.now }
 {
-    name_len(name) == name.len() && !octet(name, 0).is_ascii_digit()
+    name_len(name) == name.len() && !octet(name, 0).is_ascii_digit() && !is_keyword(name)
 }
 
 /// Adds a name as SQL writes it, in double quotes if it needs them.
@@ -195,14 +231,35 @@ fn offered_text(alloc: Global, name: &[u8]) -> Result<Text, AllocError>
     lossy(alloc, text.as_slice())
 }
 
-/// Names as texts.
-fn texts_of(alloc: Global, names: &[Octets]) -> Result<Row<Text>, AllocError>
-    ensures { IfOk result (λ texts. texts ≡ map offered_text names.now) }
+/// Adds names as texts.
+fn push_names(alloc: Global, texts: &mut Vec<Text>, names: &[Octets]) -> Result<(), AllocError>
+    ensures { OnOk result (texts.new.items ≡ texts.old.items ++ map offered_text names.now) }
 {
-    let mut texts = Vec::new(alloc);
     for name in names {
         texts.push(offered_text(alloc, name.as_slice())?)?;
     }
+    Ok(())
+}
+
+/// Adds keywords as texts.
+fn push_keywords(alloc: Global, texts: &mut Vec<Text>, words: &[Octets]) -> Result<(), AllocError>
+    ensures { OnOk result (texts.new.items ≡ texts.old.items ++ map utf8_lossy words.now) }
+{
+    for word in words {
+        texts.push(lossy(alloc, word.as_slice())?)?;
+    }
+    Ok(())
+}
+
+/// The texts that may stand for a word.
+fn matches(alloc: Global, schema: &Schema, word: &[u8]) -> Result<Row<Text>, AllocError>
+    ensures { IfOk result (λ texts. texts ≡ matches schema.now word.now) }
+{
+    let names = names_for(alloc, schema, word)?;
+    let words = keywords_for(alloc, word)?;
+    let mut texts = Vec::new(alloc);
+    push_names(alloc, &mut texts, names.as_slice())?;
+    push_keywords(alloc, &mut texts, words.as_slice())?;
     Ok(Row::new(texts))
 }
 
@@ -217,9 +274,8 @@ pub(crate) fn completion(
 {
     let front = before(text, cursor);
     let (ahead, word) = front.split_at(word_start(front));
-    let offered = offers(alloc, schema, word)?;
     Ok(Completion {
-        matches: texts_of(alloc, offered.as_slice())?,
+        matches: matches(alloc, schema, word)?,
         start: width(ahead) as u64,
         end: width(front) as u64,
     })

@@ -1,6 +1,6 @@
 use Rattle.std.proofs.Common.{sym, ◌∙◌}
-use Rattle.kernel_program.proofs.CodeLemmas.{is_silent, says_begin, says_done, says_file, says_input, says_one, says_port}
-use Rattle.kernel_program.proofs.CodeLemmas.{says_words}
+use Rattle.kernel_program.proofs.CodeLemmas.{is_silent, is_unbegun, says_begin, says_done, says_file, says_input}
+use Rattle.kernel_program.proofs.CodeLemmas.{says_one, says_port, says_words}
 use Rattle.kernel_program.proofs.program.run.Goals as goal
 
 pub returns-clause-done : goal.returns-clause-done
@@ -56,6 +56,7 @@ returns-clause-begin g c is = (
       (g.R.Read.remaining c.args.reader.now) (g.R.Read.remaining c.carry_out-status.new.reader)
       (g.W.Write.contents c.args.writer.now) (g.W.Write.contents c.carry_out-status.new.writer)
       c.carry_out-status.result c.carry_out-status.ensures.ends (sym c.told.ensures ∙ is),
+  c.carry_out-status.ensures.unread (is_unbegun c.carry_out-status.result (sym c.told.ensures ∙ is)),
   c.carry_out-status.ensures.silent (is_silent c.carry_out-status.result
       (λ none. let e = sym none ∙ (sym c.told.ensures ∙ is) in cc) (λ one. let e = sym one ∙ (sym c.told.ensures ∙ is) in cc)),
 )

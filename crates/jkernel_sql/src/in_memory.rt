@@ -1,27 +1,13 @@
-//! SQL as the language of a program, over a database in memory.
+//! SQL over a database in memory, as the language of a program.
 
 ghost use Rattle.jkernel_sql.specs.SqlProgram.{in_memory, sql_is_started};
 
+use crate::texts::{ABOUT, EXAMPLE, KERNELSPEC, NAME};
 use kernel_program::{BeginFault, Language};
 use sql_cells::Sql;
 use sqlite::MemStore;
 use std::alloc::Global;
 use std::rt::HostRuntime;
-
-/// The name of the program.
-const NAME: &str = "jkernel-sql";
-
-/// What the program is.
-const ABOUT: &str = "A Jupyter kernel of SQL whose promises are proved";
-
-/// A run that a person can try.
-const EXAMPLE: &str = "Example: jkernel-sql serve -f kernel.json";
-
-/// The text of `kernel.json`.
-const KERNELSPEC: &str = concat!(
-    r#"{"argv":["jkernel-sql","serve","-f","{connection_file}"],"display_name":"SQL","#,
-    r#""interrupt_mode":"message","language":"sql"}"#,
-);
 
 /// SQL over a database in memory, which is empty when a kernel begins.
 #[derive(Clone, Copy)]
