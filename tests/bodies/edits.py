@@ -23,7 +23,7 @@ class WrongBody:
         self.short_name = self.name.partition("/")[2]
         self.is_alone = False
         # What came of it, once it was tried, and its key.
-        self.outcome = self.key = None
+        self.outcome, self.key, self.text = None, None, ""
         self.pairs, self.bad = [], None
         # The crate and the name of the test that has to fail with it, where no contract can refuse it.
         self.test = None

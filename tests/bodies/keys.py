@@ -1,5 +1,6 @@
 """Keys of wrong bodies: a sum of all that a refusal rests on, and the file of a crate in which the keys stand of those
-that were refused."""
+that were refused. A key is known only where the crate is proved. Beside it stands a sum of all texts that the crate is
+made of: while these are the same the key is, too, and the crate needn't be proved."""
 
 import functools
 import hashlib
@@ -8,7 +9,7 @@ import re
 import threading
 
 from bodies.edits import is_own
-from bodies.repository import edits_of, files_of, folder_of, modules_kept, version
+from bodies.repository import edits_of, files_of, folder_of, modules_kept, text_of, version
 
 # What counts as refused, and what a key is made of: another number where either changes.
 FORM = "2"
@@ -44,6 +45,11 @@ class Head:
 def head_of(path):
     """The head of a kept module."""
     return Head(path)
+
+
+def text_for(body):
+    """A sum of a wrong body, of the toolchain, and of all texts that its crate is made of."""
+    return hashlib.sha256(repr((FORM, text_of(body.crate), body.pairs)).encode()).hexdigest()[:40]
 
 
 class Keys:
@@ -110,9 +116,10 @@ class Keys:
 
 
 class Refused:
-    """The file wrong/passed of a crate: a line for each wrong body that was refused, with the toolchain and the key."""
+    """The file wrong/passed of a crate: a line for each wrong body that was refused, with the toolchain, the key, and
+    the sum of texts by which the key was found, if the walks of these weren't too large."""
 
-    HEAD = "# What the prover refused, with the sum of what that rests on. tests/wrong_bodies writes it.\n"
+    HEAD = "# What the prover refused: a sum of what that rests on, and one of texts. tests/wrong_bodies writes it.\n"
 
     def __init__(self, crate):
         self.crate = crate
@@ -122,28 +129,32 @@ class Refused:
         if os.path.exists(self.path):
             with open(self.path, encoding="utf-8") as file:
                 for line in file:
-                    if not line.startswith("#") and len(line.split()) == 3:
-                        kit, name, key = line.split()
-                        self.lines[kit, name] = key
+                    if not line.startswith("#") and len(line.split()) in (3, 4):
+                        kit, name, *sums = line.split()
+                        self.lines[kit, name] = (*sums, "")[:2]
 
     def has(self, body, key):
         """Whether a wrong body was refused under this key."""
-        return key is not None and self.lines.get((version(), body.short_name)) == key
+        return key is not None and self.lines.get((version(), body.short_name), ("", ""))[0] == key
 
-    def keep(self, body, key):
-        """Keeps that a wrong body was refused under this key, or where there is none, that it wasn't."""
+    def stands(self, body):
+        """Whether a wrong body was refused under just these texts."""
+        return self.lines.get((version(), body.short_name), ("", ""))[1] == text_for(body)
+
+    def keep(self, body, key, text=""):
+        """Keeps that a wrong body was refused under this key and these texts, or without a key, that it wasn't."""
         with self.lock:
             if key is None:
                 self.lines.pop((version(), body.short_name), None)
             else:
-                self.lines[version(), body.short_name] = key
+                self.lines[version(), body.short_name] = (key, text)
 
     def write(self):
         """Writes the file, without those wrong bodies that there are no more."""
         names = {os.path.basename(it).removesuffix(".edit") for it in edits_of(self.crate)}
         with self.lock:
-            its = sorted((kit, name, key) for (kit, name), key in self.lines.items() if name in names)
+            its = sorted((kit, name, *sums) for (kit, name), sums in self.lines.items() if name in names)
             os.makedirs(os.path.dirname(self.path), exist_ok=True)
             with open(f"{self.path}.new", "w", encoding="utf-8") as file:
-                file.write(self.HEAD + "".join(f"{kit} {name} {key}\n" for kit, name, key in its))
+                file.write(self.HEAD + "".join(f"{' '.join(words).rstrip()}\n" for words in its))
             os.replace(f"{self.path}.new", self.path)

@@ -1,6 +1,7 @@
 """The repository whose wrong bodies are tried: its crates, and the words by which the prover checks one of them."""
 
 import functools
+import hashlib
 import os
 import re
 import subprocess
@@ -45,6 +46,28 @@ def files_of(crate):
     """The files that a check reads of a crate."""
     folders = [os.path.join(folder_of(crate), part) for part in PARTS]
     return [os.path.join(at, it) for folder in folders for at, _, its in os.walk(folder) for it in its]
+
+
+def with_below(crate):
+    """The crates of this repository that a crate stands on, and the crate itself."""
+    return [*sorted(below(crate)), crate]
+
+
+def add_texts(found, crate):
+    """Adds to a sum the files that a check reads of a crate and of those that it stands on."""
+    for it in with_below(crate):
+        for path in sorted(files_of(it)):
+            with open(path, "rb") as file:
+                content = hashlib.sha256(file.read()).hexdigest()
+            found.update(repr((it, os.path.relpath(path, folder_of(it)), content)).encode())
+
+
+@functools.cache
+def text_of(crate):
+    """A sum of the toolchain and of all texts that a crate is made of."""
+    found = hashlib.sha256(version().encode())
+    add_texts(found, crate)
+    return found.hexdigest()
 
 
 def edits_of(crate):

@@ -305,5 +305,7 @@ def self_test(script, jobs):
                 again, lines = run.result()
                 expect(f"{name} changed: {sorted(CHANGES[name][3])} should be tried again", again == CHANGES[name][3], lines)
                 expect(f"{name} changed: it should end well", f"{len(KEPT)} passed, 0 failed" in lines, lines)
+                is_proved = any(it.startswith("wrong_bodies: proves ") for it in lines)
+                expect(f"{name} changed: it is proved only if a text changed", is_proved == (name != "nothing"), lines)
     print(f"{passed} passed, {failed} failed")
     return 1 if failed else 0

@@ -8,18 +8,13 @@ import shutil
 import subprocess
 
 from bodies import repository
-from bodies.repository import PARTS, below, crates, files_of, folder_of, version
+from bodies.repository import PARTS, add_texts, crates, files_of, folder_of, version, with_below
 from bodies.trials import Outcome
 
 # What counts as refused, and what a key is made of: another number where either changes.
 FORM = "1"
 # How long a test may take, in seconds, and how long with what is built for it. A wrong body may have it wait for ever.
 RUN, WHOLE = 60, 600
-
-
-def crates_for(crate):
-    """The crates of this repository that the tests of one stand on, itself among them."""
-    return [*sorted(below(crate)), crate]
 
 
 def has_test(crate, name):
@@ -38,11 +33,7 @@ def has_test(crate, name):
 def key_of(body):
     """A sum of a wrong body, of the toolchain, and of all that its test is made of."""
     found = hashlib.sha256(repr((FORM, version(), body.pairs, body.test)).encode())
-    for crate in crates_for(body.test[0]):
-        for path in sorted(files_of(crate)):
-            with open(path, "rb") as file:
-                content = hashlib.sha256(file.read()).hexdigest()
-            found.update(repr((crate, os.path.relpath(path, folder_of(crate)), content)).encode())
+    add_texts(found, body.test[0])
     return found.hexdigest()[:40]
 
 
@@ -51,8 +42,8 @@ def copy_for(crate, top):
     os.makedirs(top)
     shutil.copy(os.path.join(repository.TOP, "HANDLES"), top)
     with open(os.path.join(top, "crates.txt"), "w", encoding="utf-8") as file:
-        file.writelines(f"{it}: {' '.join(crates()[it])}\n" for it in crates_for(crate))
-    for it in crates_for(crate):
+        file.writelines(f"{it}: {' '.join(crates()[it])}\n" for it in with_below(crate))
+    for it in with_below(crate):
         for part in PARTS:
             whence = os.path.join(folder_of(it), part)
             if os.path.isdir(whence):

@@ -11,7 +11,8 @@ use Rattle.std.proofs.Common.{get_or, append_assoc, inl, inr, ◌⊎◌}
 use Rattle.std.proofs.Common.{length-append}
 use Rattle.std.proofs.Math.Utf8.{encode}
 use Rattle.std.proofs.lemmas.Str.{encode_ascii}
-use Rattle.arith_shell.specs.Words.{is_word_character, last_run, run_start, word_around, word_before}
+use Rattle.arith_syntax.specs.Parts.{is_word_character}
+use Rattle.arith_shell.specs.Words.{last_run, run_start, word_around, word_before}
 
 -- a character of a word is ASCII
 pub small : (c : ℕ) → is_word_character c ≡ true → c < 128

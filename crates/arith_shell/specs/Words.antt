@@ -1,13 +1,8 @@
 -- The word at a cursor: a run of ASCII letters, digits and `_`. Texts are lists of code points, and a cursor counts
 -- them.
-use Rattle.std.specs.Prelude.{ℕ, ◌-◌, Bool, ◌&&◌, ◌||◌, ◌==◌, List, ◌++◌, length, take, drop}
-use Rattle.std.specs.Bool.{nat_le}
+use Rattle.std.specs.Prelude.{ℕ, ◌-◌, List, ◌++◌, length, take, drop}
 use Rattle.std.specs.List.{suffix_len, take_while}
-
--- an ASCII letter, a digit or `_`
-abbrev pub is_word_character : ℕ → Bool
-is_word_character c =
-    (nat_le 48 c && nat_le c 57) || (nat_le 65 c && nat_le c 90) || (nat_le 97 c && nat_le c 122) || (c == 95)
+use Rattle.arith_syntax.specs.Parts.{is_word_character}
 
 -- the place at which the longest run begins that ends a text
 abbrev pub run_start : List ℕ → ℕ

@@ -4,7 +4,8 @@ ghost use Rattle.std.specs.Prelude.{◌≡◌, length, take, MatchResult};
 ghost use Rattle.std.specs.Str.{chars};
 ghost use Rattle.arith_shell.specs.declared.cursor.Word.{Word};
 ghost use Rattle.interp_core.specs.declared.fault.InterpFault.TheVariants.{OutOfMemory};
-ghost use Rattle.arith_shell.specs.Words.{is_word_character, run_start, word_around, word_before};
+ghost use Rattle.arith_syntax.specs.Parts.{is_word_character};
+ghost use Rattle.arith_shell.specs.Words.{run_start, word_around, word_before};
 
 use interp_core::InterpFault;
 use listed::Text;

@@ -10,12 +10,11 @@ ghost use Rattle.arith_shell.specs.ShellArithmetic.{GivesUp, IsEvaluated, IsRead
 use crate::cursor::{word_around, word_before};
 use crate::fault::{from_read, from_value};
 use crate::statement::{run_first, value_text};
-use arith_syntax::{Part, ReadFault, read_cell, read_statement};
+use arith_syntax::{ReadFault, Trees, read_cell, read_statement};
 use arith_value::Variables;
 use interp_core::{Completeness, Completion, Determined, Info, InterpFault, Interpreter, Stepped};
 use listed::{Row, Text};
 use std::alloc::Global;
-use std::collections::VecDeque;
 use std::marker::Model;
 
 /// The statements of a cell that haven't run yet: a contract sees the list of their trees.
@@ -23,8 +22,8 @@ use std::marker::Model;
 pub struct Statements {
     /// The text of the cell, in which the names stand.
     code: Text,
-    /// The parts of each tree, in their order.
-    waiting: VecDeque<Vec<Part>>,
+    /// Their trees, in their order.
+    waiting: Trees,
 }
 
 impl Model for Statements {
@@ -38,7 +37,7 @@ impl Model for Statements {
 
     ghost coded = { coded_list tree_code };
 
-    ghost view = { λ s. trees_of s.code s.waiting.items };
+    ghost view = { λ s. trees_of s.code s.waiting };
 }
 
 /// POSIX shell arithmetic in 64 bits (POSIX.1-2017, XCU 2.6.4, in the profile of docs/ARITHMETIC.md): a contract sees
@@ -84,7 +83,7 @@ impl Interpreter for ShellArith {
     }
 
     fn steps_left(&self, cell: &Statements) -> u64 {
-        cell.waiting.len() as u64
+        cell.waiting.len()
     }
 
     fn step(&mut self, alloc: Global, cell: &mut Statements) -> Stepped {

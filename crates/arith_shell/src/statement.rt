@@ -11,33 +11,33 @@ ghost use Rattle.interp_core.specs.Interpreter.{ByMemory};
 ghost use Rattle.arith_shell.specs.ShellArithmetic.{BreaksOff, IsLast, IsPrintedValue, Runs};
 
 use crate::fault::from_value;
-use arith_syntax::Part;
+use arith_syntax::{Part, Trees};
 use arith_value::{Variables, evaluate};
 use interp_core::{InterpFault, Next, Output, Stepped};
 use listed::{Row, Text};
-use std::alloc::Global;
-use std::collections::VecDeque;
+use std::alloc::{AllocError, Global};
 
 /// Runs the first of some statements of a text, of which there is one.
 pub(crate) fn run_first(
     alloc: Global,
     variables: &mut Variables,
     code: &str,
-    waiting: &mut VecDeque<Vec<Part>>,
+    waiting: &mut Trees,
 ) -> Stepped
-    requires { 0 < length waiting.old.items }
+    requires { 0 < length waiting.old }
     ensures stepped { ByMemory result.next
-        ((result.outputs ≡ []) × BreaksOff variables.old (trees_of code.now waiting.old.items) variables.new)
-        (Runs variables.old (trees_of code.now waiting.old.items) result variables.new
-        (trees_of code.now waiting.new.items)) }
-    ensures lessened { length waiting.new.items + 1 ≡ length waiting.old.items }
+        ((result.outputs ≡ []) × BreaksOff variables.old (trees_of code.now waiting.old) variables.new)
+        (Runs variables.old (trees_of code.now waiting.old) result variables.new
+        (trees_of code.now waiting.new)) }
+    ensures lessened { length waiting.new + 1 ≡ length waiting.old }
 {
-    match waiting.pop_front() {
-        Some(statement) => {
+    match waiting.pop_front(alloc) {
+        Ok(Some(statement)) => {
             let last = waiting.is_empty();
             run(alloc, variables, code, statement.as_slice(), last)
         }
-        None => unreachable!(),
+        Ok(None) => unreachable!(),
+        Err(AllocError) => failed(alloc, InterpFault::OutOfMemory),
     }
 }
 

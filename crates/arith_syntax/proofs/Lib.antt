@@ -10,6 +10,7 @@ mod NumberLemmas
 mod OctetLemmas
 mod OnceLemmas
 mod ParsingLemmas
+mod PackedLemmas
 mod PartLemmas
 mod ReadingLemmas
 mod SentenceLemmas

@@ -3,6 +3,7 @@ pub mod Grammar
 pub mod Lexed
 pub mod Machine
 pub mod Once
+pub mod Packed
 pub mod Parsing
 pub mod Parts
 pub mod Reading

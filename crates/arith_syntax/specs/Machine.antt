@@ -19,7 +19,7 @@ use Rattle.arith_syntax.specs.declared.parser.Frame.TheVariants as frame
 use Rattle.arith_syntax.specs.declared.parser.Parser.{Parser}
 use Rattle.arith_syntax.specs.Grammar.{Tree, Number, Variable, Group, Unary, Binary, Conditional, Assignment}
 use Rattle.arith_syntax.specs.Grammar.{operator_level}
-use Rattle.arith_syntax.specs.Parts.{before, grown, last, name_of, tree_of, trees_in}
+use Rattle.arith_syntax.specs.Parts.{before, grown, last, name_of, trees_in}
 
 -- a construct that has begun and waits for the operand that ends it, or for the middle of `?` and `:`
 pub data Begun : Type 0 where
@@ -210,10 +210,6 @@ state_of text parser = state_at parser.frames.items parser.held (trees_in text p
 -- the constructs around the operand that a parser of a text holds
 abbrev pub around : List ℕ → Parser → List Begun
 around text parser = stack_of parser.frames.items (before (trees_in text parser.parts.items))
-
--- the operand that a parser of a text holds
-abbrev pub operand_of : List ℕ → Parser → Tree
-operand_of text parser = tree_of text parser.parts.items
 
 -- want of memory, the one fault that the parser's steps have
 abbrev pub IsMemory : ReadFault → Type 0

@@ -2,7 +2,6 @@
 -- place of its word in the text.
 use Rattle.std.specs.Prelude.{◌≡◌, ℕ, Bool, ◌||◌, ◌&&◌, ◌==◌, List, [], ◌∷◌, drop, map}
 use Rattle.std.specs.Bool.{nat_le}
-use Rattle.std.specs.Global.{Vec}
 use Rattle.std.specs.List.{take_while}
 use Rattle.arith_syntax.specs.declared.part.Part.{Part}
 use Rattle.arith_syntax.specs.declared.part.Part.TheVariants as part
@@ -73,6 +72,6 @@ tree_of text parts = last (trees_in text parts)
 abbrev pub IsNamed : List ℕ → Placed → Type 0
 IsNamed text placed = (x : List ℕ) → placed.token ≡ Name x → x ≡ word_at text placed.place
 
--- the trees that several parts in a row are
-abbrev pub trees_of : List ℕ → List (Vec Part) → List Tree
-trees_of text kept = map (λ (parts : Vec Part). tree_of text parts.items) kept
+-- the trees that several rows of parts are
+abbrev pub trees_of : List ℕ → List (List Part) → List Tree
+trees_of text rows = map (tree_of text) rows

@@ -47,19 +47,19 @@ of_three f [] = []
 of_three f (b ∷ trees) = of_two (λ c a. f c a b) trees
 
 -- the trees after one part more, the last one first
-abbrev pub grown : Part → List Tree → List Tree
-grown (inl n) trees = Number n ∷ trees
-grown (inr (inl x)) trees = Variable x ∷ trees
-grown (inr (inr (inl op))) trees = of_one (Unary op) trees
-grown (inr (inr (inr (inl op)))) trees = of_two (λ a b. Binary a op b) trees
-grown (inr (inr (inr (inr (inl (x, op)))))) trees = of_one (Assignment x op) trees
-grown (inr (inr (inr (inr (inr false))))) trees = of_one Group trees
-grown (inr (inr (inr (inr (inr true))))) trees = of_three Conditional trees
+abbrev pub with_part : Part → List Tree → List Tree
+with_part (inl n) trees = Number n ∷ trees
+with_part (inr (inl x)) trees = Variable x ∷ trees
+with_part (inr (inr (inl op))) trees = of_one (Unary op) trees
+with_part (inr (inr (inr (inl op)))) trees = of_two (λ a b. Binary a op b) trees
+with_part (inr (inr (inr (inr (inl (x, op)))))) trees = of_one (Assignment x op) trees
+with_part (inr (inr (inr (inr (inr false))))) trees = of_one Group trees
+with_part (inr (inr (inr (inr (inr true))))) trees = of_three Conditional trees
 
 -- the trees that parts make, the last one first
-abbrev pub assembled : List Tree → List Part → List Tree
-assembled trees [] = trees
-assembled trees (p ∷ ps) = assembled (grown p trees) ps
+abbrev pub made_of : List Tree → List Part → List Tree
+made_of trees [] = trees
+made_of trees (p ∷ ps) = made_of (with_part p trees) ps
 
 -- the last tree of several
 abbrev pub last_of : List Tree → Tree
@@ -67,31 +67,31 @@ last_of [] = Number 0
 last_of (e ∷ trees) = e
 
 -- the parts of a tree make it
-pub assembled-parts : (e : Tree) (trees : List Tree) (more : List Part) → assembled trees (parts e ++ more)
-    ≡ assembled (e ∷ trees) more
-assembled-parts (Number n) trees more = refl
-assembled-parts (Variable x) trees more = refl
-assembled-parts (Group e) trees more =
-    ap (assembled trees) (append_assoc (parts e) (inr (inr (inr (inr (inr false)))) ∷ []) more)
-    ∙ assembled-parts e trees _
-assembled-parts (Unary op e) trees more = ap (assembled trees) (append_assoc (parts e) (inr (inr (inl op)) ∷ []) more)
-    ∙ assembled-parts e trees _
-assembled-parts (Binary a op b) trees more =
+pub made_of-parts : (e : Tree) (trees : List Tree) (more : List Part) → made_of trees (parts e ++ more)
+    ≡ made_of (e ∷ trees) more
+made_of-parts (Number n) trees more = refl
+made_of-parts (Variable x) trees more = refl
+made_of-parts (Group e) trees more =
+    ap (made_of trees) (append_assoc (parts e) (inr (inr (inr (inr (inr false)))) ∷ []) more)
+    ∙ made_of-parts e trees _
+made_of-parts (Unary op e) trees more = ap (made_of trees) (append_assoc (parts e) (inr (inr (inl op)) ∷ []) more)
+    ∙ made_of-parts e trees _
+made_of-parts (Binary a op b) trees more =
     let last : List Part = inr (inr (inr (inl op))) ∷ [] in
-    ap (assembled trees) (append_assoc (parts a) (parts b ++ last) more) ∙ assembled-parts a trees _
-    ∙ ap (assembled (a ∷ trees)) (append_assoc (parts b) last more) ∙ assembled-parts b (a ∷ trees) _
-assembled-parts (Conditional c a b) trees more =
+    ap (made_of trees) (append_assoc (parts a) (parts b ++ last) more) ∙ made_of-parts a trees _
+    ∙ ap (made_of (a ∷ trees)) (append_assoc (parts b) last more) ∙ made_of-parts b (a ∷ trees) _
+made_of-parts (Conditional c a b) trees more =
     let last : List Part = inr (inr (inr (inr (inr true)))) ∷ [] in
-    ap (assembled trees) (append_assoc (parts c) (parts a ++ (parts b ++ last)) more) ∙ assembled-parts c trees _
-    ∙ ap (assembled (c ∷ trees)) (append_assoc (parts a) (parts b ++ last) more) ∙ assembled-parts a (c ∷ trees) _
-    ∙ ap (assembled (a ∷ c ∷ trees)) (append_assoc (parts b) last more) ∙ assembled-parts b (a ∷ c ∷ trees) _
-assembled-parts (Assignment x op e) trees more =
-    ap (assembled trees) (append_assoc (parts e) (inr (inr (inr (inr (inl (x, op))))) ∷ []) more)
-    ∙ assembled-parts e trees _
+    ap (made_of trees) (append_assoc (parts c) (parts a ++ (parts b ++ last)) more) ∙ made_of-parts c trees _
+    ∙ ap (made_of (c ∷ trees)) (append_assoc (parts a) (parts b ++ last) more) ∙ made_of-parts a (c ∷ trees) _
+    ∙ ap (made_of (a ∷ c ∷ trees)) (append_assoc (parts b) last more) ∙ made_of-parts b (a ∷ c ∷ trees) _
+made_of-parts (Assignment x op e) trees more =
+    ap (made_of trees) (append_assoc (parts e) (inr (inr (inr (inr (inl (x, op))))) ∷ []) more)
+    ∙ made_of-parts e trees _
 
 -- A code of trees: a tree is coded as the list of its parts, from which it can be assembled again. So two trees are
 -- equal exactly if their parts are.
 abbrev pub tree_code : Coded Tree
 tree_code =
-    code_by (List Part) (coded_list part_code) parts (λ ps. last_of (assembled [] ps))
-    (λ e. ap (λ ps. last_of (assembled [] ps)) (sym (append-nil (parts e))) ∙ ap last_of (assembled-parts e [] []))
+    code_by (List Part) (coded_list part_code) parts (λ ps. last_of (made_of [] ps))
+    (λ e. ap (λ ps. last_of (made_of [] ps)) (sym (append-nil (parts e))) ∙ ap last_of (made_of-parts e [] []))

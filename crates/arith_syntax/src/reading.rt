@@ -15,25 +15,25 @@ use crate::lexer::{tokens, white_size};
 use crate::parser::parse;
 use crate::part::Part;
 use crate::token::Placed;
+use crate::trees::Trees;
 use std::alloc::Global;
-use std::collections::VecDeque;
 
 /// The most tokens of a statement that are neither names nor constants.
 const MOST_OPERATORS: usize = 200;
 
-/// The trees of a cell's statements, in their order, each as its parts. `;` ends a statement, and an empty one is none.
+/// The trees of a cell's statements, in their order. `;` ends a statement, and an empty one is none.
 ///
 /// # Errors
 ///
 /// The first fault: `Syntax` at a wrong constant or a character that begins no token, anywhere in the cell; then,
 /// statement by statement, `TooDeep` where it has more than 200 tokens that are neither names nor constants, and
 /// `Syntax` at the first token with which no statement goes on, its end among them. `OutOfMemory` where none was left.
-pub fn read_cell(alloc: Global, text: &str) -> Result<VecDeque<Vec<Part>>, ReadFault>
-    ensures { MatchResult result (λ trees. CellMeans (chars text.now) (Ok (trees_of text.now trees.items)))
+pub fn read_cell(alloc: Global, text: &str) -> Result<Trees, ReadFault>
+    ensures { MatchResult result (λ trees. CellMeans (chars text.now) (Ok (trees_of text.now trees)))
         (OrMemory (λ fault. CellMeans (chars text.now) (Err fault))) }
 {
     let mut tokens = Vec::new(alloc);
-    let mut trees = VecDeque::new(alloc);
+    let mut trees = Trees::new(alloc);
     let mut place = white_size(text.as_bytes());
     while place < text.len() {
         match read_sentence(alloc, text, place, &mut tokens, &mut trees)? {
@@ -50,10 +50,10 @@ fn read_sentence(
     text: &str,
     place: usize,
     tokens: &mut Vec<Placed>,
-    trees: &mut VecDeque<Vec<Part>>,
+    trees: &mut Trees,
 ) -> Result<Option<usize>, ReadFault>
-    requires { Progress text.now place (trees_of text.now trees.old.items) }
-    ensures { ReadsOn text.now place result (trees_of text.now trees.new.items) }
+    requires { Progress text.now place (trees_of text.now trees.old) }
+    ensures { ReadsOn text.now place result (trees_of text.now trees.new) }
 {
     tokens.clear();
     let cut = cut_sentence(alloc, text, place, tokens)?;
@@ -94,21 +94,21 @@ pub fn read_statement(alloc: Global, text: &str) -> Result<Vec<Part>, ReadFault>
 fn add(
     alloc: Global,
     text: &str,
-    trees: &mut VecDeque<Vec<Part>>,
+    trees: &mut Trees,
     tokens: &[Placed],
     end: u64,
 ) -> Result<(), ReadFault>
     requires { All (IsNamed text.now) tokens.now }
     ensures { MatchResult result
-        (λ _. Adds (sentence_of tokens.now end) (trees_of text.now trees.old.items)
-        (trees_of text.now trees.new.items))
+        (λ _. Adds (sentence_of tokens.now end) (trees_of text.now trees.old)
+        (trees_of text.now trees.new))
         (OrMemory (Fails (sentence_of tokens.now end))) }
 {
     if tokens.is_empty() {
         return Ok(());
     }
     let tree = statement(alloc, text, tokens, end)?;
-    trees.push_back(tree)?;
+    trees.push(tree)?;
     Ok(())
 }
 

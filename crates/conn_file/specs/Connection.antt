@@ -44,13 +44,13 @@ expected_words fields.SignatureScheme = known_scheme
 expected_words fields.Key = codes "a text"
 
 -- the number of a fault; they count from 40 on, in the order in which the faults are listed
-abbrev pub connection_fault_number : ConnFault → ℕ
-connection_fault_number NotJson = 40
-connection_fault_number (Missing field) = 41
-connection_fault_number (Port field) = 42
-connection_fault_number Transport = 43
-connection_fault_number Scheme = 44
-connection_fault_number OutOfMemory = 45
+abbrev pub conn_fault_number : ConnFault → ℕ
+conn_fault_number NotJson = 40
+conn_fault_number (Missing field) = 41
+conn_fault_number (Port field) = 42
+conn_fault_number Transport = 43
+conn_fault_number Scheme = 44
+conn_fault_number OutOfMemory = 45
 
 -- the text of a field: without the field, or if it is no text, the field counts as missing
 abbrev pub text_in : Field → Data → Result (List ℕ) ConnFault

@@ -26,11 +26,11 @@ pub enum ConnFault {
 }
 
 impl ConnFault {
-    ghost use Rattle.conn_file.specs.Connection.{connection_fault_number};
+    ghost use Rattle.conn_file.specs.Connection.{conn_fault_number};
 
     /// The number of the fault, from 40 on in the order of the variants.
     pub fn number(self) -> u8
-        ensures { result ≡ connection_fault_number self }
+        ensures { result ≡ conn_fault_number self }
     {
         match self {
             ConnFault::NotJson => 40,

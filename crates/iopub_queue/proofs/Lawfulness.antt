@@ -7,7 +7,7 @@ use Rattle.std.proofs.lemmas.List.{take-append-drop}
 use Rattle.std.proofs.lemmas.Bool.{cond_both, eqb-true}
 use Rattle.iopub_queue.specs.declared.plain_core.CoreEvent.{CoreEvent}
 use Rattle.iopub_queue.specs.declared.plain_core.CoreEvent.TheVariants.{Publish, Close, Take}
-use Rattle.iopub_queue.specs.Entries.{Entry, of, HasNoClose, CloseIsLast}
+use Rattle.iopub_queue.specs.Entries.{Entry, part_of, HasNoClose, CloseIsLast}
 use Rattle.iopub_queue.specs.Lawful.{Lists, Lawful, history, start, grown, entered, happened, IsOpen, IsAllowed, after}
 use Rattle.iopub_queue.specs.Lawful.{AreAllowed}
 use Rattle.iopub_queue.proofs.Parts.{of_more, grown_other, one_more_is_last}
@@ -17,11 +17,11 @@ module _ {T : Type 0} where
   pub lawful_by : (n : ℕ) (old new : Lists T) → history old ≡ history new → old.published ≡ new.published → Lawful n old
       → Lawful n new
   lawful_by n old new same published lawful = record {
-    parts = λ number below. ap (of number) (sym same) ∙ lawful.parts number below
+    parts = λ number below. ap (part_of number) (sym same) ∙ lawful.parts number below
         ∙ ap (λ (p : ℕ → List (Option T)). p number) published;
     closes = λ number below. subst (λ (p : ℕ → List (Option T)). CloseIsLast (p number)) published
         (lawful.closes number below);
-    others = λ number above. ap (of number) (sym same) ∙ lawful.others number above;
+    others = λ number above. ap (part_of number) (sym same) ∙ lawful.others number above;
   }
 
   -- an entry of a number that may publish
@@ -30,11 +30,11 @@ module _ {T : Type 0} where
   lawful_entered n state entry lawful free =
       let regroup : state.taken ++ (state.waiting ++ entry ∷ []) ≡ history state ++ entry ∷ [] =
       sym (append_assoc state.taken state.waiting (entry ∷ [])) in
-      let part_of : (number : ℕ) → of number (history (entered state entry))
-      ≡ grown (λ other. of other (history state)) entry.0 entry.1 number =
-      λ number. ap (of number) regroup ∙ of_more (history state) entry number in
+      let same_part : (number : ℕ) → part_of number (history (entered state entry))
+      ≡ grown (λ other. part_of other (history state)) entry.0 entry.1 number =
+      λ number. ap (part_of number) regroup ∙ of_more (history state) entry number in
       record {
-        parts = λ number below. part_of number ∙ same_grown entry.0 entry.1 number (lawful.parts number below);
+        parts = λ number below. same_part number ∙ same_grown entry.0 entry.1 number (lawful.parts number below);
         closes = λ number below. cond_both (entry.0 == number) (state.published number ++ entry.1 ∷ [])
             (state.published number) CloseIsLast
             (λ is. one_more_is_last (state.published number) entry.1
@@ -42,12 +42,12 @@ module _ {T : Type 0} where
             (λ _. lawful.closes number below);
         others = λ number above. let known : entry.0 < n = free.known in
             let apart : entry.0 ≢ number = λ is. omega arith in
-            part_of number ∙ grown_other (λ other. of other (history state)) entry.0 entry.1 number apart
+            same_part number ∙ grown_other (λ other. part_of other (history state)) entry.0 entry.1 number apart
             ∙ lawful.others number above;
       }
     where
-      same_grown : (number : ℕ) (part : Option T) (other : ℕ) → of other (history state) ≡ state.published other
-          → grown (λ at. of at (history state)) number part other ≡ grown state.published number part other
+      same_grown : (number : ℕ) (part : Option T) (other : ℕ) → part_of other (history state) ≡ state.published other
+          → grown (λ at. part_of at (history state)) number part other ≡ grown state.published number part other
       same_grown number part other is = ap (λ (l : List (Option T)). grown (λ at. l) number part other) is
 
   -- a take

@@ -12,10 +12,10 @@ use Rattle.crossbeam_queue.specs.Fifo.{Pushes, Pops, Forks, Merges, Learns}
 use Rattle.iopub_queue.specs.declared.view.Role.TheVariants.{Publishes, Takes, Tells, Spent}
 use Rattle.iopub_queue.specs.declared.view.Ended.{Ended}
 use Rattle.iopub_queue.specs.declared.view.View.{View}
-use Rattle.iopub_queue.specs.Entries.{Entry, StartsWith, of, HasNoClose, CloseIsLast}
+use Rattle.iopub_queue.specs.Entries.{Entry, StartsWith, part_of, HasNoClose, CloseIsLast}
 use Rattle.iopub_queue.specs.Lawful.{Lawful, history, grown, entered, IsOpen}
 use Rattle.iopub_queue.specs.Views.{taking, spent, told_of, one_more, newcomer, word_of, learnt, settled_with}
-use Rattle.iopub_queue.specs.Rule.{Standing, core_of, HoldsNumber, IsSettled, Knows, IsHeldBy, Kept}
+use Rattle.iopub_queue.specs.Rule.{Standing, core_of, HoldsNumber, SettlesWith, Knows, IsHeldBy, Kept}
 use Rattle.iopub_queue.specs.Steps.{Published, Took, Sees}
 use Rattle.iopub_queue.proofs.Lists.{starts_itself, starts_more, longer_has}
 use Rattle.iopub_queue.proofs.Parts.{grown_other}
@@ -289,7 +289,7 @@ module _ {T : Type 0} where
       → Lawful (standing.numbers + 1) (core_of (opened standing seat) waiting)
   lawful_opened standing waiting seat lawful = record {
     parts = λ number below. cond_both (standing.numbers == number) [] (standing.published number)
-        (λ l. of number (standing.taken ++ waiting) ≡ l)
+        (λ l. part_of number (standing.taken ++ waiting) ≡ l)
         (λ is. let same : standing.numbers ≡ number = eqb-true _ _ is in lawful.others number (omega arith))
         (λ is. lawful.parts number (let apart : standing.numbers ≢ number = eqb-false _ _ is in omega arith));
     closes = λ number below. cond_both (standing.numbers == number) [] (standing.published number) CloseIsLast
@@ -447,7 +447,7 @@ module _ {T : Type 0} where
                 own = holds.own;
                 numbers = holds.numbers;
                 taken = holds.taken;
-                settled = All-append (IsSettled new waiting) view.settled (ended ∷ [])
+                settled = All-append (SettlesWith new waiting) view.settled (ended ∷ [])
                     (λ k d within. let old = holds.settled k d within in record {
                       known = old.known;
                       own = cond_both (closed.number == _) standing.taker (standing.seat _) (λ s. s ≡ standing.taker)
@@ -455,7 +455,7 @@ module _ {T : Type 0} where
                       list = old.list;
                       told = old.told;
                     })
-                    (only_one (IsSettled new waiting) ended record {
+                    (only_one (SettlesWith new waiting) ended record {
                       known = number.known;
                       own = rw (eq-eqb closed.number closed.number refl) refl;
                       list = number.list;

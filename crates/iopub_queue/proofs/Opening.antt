@@ -9,7 +9,7 @@ use Rattle.crossbeam_queue.specs.declared.array_queue.Slotted.{Slotted}
 use Rattle.atomic_table.specs.Seated.{TableId}
 use Rattle.crossbeam_queue.specs.Passes.{Pass, view, IsSamePass, IsPassOf}
 use Rattle.iopub_queue.specs.declared.view.View.{View}
-use Rattle.iopub_queue.specs.Entries.{Entry, Agree, of, HasNoClose, CloseIsLast}
+use Rattle.iopub_queue.specs.Entries.{Entry, Agree, part_of, HasNoClose, CloseIsLast}
 use Rattle.iopub_queue.specs.Views.{taking, told_of, one_more, newcomer}
 use Rattle.iopub_queue.specs.Marks.{IsMarked, Marks, unmarked}
 use Rattle.iopub_queue.specs.Values.{Publishing, publishing, taking_by}
@@ -71,7 +71,7 @@ module _ {T : Type 0} where
             seat_of = of_line;
             role = ap (λ (v : View T). v.role) new;
             named = ap (λ (v : View T). v.number) new;
-            own_part = subst (λ (v : View T). of number (told_of v) ≡ v.published) (sym new) refl;
+            own_part = subst (λ (v : View T). part_of number (told_of v) ≡ v.published) (sym new) refl;
           };
           open_list = subst (λ (v : View T). HasNoClose v.published) (sym new) tt;
         }
@@ -105,13 +105,15 @@ module _ {T : Type 0} where
     may_take seat publishers n marks opened is = record {
       seat_of = opened.seat_of;
       role = ap (λ (v : View T). v.role) opened.known;
-      marked = subst (λ (v : View T). Marks v.number marks (λ number. of number v.taken)) (sym opened.known) record {
-        counted = ap length is ∙ length-replicate n false;
-        each = λ number below. subst (λ mark. IsMarked mark (of {T = T} number []))
-            (sym (ap (λ l. get_or l number false) is ∙ get_or-replicate n number false false below)) tt;
-      };
+      marked = subst (λ (v : View T). Marks v.number marks (λ number. part_of number v.taken))
+          (sym opened.known) record {
+            counted = ap length is ∙ length-replicate n false;
+            each = λ number below. subst (λ mark. IsMarked mark (part_of {T = T} number []))
+                (sym (ap (λ l. get_or l number false) is ∙ get_or-replicate n number false false below)) tt;
+          };
       counted = sym (ap unmarked is ∙ unmarked_all n);
-      closes = subst (λ (v : View T). (number : ℕ) → CloseIsLast (of number v.taken)) (sym opened.known) (λ number. tt);
+      closes = subst (λ (v : View T). (number : ℕ) → CloseIsLast (part_of number v.taken)) (sym opened.known)
+          (λ number. tt);
       agree = subst (λ (v : View T). Agree (told_of v) v.taken) (sym opened.known) (inl ([], refl));
     }
 

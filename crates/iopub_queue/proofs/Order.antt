@@ -2,7 +2,7 @@
 use Rattle.std.proofs.Common.{◌≡◌, ◌+◌, List, [], ◌∷◌, ◌++◌, length, sym, ap, ◌∙◌, ⊎_elim, append_assoc}
 use Rattle.std.proofs.Common.{arith, length-append}
 use Rattle.std.proofs.lemmas.List.{append-nil}
-use Rattle.iopub_queue.specs.Entries.{Entry, StartsWith, of}
+use Rattle.iopub_queue.specs.Entries.{Entry, StartsWith, part_of}
 use Rattle.iopub_queue.specs.Laws.{OrderIsKept}
 use Rattle.iopub_queue.proofs.Lists.{agree_front, last_of}
 use Rattle.iopub_queue.proofs.Parts.{of_append, of_own}
@@ -10,10 +10,11 @@ use Rattle.iopub_queue.proofs.Parts.{of_append, of_own}
 module _ {T : Type 0} where
   -- an entry has a place in the part of its number
   longer_part : (entries : List (Entry T)) (entry : Entry T)
-      → length (of entry.0 (entries ++ entry ∷ [])) ≡ length (of entry.0 entries) + 1
+      → length (part_of entry.0 (entries ++ entry ∷ [])) ≡ length (part_of entry.0 entries) + 1
   longer_part entries entry =
-      ap length (of_append entry.0 entries (entry ∷ []) ∙ ap (λ l. of entry.0 entries ++ l) (of_own entry.0 entry.1 []))
-      ∙ length-append (of entry.0 entries) (entry.1 ∷ [])
+      ap length
+      (of_append entry.0 entries (entry ∷ []) ∙ ap (λ l. part_of entry.0 entries ++ l) (of_own entry.0 entry.1 []))
+      ∙ length-append (part_of entry.0 entries) (entry.1 ∷ [])
 
   pub keeps_order : OrderIsKept T
   keeps_order whole told taken front entry agree starts (before, is, fronts) enough = ⊎_elim
@@ -25,10 +26,11 @@ module _ {T : Type 0} where
         starts = fronts;
       })
       (λ (last : (r : List (Entry T)) × (shorter.0 ≡ r ++ entry ∷ [])).
-      let parts : of entry.0 told ≡ of entry.0 taken ++ of entry.0 (last.0 ++ entry ∷ []) =
-      ap (of entry.0) (shorter.1 ∙ ap (λ l. taken ++ l) last.1) ∙ of_append entry.0 taken (last.0 ++ entry ∷ []) in
-      let long : length (of entry.0 told) ≡ length (of entry.0 taken) + length (of entry.0 (last.0 ++ entry ∷ [])) =
-      ap length parts ∙ length-append (of entry.0 taken) (of entry.0 (last.0 ++ entry ∷ [])) in
+      let parts : part_of entry.0 told ≡ part_of entry.0 taken ++ part_of entry.0 (last.0 ++ entry ∷ []) =
+      ap (part_of entry.0) (shorter.1 ∙ ap (λ l. taken ++ l) last.1) ∙ of_append entry.0 taken (last.0 ++ entry ∷ []) in
+      let long : length (part_of entry.0 told)
+      ≡ length (part_of entry.0 taken) + length (part_of entry.0 (last.0 ++ entry ∷ [])) =
+      ap length parts ∙ length-append (part_of entry.0 taken) (part_of entry.0 (last.0 ++ entry ∷ [])) in
       absurd (omega (arith, longer_part last.0 entry)))
       (last_of taken shorter.0 before entry (sym shorter.1 ∙ is)))
       (λ (further : StartsWith taken told). record {

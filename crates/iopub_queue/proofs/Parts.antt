@@ -5,12 +5,13 @@ use Rattle.std.proofs.Common.{eq-eqb, ne_eqb}
 use Rattle.std.specs.Prelude.{Option, Some, None, filter, ◌==◌, if◌then◌else◌, cond}
 use Rattle.std.proofs.lemmas.List.{append-nil, map-append}
 use Rattle.std.proofs.lemmas.List.Elements.{filter-append}
-use Rattle.iopub_queue.specs.Entries.{Entry, of, HasNoClose, CloseIsLast, EndsWithClose}
+use Rattle.iopub_queue.specs.Entries.{Entry, part_of, HasNoClose, CloseIsLast, EndsWithClose}
 use Rattle.iopub_queue.specs.Lawful.{grown}
 
 module _ {T : Type 0} where
   -- the part of two lists, one behind the other
-  pub of_append : (number : ℕ) (xs ys : List (Entry T)) → of number (xs ++ ys) ≡ of number xs ++ of number ys
+  pub of_append : (number : ℕ) (xs ys : List (Entry T)) → part_of number (xs ++ ys)
+      ≡ part_of number xs ++ part_of number ys
   of_append number xs ys =
       ap (map (λ (entry : Entry T). entry.1)) (filter-append (λ (entry : Entry T). entry.0 == number) xs ys)
       ∙ map-append (λ (entry : Entry T). entry.1) (filter (λ (entry : Entry T). entry.0 == number) xs)
@@ -18,12 +19,12 @@ module _ {T : Type 0} where
 
   -- an entry of the number begins its part
   pub of_own : (number : ℕ) (part : Option T) (rest : List (Entry T))
-      → of number ((number, part) ∷ rest) ≡ part ∷ of number rest
+      → part_of number ((number, part) ∷ rest) ≡ part ∷ part_of number rest
   of_own number part rest = rw (eq-eqb number number refl) refl
 
   -- an entry of another number isn't in the part
   pub of_other : (number other : ℕ) (part : Option T) (rest : List (Entry T)) → other ≢ number
-      → of number ((other, part) ∷ rest) ≡ of number rest
+      → part_of number ((other, part) ∷ rest) ≡ part_of number rest
   of_other number other part rest apart = rw (ne_eqb other number apart) refl
 
   put_last : (is : Bool) (entry : Entry T) (xs : List (Option T))
@@ -33,9 +34,9 @@ module _ {T : Type 0} where
 
   -- with one more entry, the part of its number has one more
   pub of_more : (entries : List (Entry T)) (entry : Entry T) (number : ℕ)
-      → of number (entries ++ entry ∷ []) ≡ grown (λ other. of other entries) entry.0 entry.1 number
+      → part_of number (entries ++ entry ∷ []) ≡ grown (λ other. part_of other entries) entry.0 entry.1 number
   of_more entries entry number =
-      of_append number entries (entry ∷ []) ∙ put_last (entry.0 == number) entry (of number entries)
+      of_append number entries (entry ∷ []) ∙ put_last (entry.0 == number) entry (part_of number entries)
 
   -- one more of a number's own
   pub grown_own : (parts : ℕ → List (Option T)) (number : ℕ) (part : Option T)

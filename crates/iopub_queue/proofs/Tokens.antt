@@ -13,7 +13,7 @@ use Rattle.iopub_queue.specs.declared.taken.Settled.TheVariants.{Whole, Beginnin
 use Rattle.iopub_queue.specs.declared.view.Role.TheVariants.{Publishes}
 use Rattle.iopub_queue.specs.declared.view.Ended.{Ended}
 use Rattle.iopub_queue.specs.declared.view.View.{View}
-use Rattle.iopub_queue.specs.Entries.{Entry, StartsWith, Agree, longer, of, HasNoClose, CloseIsLast, EndsWithClose}
+use Rattle.iopub_queue.specs.Entries.{Entry, StartsWith, Agree, longer, part_of, HasNoClose, CloseIsLast, EndsWithClose}
 use Rattle.iopub_queue.specs.Entries.{IsComplete, StandsBehind}
 use Rattle.iopub_queue.specs.Lawful.{Lists, history, grown, entered, happened, event_of}
 use Rattle.iopub_queue.specs.Marks.{IsMarked, Marks, unmarked}
@@ -21,7 +21,7 @@ use Rattle.iopub_queue.specs.Views.{told_of, learnt, settled_with}
 use Rattle.iopub_queue.specs.Steps.{Published, Took, IsEnded, Sees}
 use Rattle.iopub_queue.specs.Values.{publishing, telling, taking_by}
 use Rattle.iopub_queue.specs.Held.{HoldsSeat, MayPublish, MayTake}
-use Rattle.iopub_queue.specs.Calls.{Adds, TakesOne, FindsNothing, Learns, IsSettledBy, Settles}
+use Rattle.iopub_queue.specs.Calls.{Adds, TakesOne, FindsNothing, Learns, NumberIsSettled, Settles}
 use Rattle.iopub_queue.proofs.Lists.{longer_has, longer_starts, longer_starts_too, beginnings_agree}
 use Rattle.iopub_queue.proofs.Parts.{of_append, of_own, of_more, grown_own, item_keeps_open, front_is_open}
 use Rattle.iopub_queue.proofs.Parts.{front_is_last, nothing_behind, closed_is_not_open, empty_front}
@@ -55,10 +55,10 @@ module _ {T : Type 0} where
 
   -- what is told has all that was published
   pub pushed_part : (old new : View T) (entry : Entry T) (known : Published old entry new) → entry.0 < known.numbers
-      → of entry.0 (told_of new) ≡ new.published
+      → part_of entry.0 (told_of new) ≡ new.published
   pushed_part old new entry pushed known =
-      ap (λ v. of entry.0 (told_of v)) pushed.after
-      ∙ ap (of entry.0) (longer_nil (history (happened pushed.state (event_of entry))))
+      ap (λ v. part_of entry.0 (told_of v)) pushed.after
+      ∙ ap (part_of entry.0) (longer_nil (history (happened pushed.state (event_of entry))))
       ∙ (lawful_stays pushed.numbers pushed.state (event_of entry) pushed.lawful pushed.allowed).parts entry.0 known
       ∙ ap (λ (v : View T). v.published) (sym pushed.after)
 
@@ -82,7 +82,7 @@ module _ {T : Type 0} where
     behind = subst (λ i. StandsBehind (told_of (view new)) (i, part) (told_of (view old))) (sym named)
         (pushed_behind (view old) (view new) (number, part) pushed (told_of (view old))
         (longer_has (StartsWith (history pushed.state)) (view old).seen (view old).heard pushed.seen pushed.heard));
-    own_part = subst (λ i. of i (told_of (view new)) ≡ (view new).published) (sym named)
+    own_part = subst (λ i. part_of i (told_of (view new)) ≡ (view new).published) (sym named)
         (pushed_part (view old) (view new) (number, part) pushed
         (known_by (view old) (view new) (number, part) pushed));
   }
@@ -106,7 +106,7 @@ module _ {T : Type 0} where
           behind =
               behind (told_of (view old)) (subst (λ (v : View T). StartsWith (history pushed.state) v.seen) is
               pushed.seen);
-          own_part = subst (λ i. of i (told_of (view new)) ≡ (view new).published) (sym named)
+          own_part = subst (λ i. part_of i (told_of (view new)) ≡ (view new).published) (sym named)
               (pushed_part (view heard) (view new) (number, part) pushed
               (known_by (view heard) (view new) (number, part) pushed));
         },
@@ -134,37 +134,38 @@ module _ {T : Type 0} where
   not_nothing (x ∷ front) part behind is = cc
 
   took_part : (old new : View T) (number : ℕ) (part : Option T) (took : Took old (number, part) new)
-      → of number (history took.state) ≡ of number old.taken ++ part ∷ of number took.behind
-  took_part old new number part took = ap (of number) (took_history old new (number, part) took)
+      → part_of number (history took.state) ≡ part_of number old.taken ++ part ∷ part_of number took.behind
+  took_part old new number part took = ap (part_of number) (took_history old new (number, part) took)
       ∙ of_append number old.taken ((number, part) ∷ took.behind)
-      ∙ ap (λ l. of number old.taken ++ l) (of_own number part took.behind)
+      ∙ ap (λ l. part_of number old.taken ++ l) (of_own number part took.behind)
 
   -- the number is known
   pub took_known : (old new : View T) (number : ℕ) (part : Option T) → Took old (number, part) new → number < old.number
   took_known old new number part took = ⊎_elim (λ (below : number < old.number). below)
-      (λ (above : old.number ≤ number). absurd (not_nothing (of number old.taken) part (of number took.behind)
+      (λ (above : old.number ≤ number). absurd (not_nothing (part_of number old.taken) part (part_of number took.behind)
       (sym (took_part old new number part took) ∙ took.lawful.others number above)))
       (cases_lt number old.number)
 
   -- its close wasn't taken
   pub took_open : (old new : View T) (number : ℕ) (part : Option T) → Took old (number, part) new
-      → HasNoClose (of number old.taken)
+      → HasNoClose (part_of number old.taken)
   took_open old new number part took = let known = took_known old new number part took in
-      front_is_open (of number old.taken) part (of number took.behind)
+      front_is_open (part_of number old.taken) part (part_of number took.behind)
       (subst CloseIsLast (sym (took.lawful.parts number known) ∙ took_part old new number part took)
       (took.lawful.closes number known))
 
   -- a close stands last in each part
   pub took_closes : (old new : View T) (entry : Entry T) → Took old entry new → (other : ℕ)
-      → CloseIsLast (of other new.taken)
+      → CloseIsLast (part_of other new.taken)
   took_closes old new entry took other =
-      let whole : of other (history took.state) ≡ of other new.taken ++ of other took.behind =
-      ap (of other) (took_whole old new entry took) ∙ of_append other new.taken took.behind in
+      let whole : part_of other (history took.state) ≡ part_of other new.taken ++ part_of other took.behind =
+      ap (part_of other) (took_whole old new entry took) ∙ of_append other new.taken took.behind in
       ⊎_elim
-      (λ (below : other < old.number). front_is_last (of other new.taken) (of other took.behind)
+      (λ (below : other < old.number). front_is_last (part_of other new.taken) (part_of other took.behind)
       (subst CloseIsLast (sym (took.lawful.parts other below) ∙ whole) (took.lawful.closes other below)))
       (λ (above : old.number ≤ other). subst CloseIsLast
-      (sym (empty_front (of other new.taken) (of other took.behind) (sym whole ∙ took.lawful.others other above))) tt)
+      (sym (empty_front (part_of other new.taken) (part_of other took.behind)
+      (sym whole ∙ took.lawful.others other above))) tt)
       (cases_lt other old.number)
 
   -- what was told and what was taken agree
@@ -249,19 +250,21 @@ module _ {T : Type 0} where
   pub settled_whole : (view closed : View T) (waiting : List (Entry T)) (sees : Sees view waiting)
       → IsEnded view.number record { taken = view.taken; waiting = waiting; published = sees.published }
       record { number = closed.number; published = closed.published; told = told_of closed }
-      → closed.published ≡ of closed.number view.taken ++ of closed.number waiting
+      → closed.published ≡ part_of closed.number view.taken ++ part_of closed.number waiting
   settled_whole view closed waiting sees ended =
       sym ended.list ∙ sym (sees.lawful.parts closed.number ended.known) ∙ of_append closed.number view.taken waiting
 
   settles_facts : (view closed : View T) (waiting : List (Entry T)) (sees : Sees view waiting)
       → (ended : IsEnded view.number record { taken = view.taken; waiting = waiting; published = sees.published }
       record { number = closed.number; published = closed.published; told = told_of closed })
-      → EndsWithClose (of closed.number view.taken) → of closed.number view.taken ≡ closed.published
+      → EndsWithClose (part_of closed.number view.taken) → part_of closed.number view.taken ≡ closed.published
   settles_facts view closed waiting sees ended ends =
       let whole = settled_whole view closed waiting sees ended in
-      let none : of closed.number waiting ≡ [] = nothing_behind (of closed.number view.taken) (of closed.number waiting)
+      let none : part_of closed.number waiting ≡ [] =
+      nothing_behind (part_of closed.number view.taken) (part_of closed.number waiting)
       (subst CloseIsLast (ended.list ∙ whole) (sees.lawful.closes closed.number ended.known)) ends in
-      sym (append-nil (of closed.number view.taken)) ∙ ap (λ l. of closed.number view.taken ++ l) (sym none) ∙ sym whole
+      sym (append-nil (part_of closed.number view.taken)) ∙ ap (λ l. part_of closed.number view.taken ++ l) (sym none)
+      ∙ sym whole
 
   module _ {Q A : Type 0} (line : Slotted (Option (Entry T)) (Doing (Entry T) (View T)) Q A) where
     -- a seat stays one of the queue
@@ -302,9 +305,9 @@ module _ {T : Type 0} where
         let is : view new ≡ learnt (view old) word = stays ∙ learns in record {
           seat_of = stays_of heard new (stays_of old heard may.seat_of same) same_too;
           role = ap (λ (v : View T). v.role) is ∙ may.role;
-          marked = subst (λ (v : View T). Marks v.number marks (λ number. of number v.taken)) (sym is) may.marked;
+          marked = subst (λ (v : View T). Marks v.number marks (λ number. part_of number v.taken)) (sym is) may.marked;
           counted = may.counted;
-          closes = subst (λ (v : View T). (number : ℕ) → CloseIsLast (of number v.taken)) (sym is) may.closes;
+          closes = subst (λ (v : View T). (number : ℕ) → CloseIsLast (part_of number v.taken)) (sym is) may.closes;
           agree = (learns_by (view old) (view new) word waiting is (subst (λ v. Sees v waiting) (sym stays) sees)).2;
         }
 
@@ -317,16 +320,16 @@ module _ {T : Type 0} where
         let is : view new ≡ settled_with (view old) closed = stays ∙ settles in record {
           seat_of = stays_of heard new (stays_of old heard may.seat_of same) same_too;
           role = ap (λ (v : View T). v.role) is ∙ may.role;
-          marked = subst (λ (v : View T). Marks v.number marks (λ number. of number v.taken)) (sym is) may.marked;
+          marked = subst (λ (v : View T). Marks v.number marks (λ number. part_of number v.taken)) (sym is) may.marked;
           counted = may.counted;
-          closes = subst (λ (v : View T). (number : ℕ) → CloseIsLast (of number v.taken)) (sym is) may.closes;
+          closes = subst (λ (v : View T). (number : ℕ) → CloseIsLast (part_of number v.taken)) (sym is) may.closes;
           agree = subst (λ (v : View T). Agree (told_of v) v.taken) (sym is) may.agree;
         }
 
     parts_after : (old new : View T) (number : ℕ) (part : Option T) → Took old (number, part) new
-        → (other : ℕ) → grown (λ at. of at old.taken) number part other ≡ of other new.taken
+        → (other : ℕ) → grown (λ at. part_of at old.taken) number part other ≡ part_of other new.taken
     parts_after old new number part took other =
-        sym (of_more old.taken (number, part) other) ∙ ap (of other) (sym (took_list old new (number, part) took))
+        sym (of_more old.taken (number, part) other) ∙ ap (part_of other) (sym (took_list old new (number, part) took))
 
     marks_after : (marks : List Bool) (n m : ℕ) → n ≡ m → (one other : ℕ → List (Option T))
         → ((at : ℕ) → one at ≡ other at)
@@ -341,7 +344,8 @@ module _ {T : Type 0} where
     takes_marked : (old new : Pass (Entry T) (View T)) (number : ℕ) (part : Option T) (marks after : List Bool)
         (left now_left : ℕ)
         → MayTake line old marks left → IsSamePass old new → Took (view old) (number, part) (view new)
-        → Marks (view old).number after (grown (λ at. of at (view old).taken) number part) → now_left ≡ unmarked after
+        → Marks (view old).number after (grown (λ at. part_of at (view old).taken) number part)
+        → now_left ≡ unmarked after
         → MayTake line new after now_left
     takes_marked old new number part marks after left now_left may same took marked counted = record {
       seat_of = stays_of old new may.seat_of same;
@@ -361,7 +365,7 @@ module _ {T : Type 0} where
         → MayTake line new marks left
     takes_item old new number item marks left may same took =
         takes_marked old new number (Some item) marks marks left left may same took
-        (marks_item (view old).number marks (λ at. of at (view old).taken) number item
+        (marks_item (view old).number marks (λ at. part_of at (view old).taken) number item
         (took_open (view old) (view new) number (Some item) took) may.marked)
         may.counted
 
@@ -374,7 +378,7 @@ module _ {T : Type 0} where
         let known : number < (view old).number = took_known (view old) (view new) number part took in
         let wide : length marks ≡ (view old).number = may.marked.counted in (
           omega arith,
-          open_is_unmarked (get_or marks number false) (of number (view old).taken)
+          open_is_unmarked (get_or marks number false) (part_of number (view old).taken)
               (took_open (view old) (view new) number part took)
               (may.marked.each number known),
         )
@@ -389,7 +393,7 @@ module _ {T : Type 0} where
         let less : unmarked (set marks number true) + 1 ≡ unmarked marks = unmarked_less marks number there.0 there.1 in
         let counted : left ≡ unmarked marks = may.counted in
         takes_marked old new number None marks (set marks number true) left now_left may same took
-        (marks_close (view old).number marks (λ at. of at (view old).taken) number
+        (marks_close (view old).number marks (λ at. part_of at (view old).taken) number
         (took_known (view old) (view new) number None took) may.marked)
         (omega arith)
 
@@ -399,7 +403,7 @@ module _ {T : Type 0} where
         → IsComplete (view seat).number (view seat).taken
     complete_by seat marks left may none number below =
         let wide : length marks ≡ (view seat).number = may.marked.counted in
-        marked_ends (get_or marks number false) (of number (view seat).taken)
+        marked_ends (get_or marks number false) (part_of number (view seat).taken)
         (all_marked marks (sym may.counted ∙ none) number (omega arith)) (may.marked.each number below)
 
     -- where one is left, it isn't
@@ -410,7 +414,7 @@ module _ {T : Type 0} where
         let wide : length marks ≡ (view seat).number = may.marked.counted in
         some (may.counted ∙ none_unmarked marks (λ number within.
         let below : number < (view seat).number = omega arith in
-        ends_is_marked (get_or marks number false) (of number (view seat).taken) (complete number below)
+        ends_is_marked (get_or marks number false) (part_of number (view seat).taken) (complete number below)
         (may.marked.each number below)))
       where
         ends_is_marked : (mark : Bool) (part : List (Option T)) → EndsWithClose part → IsMarked mark part → mark ≡ true
@@ -447,22 +451,23 @@ module _ {T : Type 0} where
     settles_by old heard closed marks left waiting mark may is sees mark_is =
         let i : ℕ = (view closed).number in
         let ended = ended_last (view old) (view heard) (view closed) waiting is sees in
-        let of_taken : of i (view heard).taken ≡ of i (view old).taken = ap (λ (v : View T). of i v.taken) is in
+        let of_taken : part_of i (view heard).taken ≡ part_of i (view old).taken =
+        ap (λ (v : View T). part_of i v.taken) is in
         let known : i < (view old).number = subst (λ n. i < n) (ap (λ (v : View T). v.number) is) ended.known in
         let wide : length marks ≡ (view old).number = may.marked.counted in
         let marked : get_or marks i false ≡ mark =
         get_or_default marks i false mark (omega arith) ∙ sym mark_is in record {
           known = known;
           beginning = (
-            of i waiting,
+            part_of i waiting,
             settled_whole (view heard) (view closed) waiting sees ended
-                ∙ ap (λ l. l ++ of i waiting) of_taken,
+                ∙ ap (λ l. l ++ part_of i waiting) of_taken,
           );
           agree = subst (λ (v : View T). Agree (told_of (view closed)) v.taken) is
               (beginnings_agree ((view heard).taken ++ waiting) (told_of (view closed)) (view heard).taken ended.told
               (waiting, refl));
           decided =
-              decides mark (of i (view old).taken) (subst (λ b. IsMarked b (of i (view old).taken)) marked
+              decides mark (part_of i (view old).taken) (subst (λ b. IsMarked b (part_of i (view old).taken)) marked
               (may.marked.each i known))
               (λ ends. sym of_taken ∙ settles_facts (view heard) (view closed) waiting sees ended
               (subst EndsWithClose (sym of_taken) ends));
@@ -470,6 +475,6 @@ module _ {T : Type 0} where
       where
         decides : (mark : Bool) (part : List (Option T)) → IsMarked mark part
             → (EndsWithClose part → part ≡ (view closed).published)
-            → IsSettledBy (settled_as mark) part (view closed).published
+            → NumberIsSettled (settled_as mark) part (view closed).published
         decides true part marked whole = (marked, whole marked)
         decides false part marked whole = λ ends. closed_is_not_open part ends marked

@@ -9,7 +9,7 @@ use Rattle.iopub_queue.specs.declared.taken.Settled.{Settled}
 use Rattle.iopub_queue.specs.declared.taken.Settled.TheVariants.{Whole, Beginning}
 use Rattle.iopub_queue.specs.declared.fault.OpenFault.{OpenFault}
 use Rattle.iopub_queue.specs.declared.fault.OpenFault.TheVariants.{Count, Capacity, OutOfMemory}
-use Rattle.iopub_queue.specs.Entries.{StartsWith, Agree, longer, of, HasNoClose, CloseIsLast, EndsWithClose}
+use Rattle.iopub_queue.specs.Entries.{StartsWith, Agree, longer, part_of, HasNoClose, CloseIsLast, EndsWithClose}
 use Rattle.iopub_queue.specs.Entries.{IsComplete, StandsBehind}
 use Rattle.iopub_queue.specs.Values.{Publishing, Told, Taking}
 
@@ -29,16 +29,16 @@ module _ {T : Type 0} where
     pub number : new.number ≡ old.number
     pub published : new.published ≡ old.published ++ part ∷ []
     pub behind : StandsBehind new.told (old.number, part) old.told
-    pub own_part : of old.number new.told ≡ new.published
+    pub own_part : part_of old.number new.told ≡ new.published
 
   -- The taker took one entry, of a number whose close wasn't taken. If it was told of more than it had taken, the entry
   -- is the next of that. In the part of each number a close stands last.
   pub record TakesOne (old : Taking T) (number : ℕ) (part : Option T) (new : Taking T) : Type 0 where
     pub added : new ≡ record old { taken = old.taken ++ (number, part) ∷ [] }
     pub known : number < old.count
-    pub open_part : HasNoClose (of number old.taken)
+    pub open_part : HasNoClose (part_of number old.taken)
     pub next : Agree new.told new.taken
-    pub closes : (other : ℕ) → CloseIsLast (of other new.taken)
+    pub closes : (other : ℕ) → CloseIsLast (part_of other new.taken)
 
   -- the taker took nothing: all that it was told of has been taken, but not every number's close
   pub record FindsNothing (old new : Taking T) : Type 0 where
@@ -65,17 +65,17 @@ module _ {T : Type 0} where
 
   -- A number is settled as Whole exactly if the part of it that was taken ends with its close. That part is then all
   -- that was published.
-  abbrev pub IsSettledBy : Settled → List (Option T) → List (Option T) → Type 0
-  IsSettledBy Whole part published = EndsWithClose part × (part ≡ published)
-  IsSettledBy Beginning part published = ¬ EndsWithClose part
+  abbrev pub NumberIsSettled : Settled → List (Option T) → List (Option T) → Type 0
+  NumberIsSettled Whole part published = EndsWithClose part × (part ≡ published)
+  NumberIsSettled Beginning part published = ¬ EndsWithClose part
 
   -- The taker settled with a closing token: of its number a beginning of what was published is taken. What was taken
   -- agrees with what the token was told of.
   pub record Settles (taker : Taking T) (closed : Publishing T) (answer : Settled) : Type 0 where
     pub known : closed.number < taker.count
-    pub beginning : StartsWith closed.published (of closed.number taker.taken)
+    pub beginning : StartsWith closed.published (part_of closed.number taker.taken)
     pub agree : Agree closed.told taker.taken
-    pub decided : IsSettledBy answer (of closed.number taker.taken) closed.published
+    pub decided : NumberIsSettled answer (part_of closed.number taker.taken) closed.published
 
   -- publishers that were just opened, so many from a first number on: they published nothing and were told of nothing
   abbrev pub newcomers : TableId → ℕ → ℕ → List (Publishing T)

@@ -21,8 +21,8 @@ module _ {A : Type 0} where
 
 module _ {T : Type 0} where
   -- the part of a number in a list of entries: what stands in the entries of that number, in their order
-  abbrev pub of : ℕ → List (Entry T) → List (Option T)
-  of number entries = map (λ entry. entry.1) (filter (λ entry. entry.0 == number) entries)
+  abbrev pub part_of : ℕ → List (Entry T) → List (Option T)
+  part_of number entries = map (λ entry. entry.1) (filter (λ entry. entry.0 == number) entries)
 
   -- no close stands in a part
   abbrev pub HasNoClose : List (Option T) → Type 0
@@ -42,7 +42,7 @@ module _ {T : Type 0} where
 
   -- entries are complete if the part of each number below n ends with a close
   abbrev pub IsComplete : ℕ → List (Entry T) → Type 0
-  IsComplete n entries = (number : ℕ) → number < n → EndsWithClose (of number entries)
+  IsComplete n entries = (number : ℕ) → number < n → EndsWithClose (part_of number entries)
 
   -- an entry is the last of a list, and a front is a beginning of what stands before it
   abbrev pub StandsBehind : List (Entry T) → Entry T → List (Entry T) → Type 0

@@ -5,7 +5,7 @@ use Rattle.crossbeam_queue.specs.declared.array_queue.Slotted.{Slotted}
 use Rattle.crossbeam_queue.specs.Passes.{Pass, view, IsPassOf}
 use Rattle.iopub_queue.specs.declared.view.Role.TheVariants.{Publishes, Takes, Tells}
 use Rattle.iopub_queue.specs.declared.view.View.{View}
-use Rattle.iopub_queue.specs.Entries.{Entry, Agree, of, HasNoClose, CloseIsLast}
+use Rattle.iopub_queue.specs.Entries.{Entry, Agree, part_of, HasNoClose, CloseIsLast}
 use Rattle.iopub_queue.specs.Views.{told_of}
 use Rattle.iopub_queue.specs.Marks.{Marks, unmarked}
 
@@ -22,7 +22,7 @@ module _ {T Q A : Type 0} where
     pub seat_of : IsPassOf line seat
     pub role : (view seat).role ≡ Publishes
     pub named : (view seat).number ≡ number
-    pub own_part : of number (told_of (view seat)) ≡ (view seat).published
+    pub own_part : part_of number (told_of (view seat)) ≡ (view seat).published
 
   -- a publisher holds the seat of its number and hasn't closed
   pub record MayPublish (line : Slotted (Option (Entry T)) (Doing (Entry T) (View T)) Q A)
@@ -36,7 +36,7 @@ module _ {T Q A : Type 0} where
       (marks : List Bool) (left : ℕ) : Type 0 where
     pub seat_of : IsPassOf line seat
     pub role : (view seat).role ≡ Takes
-    pub marked : Marks (view seat).number marks (λ number. of number (view seat).taken)
+    pub marked : Marks (view seat).number marks (λ number. part_of number (view seat).taken)
     pub counted : left ≡ unmarked marks
-    pub closes : (number : ℕ) → CloseIsLast (of number (view seat).taken)
+    pub closes : (number : ℕ) → CloseIsLast (part_of number (view seat).taken)
     pub agree : Agree (told_of (view seat)) (view seat).taken

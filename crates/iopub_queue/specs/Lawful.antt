@@ -4,7 +4,7 @@ use Rattle.std.specs.Prelude.{◌≡◌, ℕ, ◌<◌, ◌≤◌, ⊤, Option, S
 use Rattle.std.specs.Prelude.{if◌then◌else◌}
 use Rattle.iopub_queue.specs.declared.plain_core.CoreEvent.{CoreEvent}
 use Rattle.iopub_queue.specs.declared.plain_core.CoreEvent.TheVariants.{Publish, Close, Take}
-use Rattle.iopub_queue.specs.Entries.{Entry, of, HasNoClose, CloseIsLast}
+use Rattle.iopub_queue.specs.Entries.{Entry, part_of, HasNoClose, CloseIsLast}
 
 -- A state of the core: what was taken, what waits, and what each number published, all in order.
 pub record Lists (T : Type 0) : Type 0 where
@@ -21,9 +21,9 @@ module _ {T : Type 0} where
   -- what that number published. A number's close stands last, so that it stands there once at most. No entry has
   -- another number.
   pub record Lawful (n : ℕ) (state : Lists T) : Type 0 where
-    pub parts : (number : ℕ) → number < n → of number (history state) ≡ state.published number
+    pub parts : (number : ℕ) → number < n → part_of number (history state) ≡ state.published number
     pub closes : (number : ℕ) → number < n → CloseIsLast (state.published number)
-    pub others : (number : ℕ) → n ≤ number → of number (history state) ≡ []
+    pub others : (number : ℕ) → n ≤ number → part_of number (history state) ≡ []
 
   -- the state at first: every list is empty
   abbrev pub start : Lists T

@@ -1,6 +1,6 @@
 -- What follows from the definitions.
 use Rattle.std.specs.Prelude.{◌≡◌, ◌≤◌, List, ◌∷◌, ◌++◌, length}
-use Rattle.iopub_queue.specs.Entries.{Entry, StartsWith, Agree, of, StandsBehind}
+use Rattle.iopub_queue.specs.Entries.{Entry, StartsWith, Agree, part_of, StandsBehind}
 
 -- an entry was taken, and a front is a beginning of what was taken before it
 pub record IsTakenBehind {T : Type 0} (taken : List (Entry T)) (entry : Entry T) (front : List (Entry T)) : Type 0 where
@@ -14,5 +14,5 @@ pub record IsTakenBehind {T : Type 0} (taken : List (Entry T)) (entry : Entry T)
 -- beginning, the entry was taken, after the front.
 abbrev pub OrderIsKept : Type 0 → Type 0
 OrderIsKept T = (whole told taken front : List (Entry T)) (entry : Entry T) → Agree whole taken → StartsWith whole told
-    → StandsBehind told entry front → length (of entry.0 told) ≤ length (of entry.0 taken)
+    → StandsBehind told entry front → length (part_of entry.0 told) ≤ length (part_of entry.0 taken)
     → IsTakenBehind taken entry front

@@ -30,7 +30,7 @@ module _ {T : Type 0} where
     pub list : standing.published view.number ≡ view.published
 
   -- The taker settled with a publisher: the number's seat is the taker's, and its list is what the publisher had.
-  pub record IsSettled (standing : Standing T) (waiting : List (Entry T)) (ended : Ended T) : Type 0 where
+  pub record SettlesWith (standing : Standing T) (waiting : List (Entry T)) (ended : Ended T) : Type 0 where
     pub known : ended.number < standing.numbers
     pub own : standing.seat ended.number ≡ standing.taker
     pub list : standing.published ended.number ≡ ended.published
@@ -41,7 +41,7 @@ module _ {T : Type 0} where
     pub own : seat ≡ standing.taker
     pub numbers : standing.numbers ≡ view.number
     pub taken : standing.taken ≡ view.taken
-    pub settled : All (IsSettled standing waiting) view.settled
+    pub settled : All (SettlesWith standing waiting) view.settled
 
   -- What a seat saw and heard is a beginning of the history; a publisher and the taker know their own lists, too.
   pub record Knows (standing : Standing T) (waiting : List (Entry T)) (seat : ℕ) (view : View T) : Type 0 where

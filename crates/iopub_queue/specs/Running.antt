@@ -16,7 +16,7 @@ module _ {T : Type 0} where
 
   -- What the core answers: the lists after the events, or the first event that isn't allowed. If memory was wanting
   -- nothing is said.
-  abbrev pub Runs : ℕ → List (CoreEvent T) → Result (CoreState T) CoreFault → Type 0
-  Runs n events (Ok ended) = EndsIn n events ended
-  Runs n events (Err (NotAllowed place)) = IsFirstNotAllowed n events place
-  Runs n events (Err OutOfMemory) = ⊤
+  abbrev pub RunsEvents : ℕ → List (CoreEvent T) → Result (CoreState T) CoreFault → Type 0
+  RunsEvents n events (Ok ended) = EndsIn n events ended
+  RunsEvents n events (Err (NotAllowed place)) = IsFirstNotAllowed n events place
+  RunsEvents n events (Err OutOfMemory) = ⊤

@@ -1,7 +1,7 @@
 //! The closing tokens of publishers.
 
 ghost use Rattle.std.specs.Prelude.{◌≡◌};
-ghost use Rattle.iopub_queue.specs.Entries.{of};
+ghost use Rattle.iopub_queue.specs.Entries.{part_of};
 
 use crate::line::{Line, Seat, split_word};
 use crate::word::Word;
@@ -50,7 +50,7 @@ impl<T> Closed<T> {
           queue = self.old.queue;
           list = self.old.told;
         } }
-        ensures own { of self.old.number result.list ≡ self.old.published }
+        ensures own { part_of self.old.number result.list ≡ self.old.published }
     {
         Word {
             seat: split_word(&self.line, &mut self.seat),

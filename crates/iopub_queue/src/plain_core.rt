@@ -4,7 +4,7 @@ ghost use Rattle.std.specs.Prelude.{◌≡◌, ◌≤◌, length, take, drop, If
 ghost use Rattle.iopub_queue.specs.Fault.{core_fault_number};
 ghost use Rattle.iopub_queue.specs.Marks.{IsOpenMark, Steps};
 ghost use Rattle.iopub_queue.specs.declared.plain_core.CoreEvent.TheVariants.{Publish, Close};
-ghost use Rattle.iopub_queue.specs.Running.{Runs};
+ghost use Rattle.iopub_queue.specs.Running.{RunsEvents};
 ghost use Rattle.iopub_queue.specs.declared.plain_core.CoreFault.TheVariants.{OutOfMemory};
 
 use listed::Row;
@@ -145,7 +145,7 @@ pub fn run_core<T: Drop>(
     n: usize,
     events: Vec<CoreEvent<T>>,
 ) -> Result<CoreState<T>, CoreFault>
-    ensures { Runs n events.items result }
+    ensures { RunsEvents n events.items result }
 {
     let Ok(closed) = Vec::from_elem(alloc, false, n) else {
         return Err(CoreFault::OutOfMemory);

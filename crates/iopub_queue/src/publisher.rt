@@ -1,7 +1,7 @@
 //! Publishers.
 
 ghost use Rattle.std.specs.Prelude.{◌≡◌, ◌++◌, ◌∷◌, [], Some, None, Ok, IfErr, IsOkAnd, OnErr, OnOk};
-ghost use Rattle.iopub_queue.specs.Entries.{of, StandsBehind};
+ghost use Rattle.iopub_queue.specs.Entries.{part_of, StandsBehind};
 ghost use Rattle.iopub_queue.specs.Calls.{Adds};
 
 use crate::closed::Closed;
@@ -58,7 +58,7 @@ impl<T, R> Publisher<T, R> {
           queue = self.old.queue;
           list = self.old.told;
         } }
-        ensures own { of self.old.number result.list ≡ self.old.published }
+        ensures own { part_of self.old.number result.list ≡ self.old.published }
     {
         Word {
             seat: split_word(&self.line, &mut self.seat),

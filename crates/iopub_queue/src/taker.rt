@@ -1,7 +1,7 @@
 //! The taker.
 
 ghost use Rattle.std.specs.Prelude.{◌≡◌, ℕ};
-ghost use Rattle.iopub_queue.specs.Entries.{of, Agree, CloseIsLast};
+ghost use Rattle.iopub_queue.specs.Entries.{part_of, Agree, CloseIsLast};
 ghost use Rattle.iopub_queue.specs.Calls.{TakeGives, Learns, Settles};
 
 use crate::closed::Closed;
@@ -46,7 +46,7 @@ impl<T, R> Taker<T, R> {
     /// In the part of each publisher in what it took a close stands last. Does nothing.
     pub fn is_in_order(&self)
         ensures agree { Agree self.now.told self.now.taken }
-        ensures closes { (number : ℕ) → CloseIsLast (of number self.now.taken) }
+        ensures closes { (number : ℕ) → CloseIsLast (part_of number self.now.taken) }
     {
         let _ = &self.left;
     }

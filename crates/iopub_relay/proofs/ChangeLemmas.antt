@@ -10,8 +10,8 @@ use Rattle.iopub_relay.specs.declared.subscriber.Standing.{Standing}
 use Rattle.iopub_relay.specs.declared.subscriber.Standing.TheVariants.{Served, Broken, Starved}
 use Rattle.iopub_relay.specs.declared.subscriber.Subscriber.{Subscriber}
 use Rattle.iopub_relay.specs.Life.{Life, leaves, comes_with, life_begun, life}
-use Rattle.iopub_relay.specs.Rows.{row_of}
-use Rattle.iopub_relay.specs.Table.{GetsBy, LivesAt, Fits, IsStarved, Grows}
+use Rattle.iopub_relay.specs.Rows.{subscriber_at}
+use Rattle.iopub_relay.specs.Table.{GetsBy, LivesAt, Fits, IsStarved, TableGrows}
 use Rattle.iopub_relay.specs.Relay.{Relaying, ServesTaken, ServesOne, IsSubscribeOf, ChangesBy, ChangesAt, Changes}
 use Rattle.iopub_queue.specs.Calls.{TakesOne}
 use Rattle.iopub_relay.proofs.LifeLemmas.{onward, life_left, life_more}
@@ -149,10 +149,10 @@ module _ {Writer : Type 0} where
 
   -- how an event changes each subscriber of a table that fitted events
   pub changes : (outflow : Writer → Outflow) (old new : List (Subscriber Writer)) (event : Event Writer)
-      (events : List (Event Writer)) → Grows outflow (IsSubscribeOf event) old new event → Fits outflow old events
+      (events : List (Event Writer)) → TableGrows outflow (IsSubscribeOf event) old new event → Fits outflow old events
       → Changes outflow event old new
   changes outflow old new event events grows fits id =
-      change_by outflow id event (leaves id event) refl (row_of id old) (row_of id new) (life id events)
+      change_by outflow id event (leaves id event) refl (subscriber_at id old) (subscriber_at id new) (life id events)
       (life id (events ++ event ∷ [])) (fits id) (grows.fits events fits id) (life_left id events event)
       (life_more id events event)
       (λ one row was is stay failed. elim (grows.stays id one was failed) [
@@ -163,10 +163,10 @@ module _ {Writer : Type 0} where
   -- an event that was taken is served
   pub serves_one : (outflow : Writer → Outflow) (old new : Relaying Writer) (number : ℕ) (event : Event Writer)
       (May : ℕ → Type 0) → TakesOne old.taker number (Some event) new.taker
-      → Grows outflow May old.rows new.rows event → ((id : ℕ) → May id → IsSubscribeOf event id)
+      → TableGrows outflow May old.rows new.rows event → ((id : ℕ) → May id → IsSubscribeOf event id)
       → new.no_room ≡ old.no_room → ServesTaken outflow old → ServesOne outflow old new
   serves_one outflow old new number event May takes grows asks room serves =
-      let widened : Grows outflow (IsSubscribeOf event) old.rows new.rows event = record {
+      let widened : TableGrows outflow (IsSubscribeOf event) old.rows new.rows event = record {
         fits = grows.fits;
         stays = grows.stays;
         starves = λ id starved. elim (grows.starves id starved) [
@@ -189,7 +189,8 @@ module _ {Writer : Type 0} where
 
   -- an event that was taken is served, by which a subscriber asks for a topic that finds no memory
   pub serves_topic : (outflow : Writer → Outflow) (old new : Relaying Writer) (number id : ℕ) (event : Event Writer)
-      → TakesOne old.taker number (Some event) new.taker → Grows outflow (λ other. other ≡ id) old.rows new.rows event
+      → TakesOne old.taker number (Some event) new.taker
+      → TableGrows outflow (λ other. other ≡ id) old.rows new.rows event
       → IsSubscribeOf event id → new.no_room ≡ old.no_room → ServesTaken outflow old
       → (serves : ServesOne outflow old new) × IsSubscribeOf serves.event id
   unfolding serves_one

@@ -12,8 +12,8 @@ use Rattle.iopub_relay.specs.declared.subscriber.Standing.{Standing}
 use Rattle.iopub_relay.specs.declared.subscriber.Standing.TheVariants.{Served as IsServed, Broken, Starved}
 use Rattle.iopub_relay.specs.declared.subscriber.Subscriber.{Subscriber}
 use Rattle.iopub_relay.specs.Life.{Life, life}
-use Rattle.iopub_relay.specs.Feed.{feed, feed_behind, Gets, IsFed, writer_of, AreAboveId, AreRisingIds}
-use Rattle.iopub_relay.specs.Rows.{row_of, AreAbove, AreRising}
+use Rattle.iopub_relay.specs.Feed.{feed, feed_behind, Gets, WriterIsFed, writer_of, AreAboveId, AreRisingIds}
+use Rattle.iopub_relay.specs.Rows.{subscriber_at, AreAbove, AreRising}
 use Rattle.iopub_relay.specs.Table.{GetsBy, BreaksOff, LivesAt, Fits, FitsMore, IsStarved, StarvesOnly}
 use Rattle.iopub_relay.proofs.LifeLemmas.{feed_on}
 
@@ -38,14 +38,14 @@ module _ {Writer : Type 0} where
   writer_by false row writer found same = same
 
   writer_is : (id : ℕ) (rows : List (Subscriber Writer))
-      → writer_of id (writers_in rows) ≡ option_map (λ row. row.writer) (row_of id rows)
+      → writer_of id (writers_in rows) ≡ option_map (λ row. row.writer) (subscriber_at id rows)
   writer_is id [] = refl
-  writer_is id (row ∷ rows) = writer_by (nat_eq id row.id) row (writer_of id (writers_in rows)) (row_of id rows)
+  writer_is id (row ∷ rows) = writer_by (nat_eq id row.id) row (writer_of id (writers_in rows)) (subscriber_at id rows)
       (writer_is id rows)
 
   -- nobody found no memory for a topic
   abbrev pub NobodyStarves : List (Subscriber Writer) → Type 0
-  NobodyStarves rows = (id : ℕ) → IsStarved (row_of id rows) → ⊥
+  NobodyStarves rows = (id : ℕ) → IsStarved (subscriber_at id rows) → ⊥
 
   -- a writer whose subscriber broke off got a beginning of its feed, and not all of it
   pub broken_off : (old new : Outflow) (id : ℕ) (events : List (Event Writer)) → BreaksOff old new id events
@@ -90,7 +90,7 @@ module _ {Writer : Type 0} where
     gets_all Broken old new id events fed gets = inr (broken_off old new id events gets)
 
     fed_at : (id : ℕ) (row : Option (Subscriber Writer)) (now : Option (Life Writer)) → (IsStarved row → ⊥)
-        → LivesAt outflow id row now → IsFed outflow id now (option_map (λ row. row.writer) row)
+        → LivesAt outflow id row now → WriterIsFed outflow id now (option_map (λ row. row.writer) row)
     fed_at id None None fed lives = tt
     fed_at id None (Some now) fed lives = absurd lives
     fed_at id (Some row) None fed lives = absurd lives
@@ -99,18 +99,19 @@ module _ {Writer : Type 0} where
 
     -- what a table that served events leaves
     pub fed_all : (events : List (Event Writer)) (rows : List (Subscriber Writer)) (id : ℕ) → Served events rows
-        → IsFed outflow id (life id events) (writer_of id (writers_in rows))
+        → WriterIsFed outflow id (life id events) (writer_of id (writers_in rows))
     fed_all events rows id served =
-        subst (λ (writer : Option Writer). IsFed outflow id (life id events) writer) (sym (writer_is id rows))
-        (fed_at id (row_of id rows) (life id events) (served.nobody id) (served.fits id))
+        subst (λ (writer : Option Writer). WriterIsFed outflow id (life id events) writer) (sym (writer_is id rows))
+        (fed_at id (subscriber_at id rows) (life id events) (served.nobody id) (served.fits id))
 
     -- the same of the answer, where there is one
     pub fed_ok : {Fault : Type 0} (result : Result (Vec (ℕ × Writer)) Fault) (events : List (Event Writer))
         (rows : List (Subscriber Writer)) → Served events rows → IfOk result (λ left. left.items ≡ writers_in rows)
-        → IfOk result (λ left. (id : ℕ) → IsFed outflow id (life id events) (writer_of id left.items))
+        → IfOk result (λ left. (id : ℕ) → WriterIsFed outflow id (life id events) (writer_of id left.items))
     fed_ok (Err fault) events rows served writers = tt
     fed_ok (Ok left) events rows served writers = λ id.
-        subst (λ (writers : List (ℕ × Writer)). IsFed outflow id (life id events) (writer_of id writers)) (sym writers)
+        subst (λ (writers : List (ℕ × Writer)). WriterIsFed outflow id (life id events) (writer_of id writers))
+        (sym writers)
         (fed_all events rows id served)
 
     -- the ids of the answer rise, where there is one

@@ -9,10 +9,10 @@ use Rattle.iopub_relay.specs.declared.subscriber.Standing.TheVariants.{Served, B
 use Rattle.iopub_relay.specs.declared.subscriber.Subscriber.{Subscriber}
 use Rattle.iopub_relay.specs.Life.{Life, life}
 use Rattle.iopub_relay.specs.Feed.{AreAboveId, AreRisingIds}
-use Rattle.iopub_relay.specs.Rows.{row_of, AreAbove, AreRising}
+use Rattle.iopub_relay.specs.Rows.{subscriber_at, AreAbove, AreRising}
 use Rattle.iopub_relay.specs.Table.{GetsBy, LivesAt}
-use Rattle.iopub_relay.specs.Relay.{Relaying, ServesTaken, has_failed, left_by, left_of, GetsMarked, IsLeft}
-use Rattle.iopub_relay.specs.Relay.{IsLeftOf}
+use Rattle.iopub_relay.specs.Relay.{Relaying, ServesTaken, has_failed, left_by, left_of, GetsMarked, SubscriberIsLeft}
+use Rattle.iopub_relay.specs.Relay.{RelayIsLeft}
 
 module _ {Writer : Type 0} where
   above_left : (id : ℕ) (rows : List (Subscriber Writer)) → AreAbove id rows
@@ -37,9 +37,9 @@ module _ {Writer : Type 0} where
   left_if false row left found same = same
 
   left_is : (id : ℕ) (rows : List (Subscriber Writer))
-      → left_of id (left_by rows) ≡ option_map left_of_row (row_of id rows)
+      → left_of id (left_by rows) ≡ option_map left_of_row (subscriber_at id rows)
   left_is id [] = refl
-  left_is id (row ∷ rows) = left_if (nat_eq id row.id) row (left_of id (left_by rows)) (row_of id rows)
+  left_is id (row ∷ rows) = left_if (nat_eq id row.id) row (left_of id (left_by rows)) (subscriber_at id rows)
       (left_is id rows)
 
   gets_marked : (standing : Standing) (old new : Outflow) (id : ℕ) (events : List (Event Writer))
@@ -50,7 +50,7 @@ module _ {Writer : Type 0} where
 
   module _ (outflow : Writer → Outflow) where
     left_at : (id : ℕ) (row : Option (Subscriber Writer)) (now : Option (Life Writer)) → LivesAt outflow id row now
-        → IsLeft outflow id now (option_map left_of_row row)
+        → SubscriberIsLeft outflow id now (option_map left_of_row row)
     left_at id None None lives = tt
     left_at id None (Some now) lives = absurd lives
     left_at id (Some row) None lives = absurd lives
@@ -59,11 +59,12 @@ module _ {Writer : Type 0} where
 
     -- what is left of a relay
     pub left_over : (relay : Relaying Writer) → ServesTaken outflow relay
-        → IsLeftOf outflow relay.taker.taken relay.no_room (left_by relay.rows)
+        → RelayIsLeft outflow relay.taker.taken relay.no_room (left_by relay.rows)
     left_over relay serves = record {
       served = serves.served;
       is_served = serves.is_served;
       rising = rising_left relay.rows serves.rising;
-      each = λ id. subst (λ (left : Option (Writer × Bool)). IsLeft outflow id (life id serves.served) left)
-          (sym (left_is id relay.rows)) (left_at id (row_of id relay.rows) (life id serves.served) (serves.fits id));
+      each = λ id. subst (λ (left : Option (Writer × Bool)). SubscriberIsLeft outflow id (life id serves.served) left)
+          (sym (left_is id relay.rows))
+          (left_at id (subscriber_at id relay.rows) (life id serves.served) (serves.fits id));
     }

@@ -6,7 +6,7 @@ use Rattle.std.specs.Bool.{⊤}
 use Rattle.std.specs.List.{insert, remove, slice_set}
 use Rattle.std.proofs.lemmas.Bool.Decides.{eqb_tells}
 use Rattle.iopub_relay.specs.declared.subscriber.Subscriber.{Subscriber}
-use Rattle.iopub_relay.specs.Rows.{row_of, AreBelow, AreAbove, AreRising}
+use Rattle.iopub_relay.specs.Rows.{subscriber_at, AreBelow, AreAbove, AreRising}
 
 -- ids that differ
 pub differ : (one other : ℕ) → (one ≡ other → ⊥) → nat_eq one other ≡ false
@@ -32,36 +32,36 @@ some_not_none {A} item same = subst (λ (found : Option A). IsThere found) same 
 
 module _ {Writer : Type 0} where
   none_below : (id : ℕ) (rows behind : List (Subscriber Writer)) → AreBelow id rows
-      → row_of id (rows ++ behind) ≡ row_of id behind
+      → subscriber_at id (rows ++ behind) ≡ subscriber_at id behind
   none_below id [] behind below = refl
   none_below id (row ∷ rows) behind below =
       let less = below.0 in
       let apart : nat_eq id row.id ≡ false = differ id row.id (λ same. omega (arith, less, same)) in
-      ap (λ (b : Bool). cond b (Some row) (row_of id (rows ++ behind))) apart ∙ none_below id rows behind below.1
+      ap (λ (b : Bool). cond b (Some row) (subscriber_at id (rows ++ behind))) apart ∙ none_below id rows behind below.1
 
-  none_above : (id : ℕ) (rows : List (Subscriber Writer)) → AreAbove id rows → row_of id rows ≡ None
+  none_above : (id : ℕ) (rows : List (Subscriber Writer)) → AreAbove id rows → subscriber_at id rows ≡ None
   none_above id [] above = refl
   none_above id (row ∷ rows) above =
       let less = above.0 in
       let apart : nat_eq id row.id ≡ false = differ id row.id (λ same. omega (arith, less, same)) in
-      ap (λ (b : Bool). cond b (Some row) (row_of id rows)) apart ∙ none_above id rows above.1
+      ap (λ (b : Bool). cond b (Some row) (subscriber_at id rows)) apart ∙ none_above id rows above.1
 
   -- a row that stands at its place is found
   pub found : (id : ℕ) (before behind : List (Subscriber Writer)) (row : Subscriber Writer) → row.id ≡ id
-      → AreBelow id before → row_of id (before ++ row ∷ behind) ≡ Some row
+      → AreBelow id before → subscriber_at id (before ++ row ∷ behind) ≡ Some row
   found id before behind row is below =
       none_below id before (row ∷ behind) below
-      ∙ ap (λ (b : Bool). cond b (Some row) (row_of id behind)) (ap (nat_eq id) is ∙ same_id id)
+      ∙ ap (λ (b : Bool). cond b (Some row) (subscriber_at id behind)) (ap (nat_eq id) is ∙ same_id id)
 
   -- no row is found where there is none
   pub missing : (id : ℕ) (before behind : List (Subscriber Writer)) → AreBelow id before → AreAbove id behind
-      → row_of id (before ++ behind) ≡ None
+      → subscriber_at id (before ++ behind) ≡ None
   missing id before behind below above = none_below id before behind below ∙ none_above id behind above
 
   -- another id finds the same, with a row or without it
   pub other_found : (id : ℕ) (before behind : List (Subscriber Writer)) (row : Subscriber Writer)
-      → nat_eq id row.id ≡ false → row_of id (before ++ row ∷ behind) ≡ row_of id (before ++ behind)
-  other_found id [] behind row apart = ap (λ (b : Bool). cond b (Some row) (row_of id behind)) apart
+      → nat_eq id row.id ≡ false → subscriber_at id (before ++ row ∷ behind) ≡ subscriber_at id (before ++ behind)
+  other_found id [] behind row apart = ap (λ (b : Bool). cond b (Some row) (subscriber_at id behind)) apart
   other_found id (first ∷ before) behind row apart =
       ap (λ (rest : Option (Subscriber Writer)). cond (nat_eq id first.id) (Some first) rest)
       (other_found id before behind row apart)

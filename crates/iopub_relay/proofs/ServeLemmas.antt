@@ -16,7 +16,7 @@ use Rattle.iopub_relay.specs.Counts.{holding_of}
 use Rattle.iopub_relay.specs.Life.{Life, leaves, comes_with, life}
 use Rattle.iopub_relay.specs.Topics.{held, held_after, matches}
 use Rattle.iopub_relay.specs.Feed.{brings, feed}
-use Rattle.iopub_relay.specs.Rows.{row_of, IsAt}
+use Rattle.iopub_relay.specs.Rows.{subscriber_at, IsAt}
 use Rattle.iopub_relay.specs.Table.{GetsBy, Lives, LivesAt, IsStarved, ServesEvent, GetsText, ReceivesBy}
 use Rattle.iopub_relay.specs.Table.{Receives, AllReceive}
 use Rattle.iopub_relay.proofs.LifeLemmas.{onward, life_more, held_more, feed_more}
@@ -147,8 +147,9 @@ module _ {Writer : Type 0} (outflow : Writer → Outflow) where
       → (stands.row.standing ≡ Served → ⊥) → IsOf outflow id event → leaves id event ≡ false
       → comes_with id event ≡ None → ServesEvent outflow rows rows event Done
   failed_still id place rows event stands failed of stays away =
-      let there : row_of id rows ≡ Some stands.row =
-      ap (row_of id) stands.split ∙ found id stands.before stands.behind stands.row stands.is stands.below in record {
+      let there : subscriber_at id rows ≡ Some stands.row =
+      ap (subscriber_at id) stands.split
+      ∙ found id stands.before stands.behind stands.row stands.is stands.below in record {
         fits = λ events fits. fits_still outflow id rows rows events event of (λ other apart. refl)
             (keeps_at outflow id rows rows events event stays
             (λ row now stood served. absurd (failed
@@ -232,14 +233,15 @@ module _ {Writer : Type 0} (outflow : Writer → Outflow) where
 
   receives_at : (id : ℕ) (frames : List (List ℕ)) (olds news : List (Subscriber Writer))
       → AllReceive outflow frames olds news
-      → ReceivesAt frames (row_of id olds) (row_of id news)
+      → ReceivesAt frames (subscriber_at id olds) (subscriber_at id news)
   receives_at id frames [] [] hear = tt
   receives_at id frames [] (new ∷ news) hear = absurd hear
   receives_at id frames (old ∷ olds) [] hear = absurd hear
   receives_at id frames (old ∷ olds) (new ∷ news) hear =
-      subst (λ (test : Bool). ReceivesAt frames (row_of id (old ∷ olds)) (cond test (Some new) (row_of id news)))
+      subst (λ (test : Bool). ReceivesAt frames (subscriber_at id (old ∷ olds))
+      (cond test (Some new) (subscriber_at id news)))
       (ap (nat_eq id) (sym (same_by old.standing (matches (holding_of old.topics) frames) frames old new hear.0)))
-      (receives_first (nat_eq id old.id) frames old new (row_of id olds) (row_of id news) hear.0
+      (receives_first (nat_eq id old.id) frames old new (subscriber_at id olds) (subscriber_at id news) hear.0
       (receives_at id frames olds news hear.1))
 
   -- a message that is for nobody, or comes to one that has failed
@@ -349,12 +351,15 @@ module _ {Writer : Type 0} (outflow : Writer → Outflow) where
   pub message_served : (frames : List (List ℕ)) (old new : List (Subscriber Writer)) → AllReceive outflow frames old new
       → ServesEvent outflow old new (Message frames) Done
   message_served frames old new hear = record {
-    fits = λ events fits id. subst (λ (now : Option (Life Writer)). LivesAt outflow id (row_of id new) now)
+    fits = λ events fits id. subst (λ (now : Option (Life Writer)). LivesAt outflow id (subscriber_at id new) now)
         (sym (life_more id events (Message frames) refl))
-        (message_at id frames (row_of id old) (row_of id new) (life id events) (receives_at id frames old new hear)
+        (message_at id frames (subscriber_at id old) (subscriber_at id new) (life id events)
+        (receives_at id frames old new hear)
         (fits id));
     stays = λ id row stands failed.
-        inl (fails_at frames (row_of id old) (row_of id new) row stands failed (receives_at id frames old new hear));
+        inl (fails_at frames (subscriber_at id old) (subscriber_at id new) row stands failed
+        (receives_at id frames old new hear));
     starves = λ id starved.
-        inl (starves_at frames (row_of id old) (row_of id new) (receives_at id frames old new hear) starved);
+        inl (starves_at frames (subscriber_at id old) (subscriber_at id new)
+        (receives_at id frames old new hear) starved);
   }

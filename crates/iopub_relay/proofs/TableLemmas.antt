@@ -19,7 +19,7 @@ use Rattle.iopub_relay.specs.Counts.{holding_of}
 use Rattle.iopub_relay.specs.Life.{Life, leaves, comes_with, life_begun, life}
 use Rattle.iopub_relay.specs.Topics.{Holding, held, held_after, beginnings, matches}
 use Rattle.iopub_relay.specs.Feed.{brings, feed}
-use Rattle.iopub_relay.specs.Rows.{row_of, IsAt, IsFree}
+use Rattle.iopub_relay.specs.Rows.{subscriber_at, IsAt, IsFree}
 use Rattle.iopub_relay.specs.Table.{GetsBy, Lives, LivesAt, Fits, FitsMore, IsStarved, StarvesOnly, LeavesFailed}
 use Rattle.iopub_relay.specs.Table.{ServesEvent}
 use Rattle.iopub_relay.proofs.LifeLemmas.{onward, life_left, life_more, held_more, feed_more}
@@ -113,16 +113,16 @@ module _ {Writer : Type 0} where
     -- where a subscriber is found as before, and it's quiet, it fits on
     pub keeps_at : (id : ℕ) (old new : List (Subscriber Writer)) (events : List (Event Writer)) (event : Event Writer)
         → leaves id event ≡ false
-        → ((row : Subscriber Writer) (now : Life Writer) → row_of id old ≡ Some row → row.standing ≡ Served
+        → ((row : Subscriber Writer) (now : Life Writer) → subscriber_at id old ≡ Some row → row.standing ≡ Served
         → Quiet id now event)
-        → (row_of id old ≡ None → comes_with id event ≡ None) → row_of id new ≡ row_of id old
-        → LivesAt outflow id (row_of id old) (life id events)
-        → LivesAt outflow id (row_of id new) (life id (events ++ event ∷ []))
+        → (subscriber_at id old ≡ None → comes_with id event ≡ None) → subscriber_at id new ≡ subscriber_at id old
+        → LivesAt outflow id (subscriber_at id old) (life id events)
+        → LivesAt outflow id (subscriber_at id new) (life id (events ++ event ∷ []))
     keeps_at id old new events event stays quiet away same lives =
         subst (λ (row : Option (Subscriber Writer)). LivesAt outflow id row (life id (events ++ event ∷ []))) (sym same)
-        (subst (λ (now : Option (Life Writer)). LivesAt outflow id (row_of id old) now)
+        (subst (λ (now : Option (Life Writer)). LivesAt outflow id (subscriber_at id old) now)
         (sym (life_more id events event stays))
-        (stays_at id (row_of id old) (life id events) event quiet away lives))
+        (stays_at id (subscriber_at id old) (life id events) event quiet away lives))
 
     -- a row that was changed at its place lives on as it is shown to
     changed_at : (id : ℕ) (row new : Option (Subscriber Writer)) (now : Option (Life Writer))
@@ -144,13 +144,13 @@ module _ {Writer : Type 0} where
     -- a table that is as it was fits on, where the subscriber that the event is of does
     pub fits_still : (id : ℕ) (old new : List (Subscriber Writer)) (events : List (Event Writer)) (event : Event Writer)
         → IsOf id event
-        → ((other : ℕ) → nat_eq other id ≡ false → row_of other new ≡ row_of other old)
-        → (LivesAt outflow id (row_of id old) (life id events)
-        → LivesAt outflow id (row_of id new) (life id (events ++ event ∷ [])))
+        → ((other : ℕ) → nat_eq other id ≡ false → subscriber_at other new ≡ subscriber_at other old)
+        → (LivesAt outflow id (subscriber_at id old) (life id events)
+        → LivesAt outflow id (subscriber_at id new) (life id (events ++ event ∷ [])))
         → Fits outflow old events → Fits outflow new (events ++ event ∷ [])
     fits_still id old new events event of same here fits other = elim (eqb_tells other id) [
       | inl (test, is) ↦
-          subst (λ (one : ℕ). LivesAt outflow one (row_of one new) (life one (events ++ event ∷ []))) (sym is)
+          subst (λ (one : ℕ). LivesAt outflow one (subscriber_at one new) (life one (events ++ event ∷ []))) (sym is)
           (here (fits id))
       | inr (test, apart) ↦
           keeps_at other old new events event (of.stays other test) (λ row now stood served. of.quiet other now test)
@@ -206,8 +206,8 @@ module _ {Writer : Type 0} where
         → leaves id event ≡ false → comes_with id event ≡ None → IsFree id place rows
         → FitsMore outflow rows rows event
     absent_still id place rows event of stays away free events fits =
-        let none : row_of id rows ≡ None =
-        ap (row_of id) free.split ∙ missing id free.before free.behind free.below free.above in
+        let none : subscriber_at id rows ≡ None =
+        ap (subscriber_at id) free.split ∙ missing id free.before free.behind free.below free.above in
         fits_still id rows rows events event of (λ other apart. refl)
         (keeps_at id rows rows events event stays
         (λ row now stood served. absurd (some_not_none row (sym stood ∙ none))) (λ gone. away) refl) fits
@@ -225,8 +225,8 @@ module _ {Writer : Type 0} where
         → ServesEvent outflow rows rows (Attach id writer) Done
     attach_there id place rows writer stands = record {
       fits = λ events fits.
-          let there : row_of id rows ≡ Some stands.row =
-          ap (row_of id) stands.split ∙ found id stands.before stands.behind stands.row stands.is stands.below in
+          let there : subscriber_at id rows ≡ Some stands.row =
+          ap (subscriber_at id) stands.split ∙ found id stands.before stands.behind stands.row stands.is stands.below in
           fits_still id rows rows events (Attach id writer) (attach_is_of id writer) (λ other apart. refl)
           (keeps_at id rows rows events (Attach id writer) refl
           (λ row now stood served. record { nothing = refl; keeps = λ topic count. refl })
@@ -236,9 +236,9 @@ module _ {Writer : Type 0} where
     }
 
     -- a subscriber for which there was no room wasn't there
-    pub no_room : (id place : ℕ) (rows : List (Subscriber Writer)) → IsFree id place rows → row_of id rows ≡ None
+    pub no_room : (id place : ℕ) (rows : List (Subscriber Writer)) → IsFree id place rows → subscriber_at id rows ≡ None
     no_room id place rows free =
-        ap (row_of id) free.split ∙ missing id free.before free.behind free.below free.above
+        ap (subscriber_at id) free.split ∙ missing id free.before free.behind free.below free.above
 
     begins : (id : ℕ) (row : Subscriber Writer) (before after : Option (Subscriber Writer)) (now : Option (Life Writer))
         → before ≡ None → after ≡ Some row → (holding : (topic : List ℕ) → holding_of row.topics topic ≡ 0)
@@ -263,27 +263,28 @@ module _ {Writer : Type 0} where
         → ((topic : List ℕ) → holding_of row.topics topic ≡ 0)
         → ServesEvent outflow rows new (Attach id row.writer) Done
     attach_new id place rows new row free is_new is served holding =
-        let here : row_of id new ≡ Some row =
-        ap (row_of id) is_new ∙ found id free.before free.behind row is free.below in
-        let none : row_of id rows ≡ None =
-        ap (row_of id) free.split ∙ missing id free.before free.behind free.below free.above in
-        let same : (other : ℕ) → nat_eq other id ≡ false → row_of other new ≡ row_of other rows =
-        λ other apart. ap (row_of other) is_new
+        let here : subscriber_at id new ≡ Some row =
+        ap (subscriber_at id) is_new ∙ found id free.before free.behind row is free.below in
+        let none : subscriber_at id rows ≡ None =
+        ap (subscriber_at id) free.split ∙ missing id free.before free.behind free.below free.above in
+        let same : (other : ℕ) → nat_eq other id ≡ false → subscriber_at other new ≡ subscriber_at other rows =
+        λ other apart. ap (subscriber_at other) is_new
         ∙ other_found other free.before free.behind row (ap (nat_eq other) is ∙ apart)
-        ∙ sym (ap (row_of other) free.split) in record {
+        ∙ sym (ap (subscriber_at other) free.split) in record {
           fits = λ events fits. fits_still id rows new events (Attach id row.writer) (attach_is_of id row.writer) same
-              (λ lives. subst (λ (now : Option (Life Writer)). LivesAt outflow id (row_of id new) now)
+              (λ lives. subst (λ (now : Option (Life Writer)). LivesAt outflow id (subscriber_at id new) now)
               (sym (life_more id events (Attach id row.writer) refl))
-              (begins id row (row_of id rows) (row_of id new) (life id events) none here holding served lives)) fits;
+              (begins id row (subscriber_at id rows) (subscriber_at id new)
+              (life id events) none here holding served lives)) fits;
           stays = λ other failing stands failed. elim (eqb_tells other id) [
             | inl (test, this) ↦ absurd (some_not_none failing
-                (sym stands ∙ ap (λ (one : ℕ). row_of one rows) this ∙ none))
+                (sym stands ∙ ap (λ (one : ℕ). subscriber_at one rows) this ∙ none))
             | inr (test, apart) ↦ inl (same other test ∙ stands)
           ];
           starves = λ other starved. elim (eqb_tells other id) [
             | inl (test, this) ↦ absurd (served_not_starved (sym served
                 ∙ subst (λ (found : Option (Subscriber Writer)). IsStarved found) here
-                (subst (λ (one : ℕ). IsStarved (row_of one new)) this starved)))
+                (subst (λ (one : ℕ). IsStarved (subscriber_at one new)) this starved)))
             | inr (test, apart) ↦
                 inl (subst (λ (found : Option (Subscriber Writer)). IsStarved found) (same other test) starved)
           ];
@@ -322,10 +323,10 @@ module _ {Writer : Type 0} where
     pub detach_absent : (id place : ℕ) (rows : List (Subscriber Writer)) → IsFree id place rows
         → ServesEvent outflow rows rows (Detach id) Done
     detach_absent id place rows free =
-        let none : row_of id rows ≡ None =
-        ap (row_of id) free.split ∙ missing id free.before free.behind free.below free.above in record {
+        let none : subscriber_at id rows ≡ None =
+        ap (subscriber_at id) free.split ∙ missing id free.before free.behind free.below free.above in record {
           fits = λ events fits. fits_still id rows rows events (Detach id) (detach_is_of id) (λ other apart. refl)
-              (λ lives. subst (λ (now : Option (Life Writer)). LivesAt outflow id (row_of id rows) now)
+              (λ lives. subst (λ (now : Option (Life Writer)). LivesAt outflow id (subscriber_at id rows) now)
               (sym (life_left id events (Detach id) (same_id id)))
               (subst (λ (row : Option (Subscriber Writer)). LivesAt outflow id row None) (sym none) tt)) fits;
           stays = stays_failed rows (Detach id);
@@ -336,14 +337,14 @@ module _ {Writer : Type 0} where
     pub detach_there : (id place : ℕ) (rows new : List (Subscriber Writer)) (stands : IsAt id place rows)
         → new ≡ stands.before ++ stands.behind → ServesEvent outflow rows new (Detach id) Done
     detach_there id place rows new stands is_new =
-        let none : row_of id new ≡ None =
-        ap (row_of id) is_new ∙ missing id stands.before stands.behind stands.below stands.above in
-        let same : (other : ℕ) → nat_eq other id ≡ false → row_of other new ≡ row_of other rows =
-        λ other apart. ap (row_of other) is_new
+        let none : subscriber_at id new ≡ None =
+        ap (subscriber_at id) is_new ∙ missing id stands.before stands.behind stands.below stands.above in
+        let same : (other : ℕ) → nat_eq other id ≡ false → subscriber_at other new ≡ subscriber_at other rows =
+        λ other apart. ap (subscriber_at other) is_new
         ∙ sym (other_found other stands.before stands.behind stands.row (ap (nat_eq other) stands.is ∙ apart))
-        ∙ sym (ap (row_of other) stands.split) in record {
+        ∙ sym (ap (subscriber_at other) stands.split) in record {
           fits = λ events fits. fits_still id rows new events (Detach id) (detach_is_of id) same
-              (λ lives. subst (λ (now : Option (Life Writer)). LivesAt outflow id (row_of id new) now)
+              (λ lives. subst (λ (now : Option (Life Writer)). LivesAt outflow id (subscriber_at id new) now)
               (sym (life_left id events (Detach id) (same_id id)))
               (subst (λ (row : Option (Subscriber Writer)). LivesAt outflow id row None) (sym none) tt)) fits;
           stays = λ other failing stood failed. elim (eqb_tells other id) [
@@ -352,7 +353,7 @@ module _ {Writer : Type 0} where
           ];
           starves = λ other starved. elim (eqb_tells other id) [
             | inl (test, this) ↦ absurd (subst (λ (found : Option (Subscriber Writer)). IsStarved found) none
-                (subst (λ (one : ℕ). IsStarved (row_of one new)) this starved))
+                (subst (λ (one : ℕ). IsStarved (subscriber_at one new)) this starved))
             | inr (test, apart) ↦
                 inl (subst (λ (found : Option (Subscriber Writer)). IsStarved found) (same other test) starved)
           ];
@@ -364,22 +365,23 @@ module _ {Writer : Type 0} where
         → leaves id event ≡ false
         → ((lived : Life Writer) → Lives outflow id stands.row lived → Lives outflow id one (grown lived event))
         → FitsMore outflow rows new event
-        × ((other : ℕ) → nat_eq other id ≡ false → row_of other new ≡ row_of other rows)
-        × (row_of id rows ≡ Some stands.row) × (row_of id new ≡ Some one)
+        × ((other : ℕ) → nat_eq other id ≡ false → subscriber_at other new ≡ subscriber_at other rows)
+        × (subscriber_at id rows ≡ Some stands.row) × (subscriber_at id new ≡ Some one)
     changed id place rows new one event stands is_new is of stays on =
-        let before : row_of id rows ≡ Some stands.row =
-        ap (row_of id) stands.split ∙ found id stands.before stands.behind stands.row stands.is stands.below in
-        let after : row_of id new ≡ Some one =
-        ap (row_of id) is_new ∙ found id stands.before stands.behind one is stands.below in
-        let same : (other : ℕ) → nat_eq other id ≡ false → row_of other new ≡ row_of other rows =
-        λ other apart. ap (row_of other) is_new
+        let before : subscriber_at id rows ≡ Some stands.row =
+        ap (subscriber_at id) stands.split ∙ found id stands.before stands.behind stands.row stands.is stands.below in
+        let after : subscriber_at id new ≡ Some one =
+        ap (subscriber_at id) is_new ∙ found id stands.before stands.behind one is stands.below in
+        let same : (other : ℕ) → nat_eq other id ≡ false → subscriber_at other new ≡ subscriber_at other rows =
+        λ other apart. ap (subscriber_at other) is_new
         ∙ other_found other stands.before stands.behind one (ap (nat_eq other) is ∙ apart)
         ∙ sym (other_found other stands.before stands.behind stands.row (ap (nat_eq other) stands.is ∙ apart))
-        ∙ sym (ap (row_of other) stands.split) in (
+        ∙ sym (ap (subscriber_at other) stands.split) in (
           λ events fits. fits_still id rows new events event of same
-              (λ lives. subst (λ (now : Option (Life Writer)). LivesAt outflow id (row_of id new) now)
+              (λ lives. subst (λ (now : Option (Life Writer)). LivesAt outflow id (subscriber_at id new) now)
               (sym (life_more id events event stays))
-              (changed_at id (row_of id rows) (row_of id new) (life id events) stands.row one event before after on
+              (changed_at id (subscriber_at id rows) (subscriber_at id new)
+              (life id events) stands.row one event before after on
               lives))
               fits,
           same,
@@ -389,13 +391,13 @@ module _ {Writer : Type 0} where
 
     -- the same where it stands as it did: nobody is starved
     pub starves_by : (May : ℕ → Type 0) (id : ℕ) (rows new : List (Subscriber Writer)) (old one : Subscriber Writer)
-        → ((other : ℕ) → nat_eq other id ≡ false → row_of other new ≡ row_of other rows)
-        → row_of id rows ≡ Some old → row_of id new ≡ Some one
+        → ((other : ℕ) → nat_eq other id ≡ false → subscriber_at other new ≡ subscriber_at other rows)
+        → subscriber_at id rows ≡ Some old → subscriber_at id new ≡ Some one
         → (one.standing ≡ Starved → (old.standing ≡ Starved) ⊎ May id) → StarvesOnly May rows new
     starves_by May id rows new old one others before after here other starved = elim (eqb_tells other id) [
       | inl (test, this) ↦ elim (here (subst (λ (found : Option (Subscriber Writer)). IsStarved found) after
-          (subst (λ (one : ℕ). IsStarved (row_of one new)) this starved))) [
-            | inl was ↦ inl (subst (λ (one : ℕ). IsStarved (row_of one rows)) (sym this)
+          (subst (λ (one : ℕ). IsStarved (subscriber_at one new)) this starved))) [
+            | inl was ↦ inl (subst (λ (one : ℕ). IsStarved (subscriber_at one rows)) (sym this)
                 (subst (λ (found : Option (Subscriber Writer)). IsStarved found) (sym before) was))
             | inr may ↦ inr (subst May (sym this) may)
           ]
@@ -405,10 +407,10 @@ module _ {Writer : Type 0} where
 
     -- where a subscriber that is served is changed, those that have failed stay as they are
     pub stays_by : (id : ℕ) (rows new : List (Subscriber Writer)) (old : Subscriber Writer) (event : Event Writer)
-        → ((other : ℕ) → nat_eq other id ≡ false → row_of other new ≡ row_of other rows)
-        → row_of id rows ≡ Some old → old.standing ≡ Served → LeavesFailed rows new event
+        → ((other : ℕ) → nat_eq other id ≡ false → subscriber_at other new ≡ subscriber_at other rows)
+        → subscriber_at id rows ≡ Some old → old.standing ≡ Served → LeavesFailed rows new event
     stays_by id rows new old event others before served other row stands failed = elim (eqb_tells other id) [
       | inl (test, this) ↦ absurd (failed (ap (λ (found : Option (Subscriber Writer)). (unwrap_or found row).standing)
-          (sym stands ∙ ap (λ (one : ℕ). row_of one rows) this ∙ before) ∙ served))
+          (sym stands ∙ ap (λ (one : ℕ). subscriber_at one rows) this ∙ before) ∙ served))
       | inr (test, apart) ↦ inl (others other test ∙ stands)
     ]

@@ -4,16 +4,16 @@ use Rattle.std.proofs.Common.{◌≡◌, inl, inr, ℕ, suc, min, List, [], ◌�
 use Rattle.std.proofs.Common.{arith}
 use Rattle.std.proofs.lemmas.List.{append-nil}
 use Rattle.zmtp_wire.specs.Device.{Outflow, greatest_count, risen}
-use Rattle.iopub_queue.specs.Entries.{Entry, of}
+use Rattle.iopub_queue.specs.Entries.{Entry, part_of}
 use Rattle.iopub_queue.proofs.Parts.{of_append, of_other}
 use Rattle.iopub_queue.specs.Values.{Taking}
 use Rattle.iopub_queue.specs.Calls.{TakesOne}
 use Rattle.iopub_event.specs.declared.event.Event.{Event}
 use Rattle.iopub_event.specs.declared.event.Event.TheVariants.{Attach}
 use Rattle.iopub_relay.specs.declared.subscriber.Subscriber.{Subscriber}
-use Rattle.iopub_relay.specs.Rows.{row_of, AreRising}
+use Rattle.iopub_relay.specs.Rows.{subscriber_at, AreRising}
 use Rattle.iopub_relay.specs.Table.{Fits, FitsMore}
-use Rattle.iopub_relay.specs.Relay.{Relaying, items_in, IsAttach, IsWithout, IsServed}
+use Rattle.iopub_relay.specs.Relay.{Relaying, items_in, IsAttach, IsWithout, EntriesAreServed}
 use Rattle.iopub_relay.specs.Relay.{AreOfNumbers, ServesTaken, LacksRoom}
 
 counted_more : (lost : ℕ) → risen (min lost greatest_count) ≡ min (suc lost) greatest_count
@@ -53,16 +53,16 @@ module _ {Writer : Type 0} where
   numbers_more old new number part takes of_numbers other above =
       let same : new.count ≡ old.count = ap (λ (taker : Taking (Event Writer)). taker.count) takes.added in
       let known = takes.known in
-      ap (λ (taker : Taking (Event Writer)). of other taker.taken) takes.added
+      ap (λ (taker : Taking (Event Writer)). part_of other taker.taken) takes.added
       ∙ of_append other old.taken ((number, part) ∷ [])
-      ∙ ap (λ (front : List (Option (Event Writer))). front ++ of other ((number, part) ∷ []))
+      ∙ ap (λ (front : List (Option (Event Writer))). front ++ part_of other ((number, part) ∷ []))
       (of_numbers other (omega (arith, same, above)))
       ∙ of_other other number part [] (λ is. omega (arith, same, known, above, is))
 
   -- what was served, with one more event
   served_more : (old new : Taking (Event Writer)) (number no_room : ℕ) (event : Event Writer)
-      (served : List (Event Writer)) → TakesOne old number (Some event) new → IsServed old.taken no_room served
-      → IsServed new.taken no_room (served ++ event ∷ [])
+      (served : List (Event Writer)) → TakesOne old number (Some event) new → EntriesAreServed old.taken no_room served
+      → EntriesAreServed new.taken no_room (served ++ event ∷ [])
   served_more old new number no_room event served takes is = record {
     turned_away = is.turned_away;
     without = subst (λ (events : List (Event Writer)). IsWithout events (served ++ event ∷ []) is.turned_away)
@@ -74,7 +74,8 @@ module _ {Writer : Type 0} where
 
   -- with a close
   served_close : (old new : Taking (Event Writer)) (number no_room : ℕ) (served : List (Event Writer))
-      → TakesOne old number None new → IsServed old.taken no_room served → IsServed new.taken no_room served
+      → TakesOne old number None new → EntriesAreServed old.taken no_room served
+      → EntriesAreServed new.taken no_room served
   served_close old new number no_room served takes is = record {
     turned_away = is.turned_away;
     without = subst (λ (events : List (Event Writer)). IsWithout events served is.turned_away)
@@ -86,7 +87,7 @@ module _ {Writer : Type 0} where
   -- with a newcomer for which there was no room
   served_lacking : (old new : Taking (Event Writer)) (number no_room id : ℕ) (writer : Writer)
       (served : List (Event Writer)) → TakesOne old number (Some (Attach id writer)) new
-      → IsServed old.taken no_room served → IsServed new.taken (risen no_room) served
+      → EntriesAreServed old.taken no_room served → EntriesAreServed new.taken (risen no_room) served
   served_lacking old new number no_room id writer served takes is = record {
     turned_away = suc is.turned_away;
     without = subst (λ (events : List (Event Writer)). IsWithout events served (suc is.turned_away))
@@ -101,9 +102,9 @@ module _ {Writer : Type 0} where
     pub serves_none : (taker : Taking (Event Writer)) → taker.taken ≡ []
         → ServesTaken outflow record { taker = taker; rows = []; no_room = 0 }
     serves_none taker nothing = record {
-      numbers = λ number above. ap (of number) nothing;
+      numbers = λ number above. ap (part_of number) nothing;
       served = [];
-      is_served = subst (λ (taken : List (Entry (Event Writer))). IsServed taken 0 []) (sym nothing)
+      is_served = subst (λ (taken : List (Entry (Event Writer))). EntriesAreServed taken 0 []) (sym nothing)
           (record { turned_away = 0; without = (refl, refl); counted = refl });
       rising = tt;
       fits = λ id. tt;
@@ -116,7 +117,7 @@ module _ {Writer : Type 0} where
     serves_more old new number event takes grows rising room serves = record {
       numbers = numbers_more old.taker new.taker number (Some event) takes serves.numbers;
       served = serves.served ++ event ∷ [];
-      is_served = subst (λ (n : ℕ). IsServed new.taker.taken n (serves.served ++ event ∷ [])) (sym room)
+      is_served = subst (λ (n : ℕ). EntriesAreServed new.taker.taken n (serves.served ++ event ∷ [])) (sym room)
           (served_more old.taker new.taker number old.no_room event serves.served takes serves.is_served);
       rising = rising;
       fits = grows serves.served serves.fits;
@@ -130,7 +131,7 @@ module _ {Writer : Type 0} where
         let room = ap (λ (relay : Relaying Writer). relay.no_room) same in record {
           numbers = numbers_more old.taker new.taker number None takes serves.numbers;
           served = serves.served;
-          is_served = subst (λ (n : ℕ). IsServed new.taker.taken n serves.served) (sym room)
+          is_served = subst (λ (n : ℕ). EntriesAreServed new.taker.taken n serves.served) (sym room)
               (served_close old.taker new.taker number old.no_room serves.served takes serves.is_served);
           rising = subst (λ (rows : List (Subscriber Writer)). AreRising rows) (sym rows) serves.rising;
           fits = subst (λ (rows : List (Subscriber Writer)). Fits outflow rows serves.served) (sym rows) serves.fits;
@@ -143,7 +144,7 @@ module _ {Writer : Type 0} where
       numbers = numbers_more old.taker new.taker lacks.number (Some (Attach id lacks.writer)) lacks.takes
           serves.numbers;
       served = serves.served;
-      is_served = subst (λ (n : ℕ). IsServed new.taker.taken n serves.served) (sym lacks.no_room)
+      is_served = subst (λ (n : ℕ). EntriesAreServed new.taker.taken n serves.served) (sym lacks.no_room)
           (served_lacking old.taker new.taker lacks.number old.no_room id lacks.writer serves.served lacks.takes
           serves.is_served);
       rising = subst (λ (rows : List (Subscriber Writer)). AreRising rows) (sym lacks.rows) serves.rising;
@@ -153,7 +154,7 @@ module _ {Writer : Type 0} where
   -- a relay that took a newcomer for which there was no room
   pub lacks_room : (id number : ℕ) (event : Event Writer) (old new : Relaying Writer)
       → TakesOne old.taker number (Some event) new.taker → (writer : Writer) × (event ≡ Attach id writer)
-      → row_of id old.rows ≡ None → new.rows ≡ old.rows → new.no_room ≡ risen old.no_room → LacksRoom id old new
+      → subscriber_at id old.rows ≡ None → new.rows ≡ old.rows → new.no_room ≡ risen old.no_room → LacksRoom id old new
   lacks_room id number event old new takes came absent rows room = record {
     number = number;
     writer = came.0;

@@ -17,5 +17,5 @@ asks_for id None None None = None
 
 -- The event that a subscriber's traffic is: it subscribes to a topic or gives one up, or it asks for a PONG. Other
 -- traffic is no event.
-abbrev pub event_of : {Writer : Type 0} → ℕ → Traffic → Option (Event Writer)
-event_of id traffic = asks_for id (subscribed_topic traffic) (cancelled_topic traffic) (ping_context traffic)
+abbrev pub event_of_traffic : {Writer : Type 0} → ℕ → Traffic → Option (Event Writer)
+event_of_traffic id traffic = asks_for id (subscribed_topic traffic) (cancelled_topic traffic) (ping_context traffic)

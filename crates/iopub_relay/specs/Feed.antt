@@ -52,8 +52,8 @@ AreRisingIds ((id, writer) ∷ writers) = AreAboveId id writers × AreRisingIds 
 
 -- A subscriber that is there has a writer, and one that isn't there has none. Since the subscriber came its writer got
 -- its feed, or a beginning of that before one write failed or took nothing.
-abbrev pub IsFed : {Writer : Type 0} → (Writer → Outflow) → ℕ → Option (Life Writer) → Option Writer → Type 0
-IsFed outflow id None None = ⊤
-IsFed outflow id None (Some writer) = ⊥
-IsFed outflow id (Some life) None = ⊥
-IsFed outflow id (Some life) (Some writer) = Gets (outflow life.writer) (outflow writer) (feed id life.events)
+abbrev pub WriterIsFed : {Writer : Type 0} → (Writer → Outflow) → ℕ → Option (Life Writer) → Option Writer → Type 0
+WriterIsFed outflow id None None = ⊤
+WriterIsFed outflow id None (Some writer) = ⊥
+WriterIsFed outflow id (Some life) None = ⊥
+WriterIsFed outflow id (Some life) (Some writer) = Gets (outflow life.writer) (outflow writer) (feed id life.events)

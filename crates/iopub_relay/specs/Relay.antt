@@ -3,7 +3,7 @@ use Rattle.std.specs.Prelude.{◌≡◌, ◌⊎◌, ⊤, ℕ, zero, suc, ◌<◌
 use Rattle.std.specs.Prelude.{◌≤◌, Option, Some, None, nat_eq, if◌then◌else◌}
 use Rattle.std.specs.List.{AllByRecursion}
 use Rattle.zmtp_wire.specs.Device.{Outflow, Puts, greatest_count, risen}
-use Rattle.iopub_queue.specs.Entries.{Entry, StartsWith, of, EndsWithClose, IsComplete}
+use Rattle.iopub_queue.specs.Entries.{Entry, StartsWith, part_of, EndsWithClose, IsComplete}
 use Rattle.iopub_queue.specs.Values.{Publishing, Taking}
 use Rattle.iopub_queue.specs.Calls.{TakesOne, FindsNothing, Settles}
 use Rattle.iopub_queue.specs.declared.taken.Settled.{Settled}
@@ -18,7 +18,7 @@ use Rattle.iopub_relay.specs.declared.subscriber.Standing.TheVariants.{Served, B
 use Rattle.iopub_relay.specs.declared.subscriber.Subscriber.{Subscriber}
 use Rattle.iopub_relay.specs.Life.{Life, life}
 use Rattle.iopub_relay.specs.Feed.{feed, AreRisingIds}
-use Rattle.iopub_relay.specs.Rows.{row_of, AreRising}
+use Rattle.iopub_relay.specs.Rows.{subscriber_at, AreRising}
 use Rattle.iopub_relay.specs.Table.{BreaksOff, Fits, FitsMore, GoesWithout, IsStarved, StarvesOnly}
 
 -- What contracts see of a relay: its taker, its subscribers by rising ids, and how often there was no room for one.
@@ -51,7 +51,8 @@ IsWithout {Writer} (event ∷ events) served turned_away =
 
 -- What was served of entries that were taken: their items, but no newcomer for which there was no room. These newcomers
 -- were counted, up to the greatest count.
-pub record IsServed {Writer : Type 0} (taken : List (Entry (Event Writer))) (no_room : ℕ) (served : List (Event Writer))
+pub record EntriesAreServed {Writer : Type 0} (taken : List (Entry (Event Writer))) (no_room : ℕ)
+    (served : List (Event Writer))
     : Type 0 where
   pub turned_away : ℕ
   pub without : IsWithout (items_in taken) served turned_away
@@ -59,14 +60,14 @@ pub record IsServed {Writer : Type 0} (taken : List (Entry (Event Writer))) (no_
 
 -- the numbers of all entries are below this one
 abbrev pub AreOfNumbers : {T : Type 0} → ℕ → List (Entry T) → Type 0
-AreOfNumbers count entries = (number : ℕ) → count ≤ number → of number entries ≡ []
+AreOfNumbers count entries = (number : ℕ) → count ≤ number → part_of number entries ≡ []
 
 -- What a relay keeps. What its taker took has numbers of the queue's publishers alone. The relay served that. Its
 -- subscribers stand by rising ids and fit what was served.
 pub record ServesTaken {Writer : Type 0} (outflow : Writer → Outflow) (relay : Relaying Writer) : Type 0 where
   pub numbers : AreOfNumbers relay.taker.count relay.taker.taken
   pub served : List (Event Writer)
-  pub is_served : IsServed relay.taker.taken relay.no_room served
+  pub is_served : EntriesAreServed relay.taker.taken relay.no_room served
   pub rising : AreRising relay.rows
   pub fits : Fits outflow relay.rows served
 
@@ -103,7 +104,7 @@ ChangesAt outflow id event (Some old) (Some new) = ChangesBy old.standing new.st
 -- how an event changes each subscriber
 abbrev pub Changes : {Writer : Type 0} → (Writer → Outflow) → Event Writer → List (Subscriber Writer)
     → List (Subscriber Writer) → Type 0
-Changes outflow event old new = (id : ℕ) → ChangesAt outflow id event (row_of id old) (row_of id new)
+Changes outflow event old new = (id : ℕ) → ChangesAt outflow id event (subscriber_at id old) (subscriber_at id new)
 
 -- A relay took an event and served it. Whatever events its subscribers fitted before, they fit those and this one. Each
 -- subscriber changed as the event demands.
@@ -120,7 +121,7 @@ pub record LacksRoom {Writer : Type 0} (id : ℕ) (old new : Relaying Writer) : 
   pub number : ℕ
   pub writer : Writer
   pub takes : TakesOne old.taker number (Some (Attach id writer)) new.taker
-  pub absent : row_of id old.rows ≡ None
+  pub absent : subscriber_at id old.rows ≡ None
   pub rows : new.rows ≡ old.rows
   pub no_room : new.no_room ≡ risen old.no_room
 
@@ -133,7 +134,7 @@ Pumps outflow old pumped.Empty new = FindsNothing old.taker new.taker × (new �
 Pumps outflow old pumped.Complete new = (new ≡ old) × IsComplete old.taker.count old.taker.taken
 Pumps outflow old (pumped.NoTopic id) new =
     (serves : ServesOne outflow old new) × IsSubscribeOf serves.event id
-    × StarvesOnly (λ other. other ≡ id) old.rows new.rows × IsStarved (row_of id new.rows)
+    × StarvesOnly (λ other. other ≡ id) old.rows new.rows × IsStarved (subscriber_at id new.rows)
 Pumps outflow old (pumped.NoRoom id) new = LacksRoom id old new
 
 -- a pump took an entry
@@ -172,7 +173,7 @@ Meets taker closed = (answer : Settled) × Settles taker closed answer
 
 -- the close of each of these publishers was taken
 abbrev pub AreWhole : {T : Type 0} → Taking T → List (Publishing T) → Type 0
-AreWhole taker tokens = AllByRecursion (λ closed. EndsWithClose (of closed.number taker.taken)) tokens
+AreWhole taker tokens = AllByRecursion (λ closed. EndsWithClose (part_of closed.number taker.taken)) tokens
 
 -- whether a subscriber has failed
 abbrev pub has_failed : Standing → Bool
@@ -203,21 +204,23 @@ GetsMarked true old new id events = BreaksOff old new id events ⊎ GoesWithout 
 
 -- A subscriber that is there is left, and one that isn't there is not. Since it came its writer got of its feed what
 -- was due to it (`GetsMarked`).
-abbrev pub IsLeft : {Writer : Type 0} → (Writer → Outflow) → ℕ → Option (Life Writer) → Option (Writer × Bool) → Type 0
-IsLeft outflow id None None = ⊤
-IsLeft outflow id None (Some left) = ⊥
-IsLeft outflow id (Some life) None = ⊥
-IsLeft outflow id (Some life) (Some (writer, failed)) =
+abbrev pub SubscriberIsLeft : {Writer : Type 0} → (Writer → Outflow) → ℕ → Option (Life Writer)
+    → Option (Writer × Bool) → Type 0
+SubscriberIsLeft outflow id None None = ⊤
+SubscriberIsLeft outflow id None (Some left) = ⊥
+SubscriberIsLeft outflow id (Some life) None = ⊥
+SubscriberIsLeft outflow id (Some life) (Some (writer, failed)) =
     GetsMarked failed (outflow life.writer) (outflow writer) id life.events
 
 -- What is left of a relay that took these entries: the subscribers that are there after what was served of them, by
 -- rising ids. Each writer got what was due to it.
-pub record IsLeftOf {Writer : Type 0} (outflow : Writer → Outflow) (taken : List (Entry (Event Writer))) (no_room : ℕ)
+pub record RelayIsLeft {Writer : Type 0} (outflow : Writer → Outflow) (taken : List (Entry (Event Writer)))
+    (no_room : ℕ)
     (left : List (ℕ × Writer × Bool)) : Type 0 where
   pub served : List (Event Writer)
-  pub is_served : IsServed taken no_room served
+  pub is_served : EntriesAreServed taken no_room served
   pub rising : AreRisingIds (map (λ entry. (entry.0, entry.1)) left)
-  pub each : (id : ℕ) → IsLeft outflow id (life id served) (left_of id left)
+  pub each : (id : ℕ) → SubscriberIsLeft outflow id (life id served) (left_of id left)
 
 -- one of the tokens has this number
 abbrev pub HasNumber : {T : Type 0} → ℕ → List (Publishing T) → Type 0
@@ -239,5 +242,5 @@ EndsAll true taker = IsComplete taker.count taker.taken
 EndsAll false taker = StartsWith taker.taken taker.told × (¬ IsComplete taker.count taker.taken)
 
 -- all that a token was told of was told here too, and all that its number published is in that
-abbrev pub IsTold : {T : Type 0} → List (Entry T) → Publishing T → Type 0
-IsTold told closed = StartsWith told closed.told × (of closed.number closed.told ≡ closed.published)
+abbrev pub TokenIsTold : {T : Type 0} → List (Entry T) → Publishing T → Type 0
+TokenIsTold told closed = StartsWith told closed.told × (part_of closed.number closed.told ≡ closed.published)

@@ -4,8 +4,8 @@ use Rattle.std.specs.List.{AllByRecursion}
 use Rattle.iopub_relay.specs.declared.subscriber.Subscriber.{Subscriber}
 
 -- the subscriber of this id in a table
-abbrev pub row_of : {Writer : Type 0} → ℕ → List (Subscriber Writer) → Option (Subscriber Writer)
-row_of id rows = find (λ row. nat_eq id row.id) rows
+abbrev pub subscriber_at : {Writer : Type 0} → ℕ → List (Subscriber Writer) → Option (Subscriber Writer)
+subscriber_at id rows = find (λ row. nat_eq id row.id) rows
 
 -- each id is below this one
 abbrev pub AreBelow : {Writer : Type 0} → ℕ → List (Subscriber Writer) → Type 0

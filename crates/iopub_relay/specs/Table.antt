@@ -14,7 +14,7 @@ use Rattle.iopub_relay.specs.Counts.{holding_of}
 use Rattle.iopub_relay.specs.Life.{Life, life}
 use Rattle.iopub_relay.specs.Topics.{held, matches}
 use Rattle.iopub_relay.specs.Feed.{brings, feed}
-use Rattle.iopub_relay.specs.Rows.{row_of}
+use Rattle.iopub_relay.specs.Rows.{subscriber_at}
 
 -- A write of what an event brings failed or took nothing. The writer got the feed up to that event, and a beginning of
 -- what the event brings.
@@ -104,7 +104,7 @@ LivesAt outflow id (Some row) (Some now) = Lives outflow id row now
 
 -- a table fits events: it has the subscribers that are there after them, and each got what is due to it
 abbrev pub Fits : {Writer : Type 0} → (Writer → Outflow) → List (Subscriber Writer) → List (Event Writer) → Type 0
-Fits outflow rows events = (id : ℕ) → LivesAt outflow id (row_of id rows) (life id events)
+Fits outflow rows events = (id : ℕ) → LivesAt outflow id (subscriber_at id rows) (life id events)
 
 -- a table that fitted events fits them with one more
 abbrev pub FitsMore : {Writer : Type 0} → (Writer → Outflow) → List (Subscriber Writer) → List (Subscriber Writer)
@@ -120,18 +120,19 @@ IsStarved (Some row) = row.standing ≡ Starved
 -- A subscriber that found no memory for a topic found none before either, or is one of these.
 abbrev pub StarvesOnly : {Writer : Type 0} → (ℕ → Type 0) → List (Subscriber Writer) → List (Subscriber Writer)
     → Type 0
-StarvesOnly May old new = (id : ℕ) → IsStarved (row_of id new) → IsStarved (row_of id old) ⊎ May id
+StarvesOnly May old new = (id : ℕ) → IsStarved (subscriber_at id new) → IsStarved (subscriber_at id old) ⊎ May id
 
 -- a subscriber that has failed stays as it is until it leaves
 abbrev pub LeavesFailed : {Writer : Type 0} → List (Subscriber Writer) → List (Subscriber Writer) → Event Writer
     → Type 0
 LeavesFailed {Writer} old new event =
-    (id : ℕ) (row : Subscriber Writer) → row_of id old ≡ Some row → (row.standing ≡ Served → ⊥)
-    → (row_of id new ≡ Some row) ⊎ (event ≡ Detach id)
+    (id : ℕ) (row : Subscriber Writer) → subscriber_at id old ≡ Some row → (row.standing ≡ Served → ⊥)
+    → (subscriber_at id new ≡ Some row) ⊎ (event ≡ Detach id)
 
 -- A table after an event: it fits one event more, and subscribers that have failed stay as they are. Of the others only
 -- these may have found no memory for a topic.
-pub record Grows {Writer : Type 0} (outflow : Writer → Outflow) (May : ℕ → Type 0) (old new : List (Subscriber Writer))
+pub record TableGrows {Writer : Type 0} (outflow : Writer → Outflow) (May : ℕ → Type 0)
+    (old new : List (Subscriber Writer))
     (event : Event Writer) : Type 0 where
   pub fits : FitsMore outflow old new event
   pub stays : LeavesFailed old new event
@@ -140,8 +141,8 @@ pub record Grows {Writer : Type 0} (outflow : Writer → Outflow) (May : ℕ →
 -- what a table is after an event, by what came of it
 abbrev pub ServesEvent : {Writer : Type 0} → (Writer → Outflow) → List (Subscriber Writer) → List (Subscriber Writer)
     → Event Writer → EventOutcome → Type 0
-ServesEvent outflow old new event Done = Grows outflow (λ id. ⊥) old new event
+ServesEvent outflow old new event Done = TableGrows outflow (λ id. ⊥) old new event
 ServesEvent outflow old new event (NoTopic id) = ((topic : List ℕ) × (event ≡ Subscribe id topic))
-    × (Grows outflow (λ other. other ≡ id) old new event × IsStarved (row_of id new))
+    × (TableGrows outflow (λ other. other ≡ id) old new event × IsStarved (subscriber_at id new))
 ServesEvent {Writer} outflow old new event (NoRoom id) =
-    ((writer : Writer) × (event ≡ Attach id writer)) × ((row_of id old ≡ None) × (new ≡ old))
+    ((writer : Writer) × (event ≡ Attach id writer)) × ((subscriber_at id old ≡ None) × (new ≡ old))

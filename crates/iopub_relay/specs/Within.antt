@@ -9,5 +9,5 @@ module _ {Writer Waiting : Type 0} where
   relaying relay = record { taker = relay.taker; rows = relay.table; no_room = relay.no_room }
 
   -- what is always true of a relay, for writers that are seen as `outflow` has it
-  abbrev pub Keeps : (Writer → Outflow) → relay.Inside Writer Waiting → Type 0
-  Keeps outflow relay = ServesTaken outflow (relaying relay)
+  abbrev pub RelayKeeps : (Writer → Outflow) → relay.Inside Writer Waiting → Type 0
+  RelayKeeps outflow relay = ServesTaken outflow (relaying relay)

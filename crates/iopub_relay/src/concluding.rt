@@ -2,9 +2,9 @@
 
 ghost use Rattle.std.specs.Prelude.{◌≡◌, ◌↔◌, ℕ, IsTrue};
 ghost use Rattle.std.specs.List.{AllByRecursion};
-ghost use Rattle.iopub_queue.specs.Entries.{of, StartsWith, CloseIsLast, IsComplete};
+ghost use Rattle.iopub_queue.specs.Entries.{part_of, StartsWith, CloseIsLast, IsComplete};
 ghost use Rattle.iopub_relay.specs.Relay.{Meets, AreWhole, AreOfNumbers, AreAllClosed, TakesMore};
-ghost use Rattle.iopub_relay.specs.Relay.{EndsAll, IsTold};
+ghost use Rattle.iopub_relay.specs.Relay.{EndsAll, TokenIsTold};
 
 use crate::relay::{Drain, Relay};
 use iopub_event::Event;
@@ -22,7 +22,7 @@ impl<W: Outlet + Drop, R: Wait> Relay<W, R> {
         ensures meets { AllByRecursion (Meets self.new.taker) tokens.items }
         ensures complete { IsTrue result ↔ IsComplete self.new.taker.count self.new.taker.taken }
         ensures whole { IsTrue result → AreWhole self.new.taker tokens.items }
-        ensures last { (number : ℕ) → CloseIsLast (of number self.new.taker.taken) }
+        ensures last { (number : ℕ) → CloseIsLast (part_of number self.new.taker.taken) }
         ensures numbers { AreOfNumbers self.new.taker.count self.new.taker.taken }
         ensures closed { AreAllClosed self.old.taker.count tokens.items → IsTrue result }
     {
@@ -42,7 +42,7 @@ fn learn_all<W: Outlet, R>(relay: &mut Relay<W, R>, tokens: &mut Vec<Closed<Even
     ensures queue { relay.new.taker.queue ≡ relay.old.taker.queue }
     ensures count { relay.new.taker.count ≡ relay.old.taker.count }
     ensures taken { relay.new.taker.taken ≡ relay.old.taker.taken }
-    ensures told { AllByRecursion (IsTold relay.new.taker.told) tokens.old.items }
+    ensures told { AllByRecursion (TokenIsTold relay.new.taker.told) tokens.old.items }
 {
     for place in 0..tokens.len() {
         let word = tokens[place].word();

@@ -1,7 +1,7 @@
 //! What a subscriber's traffic is to a relay.
 
 ghost use Rattle.std.specs.Prelude.{◌≡◌, ◌≢◌, None, IfOk, OnErr};
-ghost use Rattle.iopub_relay.specs.Door.{event_of};
+ghost use Rattle.iopub_relay.specs.Door.{event_of_traffic};
 
 use iopub_event::Event;
 use listed::Octets;
@@ -20,8 +20,8 @@ pub fn door_event<W>(
     id: u64,
     traffic: &Traffic,
 ) -> Result<Option<Event<W>>, AllocError>
-    ensures event { IfOk result (λ event. event ≡ event_of id traffic.now) }
-    ensures err { OnErr result (event_of {Writer = W} id traffic.now ≢ None) }
+    ensures event { IfOk result (λ event. event ≡ event_of_traffic id traffic.now) }
+    ensures err { OnErr result (event_of_traffic {Writer = W} id traffic.now ≢ None) }
 {
     if let Some(topic) = traffic.subscribed_topic() {
         return Ok(Some(Event::Subscribe(id, Octets::new(topic.to_vec(alloc)?))));

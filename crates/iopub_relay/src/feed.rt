@@ -2,7 +2,7 @@
 
 ghost use Rattle.std.specs.Prelude.{◌≡◌, ℕ, map, IfOk, OnOk};
 ghost use Rattle.iopub_relay.specs.Life.{life};
-ghost use Rattle.iopub_relay.specs.Feed.{IsFed, writer_of, AreRisingIds};
+ghost use Rattle.iopub_relay.specs.Feed.{WriterIsFed, writer_of, AreRisingIds};
 ghost use Rattle.iopub_relay.specs.Table.{ServesEvent};
 ghost use Rattle.iopub_relay.specs.declared.table.EventOutcome.{EventOutcome};
 
@@ -26,7 +26,7 @@ pub fn feed_core<W: Outlet + Drop>(
 ) -> Result<Vec<(u64, W)>, AllocError>
     ensures rising { IfOk result (λ left. AreRisingIds left.items) }
     ensures fed { IfOk result (λ left. (id : ℕ)
-        → IsFed W.outflow id (life id events.items) (writer_of id left.items)) }
+        → WriterIsFed W.outflow id (life id events.items) (writer_of id left.items)) }
 {
     let mut table = Table::new(alloc);
     for event in events {

@@ -3,10 +3,10 @@
 ghost use Rattle.std.specs.Prelude.{◌≡◌, ◌≤◌, ◌↔◌, ℕ, [], length, IfOk, IfErr, IsTrue, vec_capacity};
 ghost use Rattle.std.specs.List.{AllByRecursion};
 ghost use Rattle.iopub_queue.specs.Calls.{Learns};
-ghost use Rattle.iopub_queue.specs.Entries.{of, Agree, CloseIsLast};
-ghost use Rattle.iopub_relay.specs.Rows.{row_of};
+ghost use Rattle.iopub_queue.specs.Entries.{part_of, Agree, CloseIsLast};
+ghost use Rattle.iopub_relay.specs.Rows.{subscriber_at};
 ghost use Rattle.iopub_relay.specs.Relay.{ServesTaken, Pumps, Drains, Meets, AreWhole, is_failed};
-ghost use Rattle.iopub_relay.specs.Relay.{IsLeftOf, left_by};
+ghost use Rattle.iopub_relay.specs.Relay.{RelayIsLeft, left_by};
 
 use crate::subscriber::Subscriber;
 use crate::table::{EventOutcome, Table};
@@ -63,11 +63,11 @@ impl<W: Outlet, R> Model for Relay<W, R> {
 
     ghost Value = { Relaying W };
 
-    ghost use Rattle.iopub_relay.specs.Within.{relaying, Keeps};
+    ghost use Rattle.iopub_relay.specs.Within.{relaying, RelayKeeps};
 
     ghost view = { relaying };
 
-    ghost invariant = { Keeps W.outflow };
+    ghost invariant = { RelayKeeps W.outflow };
 }
 
 impl<W: Outlet, R> Relay<W, R> {
@@ -87,7 +87,7 @@ impl<W: Outlet, R> Relay<W, R> {
     pub fn serves_what_it_took(&self)
         ensures serves { ServesTaken W.outflow self.now }
         ensures agree { Agree self.now.taker.told self.now.taker.taken }
-        ensures closes { (number : ℕ) → CloseIsLast (of number self.now.taker.taken) }
+        ensures closes { (number : ℕ) → CloseIsLast (part_of number self.now.taker.taken) }
     {
         self.taker.is_in_order();
     }
@@ -111,7 +111,7 @@ impl<W: Outlet, R> Relay<W, R> {
     /// Whether a subscriber is there and has failed: a write to it failed or took nothing, or there was no memory for
     /// a topic that it asked for.
     pub fn failed(&self, id: u64) -> bool
-        ensures { result ≡ is_failed (row_of id self.now.rows) }
+        ensures { result ≡ is_failed (subscriber_at id self.now.rows) }
     {
         self.table.failed(id)
     }
@@ -177,7 +177,7 @@ impl<W: Outlet + Drop, R> Relay<W, R> {
     where
         R: Drop,
         ensures rows { IfOk result (λ left. left.items ≡ left_by self.rows) }
-        ensures left { IfOk result (λ left. IsLeftOf W.outflow self.taker.taken self.no_room left.items) }
+        ensures left { IfOk result (λ left. RelayIsLeft W.outflow self.taker.taken self.no_room left.items) }
         ensures refused { IfErr result (λ relay. relay ≡ self) }
     {
         let Ok(mut left) = Vec::with_capacity(self.table.alloc(), self.table.len()) else {

@@ -4,7 +4,7 @@ ghost use Rattle.std.specs.Prelude.{◌≡◌, [], length, IfOk, IfErr, IfSome};
 ghost use Rattle.listed.specs.Bodies.{bodies};
 ghost use Rattle.zmtp_wire.specs.Frame.{text};
 ghost use Rattle.iopub_relay.specs.Relay.{is_failed};
-ghost use Rattle.iopub_relay.specs.Rows.{AreRising, IsAt, IsFree, row_of};
+ghost use Rattle.iopub_relay.specs.Rows.{AreRising, IsAt, IsFree, subscriber_at};
 ghost use Rattle.iopub_relay.specs.Table.{ServesEvent, AllReceive};
 
 use crate::subscriber::{Standing, Subscriber};
@@ -194,7 +194,7 @@ impl<W> Table<W> {
 
     /// Whether a subscriber is there and has failed.
     pub(crate) fn failed(&self, id: u64) -> bool
-        ensures { result ≡ is_failed (row_of id self.now) }
+        ensures { result ≡ is_failed (subscriber_at id self.now) }
     {
         match place_of(&self.rows, id) {
             Ok(place) => self.rows[place].has_failed(),

@@ -5,10 +5,10 @@ use Rattle.std.proofs.lemmas.List.{append-nil}
 use Rattle.interp_core.specs.Interpreter.{Meaning}
 use Rattle.kernel_engine.specs.declared.does.Does.{Does}
 use Rattle.kernel_engine.specs.declared.does.Does.TheVariants.{Says, Looks, Runs, Refuses, Unread}
-use Rattle.kernel_engine.specs.Answer.{Answer, Answers, RepliesCell, Leaves}
+use Rattle.kernel_engine.specs.Answer.{Answer, AnswersRequest, RepliesCell, Leaves}
 use Rattle.kernel_engine.specs.Answer.{LeavesExpressions}
 use Rattle.kernel_engine.specs.Course.{Course, Outcome}
-use Rattle.kernel_engine.specs.Publications.{grown}
+use Rattle.kernel_engine.specs.Publications.{count_after}
 
 module _ {State Cell : Type 0} (m : Meaning State Cell) where
   -- the expressions behind a cell that was answered
@@ -38,18 +38,18 @@ module _ {State Cell : Type 0} (m : Meaning State Cell) where
     same_state a is = (ap (λ (b : Answer State). b.state) is, ap (λ (b : Answer State). b.count) is)
 
     -- what a request leaves that was answered
-    pub leaves_answered : (does : Does) → Answers m does state count course answer
+    pub leaves_answered : (does : Does) → AnswersRequest m does state count course answer
         → Leaves m does state count course answer.state answer.count
     leaves_answered (Says publication reply order) is = same_state _ is
     leaves_answered (Looks look) (reply, finds, is) = same_state _ is
     leaves_answered (Runs code silent counts expressions) answers = (
-      answered_count expressions (grown counts count) answers.outcome answers.after answer answers.replies,
+      answered_count expressions (count_after counts count) answers.outcome answers.after answer answers.replies,
       record {
         outputs = answers.outputs;
         outcome = answers.outcome;
         at = answers.after;
         runs = answers.runs;
-        left = answered_expressions expressions (grown counts count) answers.outcome answers.after answer
+        left = answered_expressions expressions (count_after counts count) answers.outcome answers.after answer
             answers.replies;
       },
     )
@@ -58,7 +58,7 @@ module _ {State Cell : Type 0} (m : Meaning State Cell) where
 
   module _ (state : State) (count : ℕ) (course : Course State) (after : State) (left : ℕ) where
     -- a cell counts at most once
-    grown_once : (store_history : Bool) → grown store_history count ≤ count + 1
+    grown_once : (store_history : Bool) → count_after store_history count ≤ count + 1
     grown_once true = omega arith
     grown_once false = omega arith
 

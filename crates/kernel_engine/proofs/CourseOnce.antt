@@ -15,8 +15,8 @@ use Rattle.kernel_engine.specs.declared.does.Does.TheVariants.{Says, Looks, Runs
 use Rattle.kernel_engine.specs.declared.does.Look.{Look}
 use Rattle.kernel_engine.specs.declared.does.Look.TheVariants as looks
 use Rattle.kernel_engine.specs.Course.{Course, Ending, own, interrupted, memory, Outcome, IsOutcome, outputs_of, Goes}
-use Rattle.kernel_engine.specs.Course.{Ends, CellRuns, IsUnread, Begins, TextRuns}
-use Rattle.kernel_engine.specs.Publications.{publication_of, last_of, grown, PublishesUnless}
+use Rattle.kernel_engine.specs.Course.{Ends, CellRuns, IsUnread, BeginsCell, TextRuns}
+use Rattle.kernel_engine.specs.Publications.{publication_of, last_of, count_after, PublishesUnless}
 use Rattle.kernel_engine.specs.Answer.{Answer, plain, reply_by, info_reply, completion_reply, completeness_reply}
 use Rattle.kernel_engine.specs.Answer.{shown_of, Evaluates, Finds, RepliesCell}
 use Rattle.kernel_engine.specs.Laws.{PublishesOnce, AnswersOnce}
@@ -143,8 +143,8 @@ module _ {State Cell : Type 0} (m : Meaning State Cell) (laws : HasOneValue m) w
 
   -- what was begun and ran comes to one thing by one course
   begun_once : (state : State) (code : List ℕ) (course : Course State) (outputs others : List Output)
-      (outcome came : Outcome) (after other : State) → Begins m state code course outputs outcome after
-      → Begins m state code course others came other → Same outputs others outcome came after other
+      (outcome came : Outcome) (after other : State) → BeginsCell m state code course outputs outcome after
+      → BeginsCell m state code course others came other → Same outputs others outcome came after other
   begun_once state code course outputs others outcome came after other one two =
       let (begun, at_is) = laws.one_begin state code (Ok one.cell) (Ok two.cell) one.at two.at one.begins two.begins in
       let cell_is : one.cell ≡ two.cell = cc in
@@ -200,7 +200,7 @@ module _ {State Cell : Type 0} (m : Meaning State Cell) (laws : HasOneValue m) w
   publishes_once (Says publication reply order) state count course one other is was = is ∙ sym was
   publishes_once (Looks look) state count course one other is was = is ∙ sym was
   publishes_once (Runs code silent counts expressions) state count course one other is was =
-      unless_once silent code (grown counts count) state course one other is was
+      unless_once silent code (count_after counts count) state course one other is was
   publishes_once (Refuses kind ename evalue) state count course one other is was = is ∙ sym was
   publishes_once Unread state count course one other is was = is ∙ sym was
 
@@ -252,9 +252,9 @@ module _ {State Cell : Type 0} (m : Meaning State Cell) (laws : HasOneValue m) w
   answers_once (Runs code silent counts expressions) state count course one other is was =
       let (wrote, came, left) = text_once state code course is.outputs was.outputs is.outcome was.outcome is.after
       was.after is.runs was.runs in
-      reply_once expressions (grown counts count) is.outcome is.after one other is.replies
-      (subst (λ o. RepliesCell m expressions (grown counts count) o is.after other) (sym came)
-      (subst (λ s. RepliesCell m expressions (grown counts count) was.outcome s other) (sym left)
+      reply_once expressions (count_after counts count) is.outcome is.after one other is.replies
+      (subst (λ o. RepliesCell m expressions (count_after counts count) o is.after other) (sym came)
+      (subst (λ s. RepliesCell m expressions (count_after counts count) was.outcome s other) (sym left)
       was.replies))
   answers_once (Refuses kind ename evalue) state count course one other is was = is ∙ sym was
   answers_once Unread state count course one other is was = absurd is

@@ -9,7 +9,7 @@ use Rattle.jmsg_types.specs.declared.publication.Publication.{Publication}
 use Rattle.kernel_engine.specs.declared.heading.Heading.{Heading}
 use Rattle.kernel_engine.specs.declared.publishing.Publishing.{Publishing}
 use Rattle.kernel_engine.specs.Block.{Sealing, published, published_all}
-use Rattle.kernel_engine.specs.Growth.{Puts, sealing_of, item_of, unless_silent}
+use Rattle.kernel_engine.specs.Growth.{PutsUnder, sealing_of, item_of, unless_silent}
 
 -- what is published of two lists is what is published of the one, and then of the other with the numbers behind it
 pub published_all_append : (sealing : Sealing) (heading : Heading) (number : ℕ) (xs ys : List Publication)
@@ -27,7 +27,7 @@ module _ {P S W : Type 0} (sink : Sink P (Event W))
     (stamp : Stamping S) (heading : Heading) where
   -- nothing is published of nothing
   pub puts_none : ((a : P) → sink.is_same a a) → (old : Publishing P S)
-      → Puts sink stamp heading old old []
+      → PutsUnder sink stamp heading old old []
   puts_none itself old = record {
     items = sym (append-nil (sink.items old.sink));
     rest = let same : old.next ≡ old.next + 0 = omega arith in
@@ -39,9 +39,9 @@ module _ {P S W : Type 0} (sink : Sink P (Event W))
   -- what is published after what was published
   pub puts_join : ((a b c : P) → sink.is_same a b → sink.is_same b c → sink.is_same a c)
       → (old mid new : Publishing P S)
-      (xs ys : List Publication) → Puts sink stamp heading old mid xs
-      → Puts sink stamp heading mid new ys
-      → Puts sink stamp heading old new (xs ++ ys)
+      (xs ys : List Publication) → PutsUnder sink stamp heading old mid xs
+      → PutsUnder sink stamp heading mid new ys
+      → PutsUnder sink stamp heading old new (xs ++ ys)
   puts_join on old mid new xs ys first second =
       let sealing = sealing_of stamp old in
       let front : List (Option (Event W)) = map item_of (published_all sealing heading old.next xs) in
@@ -68,8 +68,8 @@ module _ {P S W : Type 0} (sink : Sink P (Event W))
   -- the same where nothing of a silent cell is published
   pub puts_told : ((a b c : P) → sink.is_same a b → sink.is_same b c → sink.is_same a c) → (silent : Bool)
       (old mid new : Publishing P S) (xs ys : List Publication)
-      → Puts sink stamp heading old mid (unless_silent silent xs)
-      → Puts sink stamp heading mid new (unless_silent silent ys)
-      → Puts sink stamp heading old new (unless_silent silent (xs ++ ys))
+      → PutsUnder sink stamp heading old mid (unless_silent silent xs)
+      → PutsUnder sink stamp heading mid new (unless_silent silent ys)
+      → PutsUnder sink stamp heading old new (unless_silent silent (xs ++ ys))
   puts_told on true old mid new xs ys first second = puts_join on old mid new [] [] first second
   puts_told on false old mid new xs ys first second = puts_join on old mid new xs ys first second

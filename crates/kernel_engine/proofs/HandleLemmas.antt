@@ -20,19 +20,20 @@ use Rattle.kernel_engine.specs.declared.heading.Heading.{Heading}
 use Rattle.kernel_engine.specs.declared.parts.Parts.{Parts}
 use Rattle.kernel_engine.specs.declared.publishing.Publishing.{Publishing}
 use Rattle.kernel_engine.specs.declared.respond.Answered.{Answered}
-use Rattle.kernel_engine.specs.Answer.{Answer, Answers}
-use Rattle.kernel_engine.specs.Begins.{Begins, BeginsNot}
-use Rattle.kernel_engine.specs.Block.{Message, busy, idle, opened, published_all, reply_message}
+use Rattle.kernel_engine.specs.Answer.{Answer, AnswersRequest}
+use Rattle.kernel_engine.specs.Begins.{BeginsRequest, BeginsNot}
+use Rattle.kernel_engine.specs.Block.{Message, busy, idle, opened_block, published_all, reply_message}
 use Rattle.kernel_engine.specs.Comes.{IsRead, message_comes}
 use Rattle.kernel_engine.specs.declared.does.Does.TheVariants.{Unread}
-use Rattle.kernel_engine.specs.Growth.{Puts, item_of, sealing_of}
-use Rattle.kernel_engine.specs.Handles.{Adds, AnswersInBlock, AnswersNot, Closes, HandlesCut, HandlesErr, HandlesOk}
-use Rattle.kernel_engine.specs.Handles.{IsLeft, LeavesOpen, Pays, answer_with, owed_items}
+use Rattle.kernel_engine.specs.Growth.{PutsUnder, item_of, sealing_of}
+use Rattle.kernel_engine.specs.Handles.{AddsBlock, AnswersInBlock, AnswersNot, Closes, HandlesCut, HandlesErr}
+use Rattle.kernel_engine.specs.Handles.{HandlesOk}
+use Rattle.kernel_engine.specs.Handles.{RequestLeaves, LeavesOpen, Pays, answer_with, owed_items}
 use Rattle.kernel_engine.specs.Last.{ClosesBehind, CutLast, HandlesLast, HandlesLastErr, IdleIsBehind, IsBehind}
-use Rattle.kernel_engine.specs.Opens.{Opens, ids_of_reply}
+use Rattle.kernel_engine.specs.Opens.{OpensBlock, ids_of_reply}
 use Rattle.kernel_engine.specs.Publications.{Publishes}
 use Rattle.kernel_engine.specs.Responds.{RespondsCut, RespondsWhole, answer_of}
-use Rattle.kernel_engine.specs.WellBlocked.{Block, idle_of, past}
+use Rattle.kernel_engine.specs.WellBlocked.{Block, idle_of, number_past}
 use Rattle.kernel_engine.specs.World.{World}
 use Rattle.kernel_engine.proofs.AnswerLemmas.{counted_once, leaves_answered}
 use Rattle.kernel_engine.proofs.TellLemmas.{may_be_cut}
@@ -77,7 +78,7 @@ module _ {I P S W Cell : Type 0} (world : World I P S W Cell)
     parent_is : heading.parent ≡ parent
     idle_is : idling ≡ idle (sealing_of world.stamp old.publishing) heading old.publishing.next
     items : world.sink.items new.publishing.sink ≡ world.sink.items old.publishing.sink ++ (owed_items old.owed
-        ++ map item_of (opened (sealing_of world.stamp old.publishing) heading old.publishing.next publications))
+        ++ map item_of (opened_block (sealing_of world.stamp old.publishing) heading old.publishing.next publications))
     owed : new.owed ≡ None
     side : new.side ≡ old.side
     signer : new.publishing.signer ≡ old.publishing.signer
@@ -87,7 +88,7 @@ module _ {I P S W Cell : Type 0} (world : World I P S W Cell)
   -- the idle that was owed was published, and busy
   is_open : (parent : List ℕ) (heading : Heading) (idling : Message) (old paid : Parts I P S W) (opens : Publishing P S)
       → Pays world.sink old paid
-      → Opens world.sink world.stamp parent heading idling paid.publishing opens
+      → OpensBlock world.sink world.stamp parent heading idling paid.publishing opens
       → IsOpen parent heading idling [] old (record paid { publishing = opens })
   is_open parent heading idling old paid opens pays begins =
       let signer : paid.publishing.signer ≡ old.publishing.signer =
@@ -121,7 +122,7 @@ module _ {I P S W Cell : Type 0} (world : World I P S W Cell)
   -- the next number behind busy and idle
   next_open : (parent : List ℕ) (heading : Heading) (idling : Message) (old paid : Parts I P S W)
       (opens : Publishing P S) → Pays world.sink old paid
-      → Opens world.sink world.stamp parent heading idling paid.publishing opens
+      → OpensBlock world.sink world.stamp parent heading idling paid.publishing opens
       → opens.next ≡ old.publishing.next + 2
   next_open parent heading idling old paid opens pays begins =
       ap (λ (p : Publishing P S). p.next) begins.rest
@@ -131,7 +132,7 @@ module _ {I P S W Cell : Type 0} (world : World I P S W Cell)
   goes_on : (parent : List ℕ) (heading : Heading) (idling : Message) (publications : List Publication)
       (old begun new : Parts I P S W) (at : Publishing P S) (next : ℕ)
       → IsOpen parent heading idling [] old begun → begun.publishing.next ≡ old.publishing.next + 2
-      → Puts world.sink world.stamp heading begun.publishing at publications
+      → PutsUnder world.sink world.stamp heading begun.publishing at publications
       → new ≡ record begun { interp = new.interp; count = new.count; publishing = record at { next = next } }
       → IsOpen parent heading idling publications old new
   goes_on parent heading idling publications old begun new at next first number puts rest =
@@ -176,7 +177,7 @@ module _ {I P S W Cell : Type 0} (world : World I P S W Cell)
 
   -- a block was added, and nothing else changed
   record Added (block : Block) (old at new : Parts I P S W) : Type 0 where
-    adds : Adds world block old new
+    adds : AddsBlock world block old new
     interp : new.interp ≡ at.interp
     count : new.count ≡ at.count
     next : new.publishing.next ≡ at.publishing.next
@@ -193,7 +194,7 @@ module _ {I P S W Cell : Type 0} (world : World I P S W Cell)
           (world.sink.items new.publishing.sink) (owed_items old.owed) _ _ first.items
           (done.items ∙ ap (λ i. world.sink.items at.publishing.sink ++ item_of i ∷ []) first.idle_is)
           ∙ ap (λ l. world.sink.items old.publishing.sink ++ (owed_items old.owed ++ l)) (sym (map-append item_of
-          (opened (sealing_of world.stamp old.publishing) heading old.publishing.next publications) _));
+          (opened_block (sealing_of world.stamp old.publishing) heading old.publishing.next publications) _));
       owed = inl (refl, ap (λ (p : Parts I P S W). p.owed) done.rest ∙ first.owed);
       side = ap (λ (p : Parts I P S W). p.side) done.rest ∙ first.side;
       signer = ap (λ (p : Parts I P S W). p.publishing.signer) done.rest ∙ first.signer;
@@ -217,7 +218,7 @@ module _ {I P S W Cell : Type 0} (world : World I P S W Cell)
       dated = first.dated;
       items = left.items ∙ first.items ∙ ap (λ l. world.sink.items old.publishing.sink ++ (owed_items old.owed ++ l))
           (sym (ap (map item_of) (append-nil
-          (opened (sealing_of world.stamp old.publishing) heading old.publishing.next publications))));
+          (opened_block (sealing_of world.stamp old.publishing) heading old.publishing.next publications))));
       owed = inr (
         refl,
         ap (λ (p : Parts I P S W). p.owed) left.rest ∙ ap (λ i. Some (events.Message i)) first.idle_is,
@@ -246,7 +247,7 @@ module _ {I P S W Cell : Type 0} (world : World I P S W Cell)
 
   -- what is left of one that wasn't read: nothing of it was done
   unread_left : (may : Type 0) (due : Does) (old new : Parts I P S W) (publications : List Publication)
-      → IsLeft world may Unread old new publications → IsLeft world may due old new publications
+      → RequestLeaves world may Unread old new publications → RequestLeaves world may due old new publications
   unread_left may due old new publications (inl none) = inl none
   unread_left may due old new publications (inr (course, whole, behind, publishes, front, leaves, ending)) =
       inl (leaves.0, leaves.1, none_in_front publications behind (sym publishes ∙ front))
@@ -294,7 +295,7 @@ module _ {I P S W Cell : Type 0} (world : World I P S W Cell)
   module _ (request : Envelope) (heading : Heading) (idling : Message) (old paid : Parts I P S W)
       (opens : Publishing P S) (at new : Parts I P S W) (few : old.publishing.next ≤ 2 ^ 62)
       (pays : Pays world.sink old paid)
-      (begins : Opens world.sink world.stamp request.header heading idling paid.publishing opens)
+      (begins : OpensBlock world.sink world.stamp request.header heading idling paid.publishing opens)
     where
       -- the publications of a request that was answered
       grown_ok : (may : Type 0) (handled : Response) (answers : AnswersInBlock world may heading request.identities
@@ -323,7 +324,8 @@ module _ {I P S W Cell : Type 0} (world : World I P S W Cell)
       handled_ok may handled closed answers added =
           let first = is_open request.header heading idling old paid opens pays begins in
           let number = next_open request.header heading idling old paid opens pays begins in
-          let behind : answers.at.next ≡ past (block_of heading old.publishing.next answers.publications closed) =
+          let behind : answers.at.next
+          ≡ number_past (block_of heading old.publishing.next answers.publications closed) =
           ap (λ (p : Publishing P S). p.next) answers.grew.rest
           ∙ ap (λ n. n + length answers.publications) number in (
             record {
@@ -334,12 +336,13 @@ module _ {I P S W Cell : Type 0} (world : World I P S W Cell)
               parent = begins.parent_is;
               publishes = subst (λ (p : Parts I P S W). Publishes world.language (message_comes old.side request)
                   p.interp p.count answers.course answers.publications) pays.rest answers.publishes;
-              answers = subst (λ (a : Answer I). Answers world.language (message_comes old.side request) old.interp
+              answers = subst
+                  (λ (a : Answer I). AnswersRequest world.language (message_comes old.side request) old.interp
                   old.count answers.course a)
                   (ap (λ (i : I). record (answer_with handled answers.reply at) { state = i }) (sym added.interp)
                   ∙ ap (λ n. record (answer_with handled answers.reply at) { state = new.interp; count = n })
                   (sym added.count))
-                  (subst (λ (p : Parts I P S W). Answers world.language (message_comes old.side request) p.interp
+                  (subst (λ (p : Parts I P S W). AnswersRequest world.language (message_comes old.side request) p.interp
                   p.count answers.course (answer_with handled answers.reply at)) pays.rest answers.answers);
               ending = answers.ending;
               replied = answers.replied
@@ -368,7 +371,8 @@ module _ {I P S W Cell : Type 0} (world : World I P S W Cell)
               few = few;
               block = block_of heading old.publishing.next answers.publications closed;
               parent = begins.parent_is;
-              left = rw (added.interp, added.count) (subst (λ (p : Parts I P S W). IsLeft world may (message_comes
+              left = rw (added.interp, added.count)
+                  (subst (λ (p : Parts I P S W). RequestLeaves world may (message_comes
                   old.side request) p at answers.publications) pays.rest
                   answers.left);
               adds = added.adds;
@@ -504,7 +508,7 @@ module _ {I P S W Cell : Type 0} (world : World I P S W Cell)
   -- a request that was begun was handled, or cut, as its block was closed or is left open
   pub begun_told : (may : Type 0) (asked : Asked) (old at new : Parts I P S W) (begun : Begun)
       → ((a b : P) → world.sink.is_same a b → world.sink.may_refuse b → world.sink.may_refuse a)
-      → IsRead asked.does (message_comes old.side asked.request) → Begins world may asked old begun at
+      → IsRead asked.does (message_comes old.side asked.request) → BeginsRequest world may asked old begun at
       → Closes world.sink begun.block.idle at new ⊎ LeavesOpen world.sink begun.block.idle at new
       → HandledOrCut may asked.request old new begun.answered
   begun_told may asked old at new begun back read begins ends =
@@ -520,7 +524,7 @@ module _ {I P S W Cell : Type 0} (world : World I P S W Cell)
 
   -- a request that was answered was read, where it was begun
   pub begun_read : (may : Type 0) (asked : Asked) (old at : Parts I P S W) (begun : Begun)
-      → IsRead asked.does (message_comes old.side asked.request) → Begins world may asked old begun at
+      → IsRead asked.does (message_comes old.side asked.request) → BeginsRequest world may asked old begun at
       → OnOk begun.answered (asked.does ≡ message_comes old.side asked.request)
   begun_read may asked old at begun read begins =
       was_read may begun.block.heading asked.request.identities asked.request.msg_type asked.does
@@ -540,7 +544,7 @@ module _ {I P S W Cell : Type 0} (world : World I P S W Cell)
 
   -- and so it does while one is begun
   pub same_begun : (may : Type 0) (asked : Asked) (old at : Parts I P S W) (begun : Begun)
-      → Begins world may asked old begun at → world.sink.is_same old.publishing.sink at.publishing.sink
+      → BeginsRequest world may asked old begun at → world.sink.is_same old.publishing.sink at.publishing.sink
   same_begun may asked old at begun begins =
       on _ _ _ (on _ _ _ begins.pays.same begins.begins.same)
       (same_answered may begun.block.heading asked.request.identities asked.request.msg_type asked.does
@@ -567,7 +571,7 @@ module _ {I P S W Cell : Type 0} (world : World I P S W Cell)
       (asked : Asked) (old at new : Parts I P S W) (begun : Begun)
       → ((a b : P) → world.sink.is_same a b → world.sink.may_refuse b → world.sink.may_refuse a)
       → (publisher at.publishing.sink).number ≡ (publisher old.publishing.sink).number
-      → IsRead asked.does (message_comes old.side asked.request) → Begins world may asked old begun at
+      → IsRead asked.does (message_comes old.side asked.request) → BeginsRequest world may asked old begun at
       → ClosesBehind publisher world.sink begun.block.idle word at new ⊎ LeavesOpen world.sink begun.block.idle at new
       → MatchResult begun.answered (λ handled. HandlesLast world publisher may asked.request word old handled new)
       (λ fault. (fault ≡ Memory) × CutLast world publisher may asked.request word old new)
@@ -587,7 +591,7 @@ module _ {I P S W Cell : Type 0} (world : World I P S W Cell)
   pub answers_whole : (may : Type 0) (heading : Heading) (identities : List (List ℕ)) (msg_type : List ℕ)
       (does : Does) (old at : Parts I P S W) (made : Publishing P S) (answered : Answered) (reply : Option Message)
       → RespondsWhole world.language does may old.interp old.count (answer_of answered at.interp at.count)
-      (Puts world.sink world.stamp heading old.publishing at.publishing)
+      (PutsUnder world.sink world.stamp heading old.publishing at.publishing)
       → at ≡ record old { interp = at.interp; count = at.count; publishing = at.publishing }
       → (reply ≡ reply_message (sealing_of world.stamp at.publishing) heading identities at.publishing.next msg_type
       answered.reply)
@@ -616,12 +620,12 @@ module _ {I P S W Cell : Type 0} (world : World I P S W Cell)
   pub answers_unreplied : (may : Type 0) (heading : Heading) (does : Does) (old at : Parts I P S W)
       (made : Publishing P S) (answered : Answered)
       → RespondsWhole world.language does may old.interp old.count (answer_of answered at.interp at.count)
-      (Puts world.sink world.stamp heading old.publishing at.publishing)
+      (PutsUnder world.sink world.stamp heading old.publishing at.publishing)
       → at ≡ record old { interp = at.interp; count = at.count; publishing = at.publishing }
       → made ≡ at.publishing → AnswersNot world may heading does old (record at { publishing = made })
   answers_unreplied may heading does old at made answered whole rest same = record {
     publications = whole.publications;
-    grew = subst (λ (p : Publishing P S). Puts world.sink world.stamp heading old.publishing p
+    grew = subst (λ (p : Publishing P S). PutsUnder world.sink world.stamp heading old.publishing p
         whole.publications) (sym same) whole.grew;
     rest = ap (λ (p : Parts I P S W). record p { publishing = made }) rest;
     left = inr (
@@ -639,7 +643,7 @@ module _ {I P S W Cell : Type 0} (world : World I P S W Cell)
   -- memory was refused while a request was answered
   pub answers_cut : (may : Type 0) (heading : Heading) (does : Does) (old new : Parts I P S W)
       → RespondsCut world.language does may old.interp old.count new.interp new.count
-      (Puts world.sink world.stamp heading old.publishing new.publishing)
+      (PutsUnder world.sink world.stamp heading old.publishing new.publishing)
       → new ≡ record old { interp = new.interp; count = new.count; publishing = new.publishing }
       → AnswersNot world may heading does old new
   answers_cut may heading does old new (inl not) same =
@@ -661,7 +665,7 @@ module _ {I P S W Cell : Type 0} (world : World I P S W Cell)
 
   -- what is left of a request counts at most once
   left_once : (may : Type 0) (old new : Parts I P S W) (does : Does) (publications : List Publication)
-      → IsLeft world may does old new publications
+      → RequestLeaves world may does old new publications
       → new.count ≤ old.count + 1
   left_once may old new does publications (inl (state, count, none)) = omega (arith, count)
   left_once may old new does publications (inr (course, whole, behind, publishes, front, leaves, ending)) =

@@ -21,15 +21,16 @@ use Rattle.kernel_engine.specs.declared.response.Response.{Response}
 use Rattle.kernel_engine.specs.declared.parts.Parts.{Parts}
 use Rattle.kernel_engine.specs.declared.side.Side.{Side}
 use Rattle.kernel_engine.specs.Comes.{message_comes}
-use Rattle.kernel_engine.specs.Block.{Message, Sealing, opened}
+use Rattle.kernel_engine.specs.Block.{Message, Sealing, opened_block}
 use Rattle.kernel_engine.specs.Course.{Course, memory}
 use Rattle.kernel_engine.specs.Growth.{item_of, sealing_of}
-use Rattle.kernel_engine.specs.Handles.{Adds, HandlesCut, HandlesErr, HandlesNot, HandlesOk, IsLeft, Pays}
+use Rattle.kernel_engine.specs.Handles.{AddsBlock, HandlesCut, HandlesErr, HandlesNot, HandlesOk, RequestLeaves, Pays}
 use Rattle.kernel_engine.specs.Handles.{PaysNot, owed_items}
-use Rattle.kernel_engine.specs.Publications.{Publishes, grown, last_of}
+use Rattle.kernel_engine.specs.Publications.{Publishes, count_after, last_of}
 use Rattle.kernel_engine.specs.Last.{HandlesLast, HandlesLastErr}
-use Rattle.kernel_engine.specs.WellBlocked.{AreClosed, AreCuts, Began, Block, IsCut, KeepsBlocks, Owes}
-use Rattle.kernel_engine.specs.WellBlocked.{Rise, first_number, front_of, heading_of, idle_of, messages_of, past}
+use Rattle.kernel_engine.specs.WellBlocked.{AreClosed, AreCuts, Began, Block, BlockIsCut, KeepsBlocks, Owes}
+use Rattle.kernel_engine.specs.WellBlocked.{Rise, first_number, front_of, heading_of, idle_of, messages_of_block}
+use Rattle.kernel_engine.specs.WellBlocked.{number_past}
 use Rattle.kernel_engine.specs.WellBlocked.{said_behind, where_published}
 use Rattle.kernel_engine.specs.World.{World}
 use Rattle.kernel_engine.proofs.HandleLemmas.{sealing_by, handled_count, cut_count}
@@ -49,11 +50,11 @@ module _ {W : Type 0} (sealing : Sealing) where
   said_paid front (Some owed) [] owes = absurd owes
   said_paid front (Some owed) (block ∷ earlier) (still, is, closed) =
       let before = said_behind sealing front earlier in
-      let inside = opened sealing (heading_of block) block.number block.publications in
+      let inside = opened_block sealing (heading_of block) block.number block.publications in
       let last : Some owed ∷ [] ≡ map (item_of {W = W}) (idle_of sealing block ∷ []) = ap (λ o. Some o ∷ []) is in
       let none : where_published block.closed (idle_of sealing block) ≡ [] =
       ap (λ b. where_published b (idle_of sealing block)) still in
-      let bare : messages_of sealing block ≡ inside = ap (λ l. inside ++ l) none ∙ append-nil inside in
+      let bare : messages_of_block sealing block ≡ inside = ap (λ l. inside ++ l) none ∙ append-nil inside in
       map-append item_of before (inside ++ idle_of sealing block ∷ [])
       ∙ ap (λ l. map item_of before ++ l) (map-append item_of inside (idle_of sealing block ∷ []))
       ∙ sym (append_assoc (map item_of before) (map item_of inside) (map item_of (idle_of sealing block ∷ [])))
@@ -108,7 +109,7 @@ some_published m (Says publication reply order) state count = (option_to_list pu
 some_published m (Looks look) state count = ([], refl)
 some_published m (Runs code true counts expressions) state count = ([], refl)
 some_published m (Runs code false counts expressions) state count = (
-  ExecuteInput code (grown counts count) ∷ last_of (grown counts count) (Err OutOfMemory),
+  ExecuteInput code (count_after counts count) ∷ last_of (count_after counts count) (Err OutOfMemory),
   record {
     outputs = [];
     outcome = Err OutOfMemory;
@@ -126,7 +127,7 @@ module _ {I P S W Cell : Type 0} (world : World I P S W Cell)
   -- nothing of a request is published between busy and idle
   no_cut : (dated : List ℕ → Bool) (side : Side) (state : I) (request : Envelope) (block : Block)
       → block.parent ≡ request.header → dated block.date ≡ true → block.publications ≡ []
-      → IsCut world.language dated side block
+      → BlockIsCut world.language dated side block
   no_cut dated side state request block parent is none =
       let (whole, publishes) = some_published world.language (message_comes side request) state 0 in
       record {
@@ -173,9 +174,9 @@ module _ {I P S W Cell : Type 0} (world : World I P S W Cell)
   -- a block was added
   keeps_added : (block : Block) (old new : Parts I P S W)
       → KeepsBlocks world old
-      → Adds world block old new
-      → IsCut world.language (world.stamp.is_date (world.stamp.meaning old.publishing.stamp)) old.side block
-      → past block ≤ new.publishing.next → new.count ≤ new.publishing.next → new.publishing.next ≤ 2 ^ 63 + 1
+      → AddsBlock world block old new
+      → BlockIsCut world.language (world.stamp.is_date (world.stamp.meaning old.publishing.stamp)) old.side block
+      → number_past block ≤ new.publishing.next → new.count ≤ new.publishing.next → new.publishing.next ≤ 2 ^ 63 + 1
       → KeepsBlocks world new
   keeps_added block old new keeps adds cut rises counted last =
       let sealing = sealing_of world.stamp old.publishing in
@@ -191,13 +192,13 @@ module _ {I P S W Cell : Type 0} (world : World I P S W Cell)
           history = record { started = was.history.started; blocks = block ∷ blocks };
           items_are = subst (λ s. world.sink.items new.publishing.sink
               ≡ map item_of (said_behind s (front_of s was.history.started) (block ∷ blocks))) (sym seals)
-              (adds.items ∙ ap (λ l. l ++ (owed_items old.owed ++ map item_of (messages_of sealing block)))
+              (adds.items ∙ ap (λ l. l ++ (owed_items old.owed ++ map item_of (messages_of_block sealing block)))
               was.items_are
               ∙ sym (append_assoc (map item_of (said_behind sealing front was.history.blocks)) (owed_items old.owed)
-              (map item_of (messages_of sealing block)))
-              ∙ ap (λ l. l ++ map item_of (messages_of sealing block))
+              (map item_of (messages_of_block sealing block)))
+              ∙ ap (λ l. l ++ map item_of (messages_of_block sealing block))
               (sym (said_paid sealing front old.owed was.history.blocks was.owes))
-              ∙ sym (map-append item_of (said_behind sealing front blocks) (messages_of sealing block)));
+              ∙ sym (map-append item_of (said_behind sealing front blocks) (messages_of_block sealing block)));
           began = subst (λ side. Began (world.stamp.is_date (world.stamp.meaning new.publishing.stamp)) side
               was.history.started)
               (sym adds.side)
@@ -227,7 +228,7 @@ module _ {I P S W Cell : Type 0} (world : World I P S W Cell)
       → KeepsBlocks world new
   keeps_ok may request old new handled keeps ok =
       let next = ok.next in
-      let rises : past ok.block ≤ new.publishing.next = omega (arith, next) in
+      let rises : number_past ok.block ≤ new.publishing.next = omega (arith, next) in
       keeps_added ok.block old new keeps ok.adds (record {
         request = request;
         parent = ok.parent;
@@ -246,9 +247,9 @@ module _ {I P S W Cell : Type 0} (world : World I P S W Cell)
   -- what stands in a block that was cut
   left_cut : (may : Type 0) (request : Envelope) (block : Block) (old new : Parts I P S W)
       → block.parent ≡ request.header → world.stamp.is_date (world.stamp.meaning old.publishing.stamp) block.date ≡ true
-      → IsLeft world may (message_comes old.side request) old new
+      → RequestLeaves world may (message_comes old.side request) old new
       block.publications
-      → IsCut world.language (world.stamp.is_date (world.stamp.meaning old.publishing.stamp)) old.side block
+      → BlockIsCut world.language (world.stamp.is_date (world.stamp.meaning old.publishing.stamp)) old.side block
   left_cut may request block old new parent dated (inl (state, count, none)) =
       no_cut (world.stamp.is_date (world.stamp.meaning old.publishing.stamp)) old.side old.interp request block parent
       dated none
@@ -273,7 +274,7 @@ module _ {I P S W Cell : Type 0} (world : World I P S W Cell)
       → KeepsBlocks world new
   keeps_cut may request old new keeps cut =
       let next = cut.next in
-      let rises : past cut.block ≤ new.publishing.next = omega (arith, next) in
+      let rises : number_past cut.block ≤ new.publishing.next = omega (arith, next) in
       keeps_added cut.block old new keeps cut.adds
       (left_cut may request cut.block old new cut.parent cut.adds.dated cut.left) rises
       (cut_count world on may request old new keeps.counted cut)

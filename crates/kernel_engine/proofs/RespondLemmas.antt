@@ -11,9 +11,9 @@ use Rattle.kernel_engine.specs.declared.does.Look.{Look}
 use Rattle.kernel_engine.specs.declared.does.Order.{Order}
 use Rattle.kernel_engine.specs.declared.does.Order.TheVariants.{GoOn}
 use Rattle.kernel_engine.specs.declared.respond.Answered.{Answered}
-use Rattle.kernel_engine.specs.Answer.{Answer, Answers, Finds}
+use Rattle.kernel_engine.specs.Answer.{Answer, AnswersRequest, Finds}
 use Rattle.kernel_engine.specs.Course.{Course, own}
-use Rattle.kernel_engine.specs.Publications.{Publishes, grown}
+use Rattle.kernel_engine.specs.Publications.{Publishes, count_after}
 use Rattle.kernel_engine.specs.Responds.{ExecutedCut, ExecutedWhole, RespondsCut, RespondsWhole, answer_of}
 
 -- the course of a request that runs no cell
@@ -23,7 +23,7 @@ no_course = record { steps = 0; ending = own }
 -- a request that runs no cell
 pub responds_at_once : {State Cell : Type 0} (m : Meaning State Cell) (does : Does) (may : Type 0) (state : State)
     (count : ℕ) (answer : Answer State) (Grew : List Publication → Type 0) (publications : List Publication)
-    → Publishes m does state count no_course publications → Answers m does state count no_course answer
+    → Publishes m does state count no_course publications → AnswersRequest m does state count no_course answer
     → Grew publications → RespondsWhole m does may state count answer Grew
 responds_at_once m does may state count answer Grew publications publishes answers grew = record {
   course = no_course;
@@ -67,11 +67,11 @@ looked_at_once m look may state count (Err refused) Grew due grew =
 -- a cell is answered, or memory was refused
 pub executed_told : {State Cell : Type 0} (m : Meaning State Cell) (code : List ℕ) (silent counts : Bool)
     (expressions : List (List ℕ × List ℕ)) (may : Type 0) (state after : State) (count left : ℕ)
-    (result : Result Answered AllocError) (Grew : List Publication → Type 0) → left ≡ grown counts count
+    (result : Result Answered AllocError) (Grew : List Publication → Type 0) → left ≡ count_after counts count
     → MatchResult result
     (λ answered. (reply : Reply) × (answered ≡ record { reply = Some reply; order = GoOn })
-    × ExecutedWhole m may silent code expressions (grown counts count) state reply after Grew)
-    (λ _. ExecutedCut m may silent code expressions (grown counts count) state after Grew)
+    × ExecutedWhole m may silent code expressions (count_after counts count) state reply after Grew)
+    (λ _. ExecutedCut m may silent code expressions (count_after counts count) state after Grew)
     → MatchResult result
     (λ answered. RespondsWhole m (Runs code silent counts expressions) may state count
     (answer_of answered after left) Grew)

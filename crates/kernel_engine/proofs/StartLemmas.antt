@@ -8,7 +8,7 @@ use Rattle.kernel_engine.specs.declared.publishing.Publishing.{Publishing}
 use Rattle.kernel_engine.specs.Block.{Sealing, starting}
 use Rattle.kernel_engine.specs.Growth.{item_of, sealing_of}
 use Rattle.kernel_engine.specs.Starts.{SaysNothing, SaysStarting, StartsFirst, StartsLater, StartsNot, StartsRefused}
-use Rattle.kernel_engine.specs.WellBlocked.{Block, KeepsBlocks, Owes, Rise, first_number, front_of, past}
+use Rattle.kernel_engine.specs.WellBlocked.{Block, KeepsBlocks, Owes, Rise, first_number, front_of, number_past}
 use Rattle.kernel_engine.specs.WellBlocked.{said_behind}
 use Rattle.kernel_engine.specs.World.{World}
 use Rattle.kernel_engine.proofs.HandleLemmas.{sealing_by}
@@ -29,7 +29,7 @@ pub first_said : (sealing : Sealing) (started : Option (List ℕ)) (blocks : Lis
     → said_behind sealing (front_of sealing started) blocks ≡ []
 first_said sealing None [] next rise first = refl
 first_said sealing (Some date) [] next rise first = absurd (omega (arith, rise, first))
-first_said sealing started (block ∷ earlier) next (past, rise) first = absurd (omega (arith, past, first))
+first_said sealing started (block ∷ earlier) next (number_past, rise) first = absurd (omega (arith, number_past, first))
 
 -- a history from which a number was given isn't
 pub later_said : (sealing : Sealing) (started : Option (List ℕ)) (blocks : List Block) (next : ℕ)
@@ -43,7 +43,7 @@ later_said sealing started (block ∷ earlier) next rise later none = something 
 no_blocks : (started : Option (List ℕ)) (blocks : List Block) (next : ℕ) → Rise (first_number started) blocks next
     → next ≡ 1 → blocks ≡ []
 no_blocks started [] next rise first = refl
-no_blocks started (block ∷ earlier) next (past, rise) first = absurd (omega (arith, past, first))
+no_blocks started (block ∷ earlier) next (number_past, rise) first = absurd (omega (arith, number_past, first))
 
 -- without a block no idle is owed
 none_owed : {W : Type 0} (sealing : Sealing) (owed : Option (Event W)) → Owes sealing owed [] → owed ≡ None

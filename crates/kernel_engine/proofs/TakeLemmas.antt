@@ -8,7 +8,7 @@ use Rattle.kernel_engine.specs.declared.asked.Unread.{Unread}
 use Rattle.kernel_engine.specs.declared.asked.Unread.TheVariants.{NoRequest, NoMemory}
 use Rattle.kernel_engine.specs.declared.parts.Parts.{Parts}
 use Rattle.kernel_engine.specs.Block.{Message}
-use Rattle.kernel_engine.specs.Takes.{Finishes, GoesUnread, Misses, Takes}
+use Rattle.kernel_engine.specs.Takes.{Finishes, GoesUnread, AreUnread, Takes}
 use Rattle.kernel_engine.specs.World.{World}
 
 -- so it is by what came of it
@@ -22,7 +22,7 @@ taken world may frames asked old (Refused fault) new opened why = inl (asked.req
 
 -- a message that isn't read was taken, and nothing changed
 pub unread_taken : {I P S W Cell : Type 0} (world : World I P S W Cell) (may : Type 0) (frames : Message)
-    (unread : Unread) (engine : Parts I P S W) (done : Done) → Misses engine.publishing.signer frames unread
+    (unread : Unread) (engine : Parts I P S W) (done : Done) → AreUnread engine.publishing.signer frames unread
     → GoesUnread engine unread done → Takes world may frames engine done engine
 unread_taken world may frames NoRequest engine done misses is =
     subst (λ d. Takes world may frames engine d engine) (sym is) (misses, refl)

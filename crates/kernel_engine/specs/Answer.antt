@@ -27,7 +27,7 @@ use Rattle.kernel_engine.specs.declared.does.Look.TheVariants as looks
 use Rattle.kernel_engine.specs.declared.does.Order.{Order}
 use Rattle.kernel_engine.specs.declared.does.Order.TheVariants.{GoOn}
 use Rattle.kernel_engine.specs.Course.{Course, Outcome, TextRuns}
-use Rattle.kernel_engine.specs.Publications.{grown}
+use Rattle.kernel_engine.specs.Publications.{count_after}
 
 -- What a request is answered: the content of its reply, if it has one, the state and the execution count then, and what
 -- the kernel is to do.
@@ -132,17 +132,17 @@ Finds m state (looks.Completeness code) reply =
 
 -- What a request is answered, by what it comes to. The arguments are the same as those of what is published of it
 -- (`Publishes`), and the answer.
-abbrev pub Answers : {State Cell : Type 0} → Meaning State Cell → Does → State → ℕ → Course State
+abbrev pub AnswersRequest : {State Cell : Type 0} → Meaning State Cell → Does → State → ℕ → Course State
     → Answer State → Type 0
-Answers m (Says publication reply order) state count course answer =
+AnswersRequest m (Says publication reply order) state count course answer =
     answer ≡ record { reply = reply; state = state; count = count; order = order }
-Answers m (Looks look) state count course answer =
+AnswersRequest m (Looks look) state count course answer =
     (reply : Reply) × Finds m state look reply × (answer ≡ plain state count (Some reply))
-Answers m (Runs code silent counts expressions) state count course answer =
-    AnswersCell m code expressions (grown counts count) state course answer
-Answers m (Refuses kind ename evalue) state count course answer =
+AnswersRequest m (Runs code silent counts expressions) state count course answer =
+    AnswersCell m code expressions (count_after counts count) state course answer
+AnswersRequest m (Refuses kind ename evalue) state count course answer =
     answer ≡ plain state count (error_reply_to kind count ename evalue)
-Answers m Unread state count course answer = ⊥
+AnswersRequest m Unread state count course answer = ⊥
 
 -- the state after a user expression whose value isn't told: it was evaluated, or it found no memory
 abbrev pub LeavesExpression : {State Cell : Type 0} → Meaning State Cell → State → List ℕ → State → Type 0
@@ -180,12 +180,12 @@ pub record LeavesCell {State Cell : Type 0} (m : Meaning State Cell) (code : Lis
   pub left : LeavesExpressions m expressions outcome at after
 
 -- What a request leaves that wasn't answered for want of memory: a state and an execution count. Only a cell changes
--- them. The arguments are those of `Answers`, with this state and count in place of the answer.
+-- them. The arguments are those of `AnswersRequest`, with this state and count in place of the answer.
 abbrev pub Leaves : {State Cell : Type 0} → Meaning State Cell → Does → State → ℕ → Course State → State → ℕ
     → Type 0
 Leaves m (Says publication reply order) state count course after left = (after ≡ state) × (left ≡ count)
 Leaves m (Looks look) state count course after left = (after ≡ state) × (left ≡ count)
 Leaves m (Runs code silent counts expressions) state count course after left =
-    (left ≡ grown counts count) × LeavesCell m code expressions state course after
+    (left ≡ count_after counts count) × LeavesCell m code expressions state course after
 Leaves m (Refuses kind ename evalue) state count course after left = (after ≡ state) × (left ≡ count)
 Leaves m Unread state count course after left = (after ≡ state) × (left ≡ count)

@@ -8,19 +8,19 @@ use Rattle.kernel_engine.specs.declared.open_block.Begun.{Begun}
 use Rattle.kernel_engine.specs.declared.parts.Parts.{Parts}
 use Rattle.kernel_engine.specs.declared.publishing.Publishing.{Publishing}
 use Rattle.kernel_engine.specs.Handles.{AnswersInBlock, AnswersNot, HandlesNot, HandsBack, Pays}
-use Rattle.kernel_engine.specs.Opens.{Opens}
+use Rattle.kernel_engine.specs.Opens.{OpensBlock}
 use Rattle.kernel_engine.specs.World.{World}
 
 module _ {I P S W Cell : Type 0} (world : World I P S W Cell) where
   -- What was owed is published, and the block of a request is open. In it the request was answered, or memory was
   -- refused meanwhile.
-  pub record Begins (may : Type 0) (asked : Asked) (old : Parts I P S W) (begun : Begun) (new : Parts I P S W)
+  pub record BeginsRequest (may : Type 0) (asked : Asked) (old : Parts I P S W) (begun : Begun) (new : Parts I P S W)
       : Type 0 where
     pub few : old.publishing.next ≤ 2 ^ 62
     pub paid : Parts I P S W
     pub opens : Publishing P S
     pub pays : Pays world.sink old paid
-    pub begins : Opens world.sink world.stamp asked.request.header begun.block.heading begun.block.idle
+    pub begins : OpensBlock world.sink world.stamp asked.request.header begun.block.heading begun.block.idle
         paid.publishing opens
     pub answers : MatchResult begun.answered
         (λ handled. AnswersInBlock world may begun.block.heading asked.request.identities asked.request.msg_type

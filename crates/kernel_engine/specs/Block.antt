@@ -60,14 +60,14 @@ abbrev pub idle : Sealing → Heading → ℕ → Message
 idle sealing heading number = published sealing heading (number + 1) (Status Idle)
 
 -- a block without its idle: busy, and the publications, whose numbers follow that of idle
-abbrev pub opened : Sealing → Heading → ℕ → List Publication → List Message
-opened sealing heading number publications =
+abbrev pub opened_block : Sealing → Heading → ℕ → List Publication → List Message
+opened_block sealing heading number publications =
     busy sealing heading number ∷ published_all sealing heading (number + 2) publications
 
 -- The block of a request: busy, the publications, idle.
 abbrev pub block : Sealing → Heading → ℕ → List Publication → List Message
 block sealing heading number publications =
-    opened sealing heading number publications ++ idle sealing heading number ∷ []
+    opened_block sealing heading number publications ++ idle sealing heading number ∷ []
 
 -- the type of the reply to a type of message; if it has no reply, the empty text
 abbrev pub reply_name : List ℕ → List ℕ

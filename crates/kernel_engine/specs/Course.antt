@@ -73,7 +73,7 @@ module _ {State Cell : Type 0} where
     pub same : after ≡ state
 
   -- a further step was due, and it found no memory
-  pub record IsBrokenOff (m : Meaning State Cell) (state : State) (cell : Cell) (outputs : List Output)
+  pub record CourseIsBrokenOff (m : Meaning State Cell) (state : State) (cell : Cell) (outputs : List Output)
       (outcome : Outcome) (after : State) : Type 0 where
     pub more : 0 < m.steps cell
     pub quiet : outputs ≡ []
@@ -89,7 +89,7 @@ module _ {State Cell : Type 0} where
   Ends m interrupted count state cell outputs outcome after =
       (count ≡ 0) × IsInterrupted m state cell outputs outcome after
   Ends m (memory left) count state cell outputs outcome after =
-      (count ≡ 0) × (left ≡ after) × IsBrokenOff m state cell outputs outcome after
+      (count ≡ 0) × (left ≡ after) × CourseIsBrokenOff m state cell outputs outcome after
 
   -- A cell runs by a course: what it writes, what comes of it, and the state then.
   pub record CellRuns (m : Meaning State Cell) (state : State) (cell : Cell) (course : Course State)
@@ -114,7 +114,7 @@ module _ {State Cell : Type 0} where
     pub outcome_is : outcome ≡ Err fault
 
   -- the text is a cell, which runs
-  pub record Begins (m : Meaning State Cell) (state : State) (code : List ℕ) (course : Course State)
+  pub record BeginsCell (m : Meaning State Cell) (state : State) (code : List ℕ) (course : Course State)
       (outputs : List Output) (outcome : Outcome) (after : State) : Type 0 where
     pub cell : Cell
     pub at : State
@@ -134,7 +134,7 @@ abbrev pub TextRuns : {State Cell : Type 0} → Meaning State Cell → State →
     → State → Type 0
 TextRuns m state code course outputs outcome after =
     IsNoCell m state code course outputs outcome after
-    ⊎ (IsUnread state course outputs outcome after ⊎ Begins m state code course outputs outcome after)
+    ⊎ (IsUnread state course outputs outcome after ⊎ BeginsCell m state code course outputs outcome after)
 
 -- A course may end so. It may end by an interruption only if one may come.
 abbrev pub MayEnd : {State : Type 0} → Type 0 → Ending State → Type 0

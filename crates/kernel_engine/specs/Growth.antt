@@ -23,7 +23,7 @@ sealing_of stamp publishing = record {
 
 -- These publications were published under a heading, with the next numbers. Nothing else changed, and the sink is the
 -- same one. If no number past 2^63 was given before, none is given now.
-pub record Puts {P S W : Type 0} (sink : Sink P (Event W))
+pub record PutsUnder {P S W : Type 0} (sink : Sink P (Event W))
     (stamp : Stamping S) (heading : Heading)
     (old new : Publishing P S) (publications : List Publication) : Type 0 where
   pub items : sink.items new.sink ≡ sink.items old.sink

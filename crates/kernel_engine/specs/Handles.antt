@@ -15,15 +15,15 @@ use Rattle.kernel_engine.specs.declared.response.Response.{Response}
 use Rattle.kernel_engine.specs.declared.heading.Heading.{Heading}
 use Rattle.kernel_engine.specs.declared.parts.Parts.{Parts}
 use Rattle.kernel_engine.specs.declared.publishing.Publishing.{Publishing}
-use Rattle.kernel_engine.specs.Answer.{Answer, Answers, Leaves}
+use Rattle.kernel_engine.specs.Answer.{Answer, AnswersRequest, Leaves}
 use Rattle.kernel_engine.specs.Block.{Message, reply_message}
 use Rattle.kernel_engine.specs.Comes.{message_comes}
 use Rattle.kernel_engine.specs.Course.{Course, MayEnd}
-use Rattle.kernel_engine.specs.Growth.{Puts, item_of, sealing_of}
+use Rattle.kernel_engine.specs.Growth.{PutsUnder, item_of, sealing_of}
 use Rattle.kernel_engine.specs.Opens.{ids_of_reply}
 use Rattle.kernel_engine.specs.Publications.{Publishes}
 use Rattle.kernel_engine.specs.Runs.{MayBeCut}
-use Rattle.kernel_engine.specs.WellBlocked.{Block, heading_of, idle_of, messages_of, past}
+use Rattle.kernel_engine.specs.WellBlocked.{Block, heading_of, idle_of, messages_of_block, number_past}
 use Rattle.kernel_engine.specs.World.{World}
 
 -- what is published of an idle that may be owed: the idle if one is, and else nothing
@@ -79,8 +79,8 @@ module _ {I P S W : Type 0} (sink : Sink P (Event W)) where
 module _ {I P S W Cell : Type 0} (world : World I P S W Cell) where
   -- What a request left of an engine for which memory was refused. Either nothing of the request was done. Or some of
   -- it was, by a course, and these publications are a beginning of what is published of that.
-  abbrev pub IsLeft : Type 0 → Does → Parts I P S W → Parts I P S W → List Publication → Type 0
-  IsLeft may does old new publications =
+  abbrev pub RequestLeaves : Type 0 → Does → Parts I P S W → Parts I P S W → List Publication → Type 0
+  RequestLeaves may does old new publications =
       ((new.interp ≡ old.interp) × (new.count ≡ old.count) × (publications ≡ []))
       ⊎ ((course : Course I) × (whole : List Publication) × (behind : List Publication)
       × Publishes world.language does old.interp old.count course whole
@@ -97,11 +97,11 @@ module _ {I P S W Cell : Type 0} (world : World I P S W Cell) where
     pub reply : Option Reply
     pub publishes : Publishes world.language does old.interp old.count course
         publications
-    pub answers : Answers world.language does old.interp old.count course
+    pub answers : AnswersRequest world.language does old.interp old.count course
         (answer_with handled reply new)
     pub ending : MayEnd may course.ending
     pub at : Publishing P S
-    pub grew : Puts world.sink world.stamp heading old.publishing at publications
+    pub grew : PutsUnder world.sink world.stamp heading old.publishing at publications
     pub replied : handled.reply
         ≡ reply_message (sealing_of world.stamp old.publishing) heading identities at.next msg_type reply
     pub rest : new ≡ record old {
@@ -112,21 +112,21 @@ module _ {I P S W Cell : Type 0} (world : World I P S W Cell) where
     pub few : old.publishing.next ≤ 2 ^ 63 + 1 → new.publishing.next ≤ 2 ^ 63 + 1
 
   -- Memory was refused. A beginning of what is published of a request was published, and the rest of the engine is as
-  -- `IsLeft` says.
+  -- `RequestLeaves` says.
   pub record AnswersNot (may : Type 0) (heading : Heading) (does : Does) (old new : Parts I P S W)
       : Type 0 where
     pub publications : List Publication
-    pub grew : Puts world.sink world.stamp heading old.publishing new.publishing publications
+    pub grew : PutsUnder world.sink world.stamp heading old.publishing new.publishing publications
     pub rest : new ≡ record old { interp = new.interp; count = new.count; publishing = new.publishing }
-    pub left : IsLeft may does old new publications
+    pub left : RequestLeaves may does old new publications
 
   -- What an engine adds to its sink by a block: the idle that was owed, and the block. If the block isn't closed, its
   -- own idle is owed.
-  pub record Adds (block : Block) (old new : Parts I P S W) : Type 0 where
+  pub record AddsBlock (block : Block) (old new : Parts I P S W) : Type 0 where
     pub number : block.number ≡ old.publishing.next
     pub dated : world.stamp.is_date (world.stamp.meaning old.publishing.stamp) block.date ≡ true
     pub items : world.sink.items new.publishing.sink ≡ world.sink.items old.publishing.sink
-        ++ (owed_items old.owed ++ map item_of (messages_of (sealing_of world.stamp old.publishing) block))
+        ++ (owed_items old.owed ++ map item_of (messages_of_block (sealing_of world.stamp old.publishing) block))
     pub owed : ((block.closed ≡ true) × (new.owed ≡ None))
         ⊎ ((block.closed ≡ false)
         × (new.owed ≡ Some (events.Message (idle_of (sealing_of world.stamp old.publishing) block)))
@@ -147,13 +147,13 @@ module _ {I P S W Cell : Type 0} (world : World I P S W Cell) where
     pub parent : block.parent ≡ request.header
     pub publishes : Publishes world.language (message_comes old.side request) old.interp old.count course
         block.publications
-    pub answers : Answers world.language (message_comes old.side request) old.interp old.count course
+    pub answers : AnswersRequest world.language (message_comes old.side request) old.interp old.count course
         (answer_with handled reply new)
     pub ending : MayEnd may course.ending
     pub replied : handled.reply ≡ reply_message (sealing_of world.stamp old.publishing) (heading_of block)
-        request.identities (past block) request.msg_type reply
-    pub adds : Adds block old new
-    pub next : new.publishing.next ≡ past block + ids_of_reply reply
+        request.identities (number_past block) request.msg_type reply
+    pub adds : AddsBlock block old new
+    pub next : new.publishing.next ≡ number_past block + ids_of_reply reply
     pub last : new.publishing.next ≤ 2 ^ 63 + 1
 
   -- Memory was refused, or the sink refused, before anything of a request was published. If an idle was owed it is
@@ -169,14 +169,14 @@ module _ {I P S W Cell : Type 0} (world : World I P S W Cell) where
     pub same : world.sink.is_same old.publishing.sink new.publishing.sink
 
   -- Memory was refused, or the sink refused, while a request was done. A cut block was added, and the engine is as
-  -- `IsLeft` says. No number past 2^63 was given.
+  -- `RequestLeaves` says. No number past 2^63 was given.
   pub record HandlesCut (may : Type 0) (request : Envelope) (old new : Parts I P S W) : Type 0 where
     pub few : old.publishing.next ≤ 2 ^ 62
     pub block : Block
     pub parent : block.parent ≡ request.header
-    pub left : IsLeft may (message_comes old.side request) old new block.publications
-    pub adds : Adds block old new
-    pub next : new.publishing.next ≡ past block
+    pub left : RequestLeaves may (message_comes old.side request) old new block.publications
+    pub adds : AddsBlock block old new
+    pub next : new.publishing.next ≡ number_past block
     pub last : new.publishing.next ≤ 2 ^ 63 + 1
 
   -- An idle is owed, and the sink refused it again. The request comes back, and nothing else changed.

@@ -5,7 +5,7 @@ use Rattle.jmsg_types.specs.declared.publication.Publication.{Publication}
 use Rattle.kernel_engine.specs.declared.does.Does.{Does}
 use Rattle.kernel_engine.specs.Course.{Course}
 use Rattle.kernel_engine.specs.Publications.{Publishes}
-use Rattle.kernel_engine.specs.Answer.{Answer, Answers}
+use Rattle.kernel_engine.specs.Answer.{Answer, AnswersRequest}
 
 -- law: by one course, in one state and at one execution count, there is one list at most of what is published of a
 -- request
@@ -18,4 +18,4 @@ PublishesOnce {State} m =
 abbrev pub AnswersOnce : {State Cell : Type 0} → Meaning State Cell → Type 0
 AnswersOnce {State} m =
     (does : Does) (state : State) (count : ℕ) (course : Course State) (one other : Answer State)
-    → Answers m does state count course one → Answers m does state count course other → one ≡ other
+    → AnswersRequest m does state count course one → AnswersRequest m does state count course other → one ≡ other

@@ -18,7 +18,7 @@ module _ {P S W : Type 0} (sink : Sink P (Event W)) (stamp : Stamping S) where
     pub same : sink.is_same old.sink new.sink
 
   -- A block was opened. Busy was published with a date of the stamp and this parent header, and idle was made ready.
-  pub record Opens (parent : List ℕ) (heading : Heading) (idling : Message) (old new : Publishing P S)
+  pub record OpensBlock (parent : List ℕ) (heading : Heading) (idling : Message) (old new : Publishing P S)
       : Type 0 where
     pub dated : stamp.is_date (stamp.meaning old.stamp) heading.date ≡ true
     pub parent_is : heading.parent ≡ parent
@@ -30,7 +30,7 @@ module _ {P S W : Type 0} (sink : Sink P (Event W)) (stamp : Stamping S) where
     pub same : sink.is_same old.sink new.sink
 
   -- It was published that the kernel starts, with a date of the stamp.
-  pub record Starts (old new : Publishing P S) : Type 0 where
+  pub record PublishesStarting (old new : Publishing P S) : Type 0 where
     pub date : List ℕ
     pub dated : stamp.is_date (stamp.meaning old.stamp) date ≡ true
     pub items : sink.items new.sink

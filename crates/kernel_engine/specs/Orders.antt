@@ -14,12 +14,12 @@ ends Interrupt = None
 ends (End restart) = Some restart
 
 -- what the kernel is to do after a request, by what that comes to
-abbrev pub order_of : Does → Order
-order_of (Says publication reply order) = order
-order_of (Looks look) = GoOn
-order_of (Runs code silent counts expressions) = GoOn
-order_of (Refuses kind ename evalue) = GoOn
-order_of Unread = GoOn
+abbrev pub order_of_request : Does → Order
+order_of_request (Says publication reply order) = order
+order_of_request (Looks look) = GoOn
+order_of_request (Runs code silent counts expressions) = GoOn
+order_of_request (Refuses kind ename evalue) = GoOn
+order_of_request Unread = GoOn
 
 -- whether an order is to end the kernel
 abbrev pub is_end : Order → Bool

@@ -28,8 +28,8 @@ last_of count (Ok (Some text)) = ExecuteResult text count ∷ []
 last_of count (Err fault) = Error (fault_name fault) (fault_value fault) ∷ []
 
 -- the execution count after a cell: one more if the cell is stored in the history, and else the same
-abbrev pub grown : Bool → ℕ → ℕ
-grown store_history count = if store_history then count + 1 else count
+abbrev pub count_after : Bool → ℕ → ℕ
+count_after store_history count = if store_history then count + 1 else count
 
 -- A cell is published with this execution count: first the cell itself, then what it wrote, then what came of it.
 pub record PublishesCell {State Cell : Type 0} (m : Meaning State Cell) (code : List ℕ) (count : ℕ) (state : State)
@@ -54,6 +54,6 @@ Publishes m (Says publication reply order) state count course publications =
     publications ≡ option_to_list publication
 Publishes m (Looks look) state count course publications = publications ≡ []
 Publishes m (Runs code silent counts expressions) state count course publications =
-    PublishesUnless silent m code (grown counts count) state course publications
+    PublishesUnless silent m code (count_after counts count) state course publications
 Publishes m (Refuses kind ename evalue) state count course publications = publications ≡ []
 Publishes m Unread state count course publications = publications ≡ []

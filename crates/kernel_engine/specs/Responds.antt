@@ -5,7 +5,7 @@ use Rattle.jmsg_types.specs.declared.publication.Publication.{Publication}
 use Rattle.jmsg_types.specs.declared.reply.Reply.{Reply}
 use Rattle.kernel_engine.specs.declared.respond.Answered.{Answered}
 use Rattle.kernel_engine.specs.declared.does.Does.{Does}
-use Rattle.kernel_engine.specs.Answer.{Answer, Answers, AnswersCell, Leaves, LeavesCell, plain}
+use Rattle.kernel_engine.specs.Answer.{Answer, AnswersRequest, AnswersCell, Leaves, LeavesCell, plain}
 use Rattle.kernel_engine.specs.Course.{Course, MayEnd}
 use Rattle.kernel_engine.specs.Publications.{Publishes, PublishesUnless}
 use Rattle.kernel_engine.specs.Runs.{MayBeCut}
@@ -51,7 +51,7 @@ pub record RespondsWhole {State Cell : Type 0} (m : Meaning State Cell) (does : 
   pub course : Course State
   pub publications : List Publication
   pub publishes : Publishes m does state count course publications
-  pub answers : Answers m does state count course answer
+  pub answers : AnswersRequest m does state count course answer
   pub ending : MayEnd may course.ending
   pub grew : Grew publications
 

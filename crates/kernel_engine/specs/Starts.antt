@@ -7,7 +7,7 @@ use Rattle.kernel_engine.specs.declared.fault.EngineFault.{EngineFault}
 use Rattle.kernel_engine.specs.declared.fault.EngineFault.TheVariants.{Memory}
 use Rattle.kernel_engine.specs.declared.parts.Parts.{Parts}
 use Rattle.kernel_engine.specs.declared.side.Side.TheVariants.{Shell, Control}
-use Rattle.kernel_engine.specs.Opens.{PublishesNone, Starts}
+use Rattle.kernel_engine.specs.Opens.{PublishesNone, PublishesStarting}
 
 module _ {I P S W : Type 0} (sink : Sink P (Event W))
     (stamp : Stamping S) where
@@ -15,7 +15,7 @@ module _ {I P S W : Type 0} (sink : Sink P (Event W))
   pub record StartsFirst (old new : Parts I P S W) : Type 0 where
     pub shell : old.side ≡ Shell
     pub first : old.publishing.next ≡ 1
-    pub starts : Starts sink stamp old.publishing new.publishing
+    pub starts : PublishesStarting sink stamp old.publishing new.publishing
     pub rest : new ≡ record old { publishing = new.publishing }
 
   -- any other engine does nothing
@@ -35,7 +35,7 @@ module _ {I P S W : Type 0} (sink : Sink P (Event W))
   pub record SaysStarting (old new : Parts I P S W) : Type 0 where
     pub shell : old.side ≡ Shell
     pub first : sink.items old.publishing.sink ≡ []
-    pub starts : Starts sink stamp old.publishing new.publishing
+    pub starts : PublishesStarting sink stamp old.publishing new.publishing
     pub rest : new ≡ record old { publishing = new.publishing }
 
   -- any other engine does nothing

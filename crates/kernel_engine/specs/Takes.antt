@@ -28,9 +28,9 @@ pub record Asks (key : List ℕ) (side : Side) (frames : Message) (asked : Asked
   pub does : IsRead asked.does (message_comes side asked.request)
 
 -- why the frames aren't read
-abbrev pub Misses : List ℕ → Message → Unread → Type 0
-Misses key frames NoRequest = IsNoRequest key frames
-Misses key frames NoMemory = ⊤
+abbrev pub AreUnread : List ℕ → Message → Unread → Type 0
+AreUnread key frames NoRequest = IsNoRequest key frames
+AreUnread key frames NoMemory = ⊤
 
 -- All ids were given. If a message isn't read for want of memory that is its fault then, and nothing changes.
 pub record IsWornOut {I P S W : Type 0} (old : Parts I P S W) (fault : EngineFault) (new : Parts I P S W) : Type 0 where

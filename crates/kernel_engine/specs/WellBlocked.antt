@@ -12,7 +12,7 @@ use Rattle.kernel_engine.specs.declared.parts.Parts.{Parts}
 use Rattle.kernel_engine.specs.declared.side.Side.{Side}
 use Rattle.kernel_engine.specs.declared.side.Side.TheVariants.{Shell}
 use Rattle.kernel_engine.specs.Comes.{message_comes}
-use Rattle.kernel_engine.specs.Block.{Message, Sealing, idle, opened, starting}
+use Rattle.kernel_engine.specs.Block.{Message, Sealing, idle, opened_block, starting}
 use Rattle.kernel_engine.specs.Course.{Course}
 use Rattle.kernel_engine.specs.Growth.{item_of, sealing_of}
 use Rattle.kernel_engine.specs.Publications.{Publishes}
@@ -32,8 +32,8 @@ abbrev pub heading_of : Block → Heading
 heading_of block = record { date = block.date; parent = block.parent }
 
 -- the number that follows those of a block: busy and idle have one each, and so has each publication
-abbrev pub past : Block → ℕ
-past block = block.number + 2 + length block.publications
+abbrev pub number_past : Block → ℕ
+number_past block = block.number + 2 + length block.publications
 
 -- the idle of a block
 abbrev pub idle_of : Sealing → Block → Message
@@ -45,8 +45,8 @@ where_published true message = message ∷ []
 where_published false message = []
 
 -- the messages of a block that were published
-abbrev pub messages_of : Sealing → Block → List Message
-messages_of sealing block = opened sealing (heading_of block) block.number block.publications
+abbrev pub messages_of_block : Sealing → Block → List Message
+messages_of_block sealing block = opened_block sealing (heading_of block) block.number block.publications
     ++ where_published block.closed (idle_of sealing block)
 
 -- What was published: the date under which the kernel said that it starts, if it said so, and the blocks, the latest
@@ -63,11 +63,11 @@ front_of sealing (Some date) = starting sealing date ∷ []
 -- some messages, and after them those of blocks, the latest of which is listed first
 abbrev pub said_behind : Sealing → List Message → List Block → List Message
 said_behind sealing front [] = front
-said_behind sealing front (block ∷ earlier) = said_behind sealing front earlier ++ messages_of sealing block
+said_behind sealing front (block ∷ earlier) = said_behind sealing front earlier ++ messages_of_block sealing block
 
 -- all messages that were published
-abbrev pub said : Sealing → History → List Message
-said sealing history = said_behind sealing (front_of sealing history.started) history.blocks
+abbrev pub messages_said : Sealing → History → List Message
+messages_said sealing history = said_behind sealing (front_of sealing history.started) history.blocks
 
 -- the first number of the blocks: 1, or 2 if the message that the kernel starts has the first
 abbrev pub first_number : Option (List ℕ) → ℕ
@@ -77,7 +77,7 @@ first_number (Some date) = 2
 -- the numbers rise from block to block, up to the next one
 abbrev pub Rise : ℕ → List Block → ℕ → Type 0
 Rise first [] next = next ≡ first
-Rise first (block ∷ earlier) next = (past block ≤ next) × Rise first earlier block.number
+Rise first (block ∷ earlier) next = (number_past block ≤ next) × Rise first earlier block.number
 
 -- the idle of each block was published
 abbrev pub AreClosed : List Block → Type 0
@@ -98,7 +98,8 @@ Began is_date side (Some date) = (side ≡ Shell) × (is_date date ≡ true)
 
 -- A block holds a beginning of what is published of a message on a channel, in some state and by some course. The
 -- block's parent is the header of that message, and its date is one of the stamp.
-pub record IsCut {State Cell : Type 0} (m : Meaning State Cell) (is_date : List ℕ → Bool) (side : Side) (block : Block)
+pub record BlockIsCut {State Cell : Type 0} (m : Meaning State Cell) (is_date : List ℕ → Bool) (side : Side)
+    (block : Block)
     : Type 0 where
   pub request : Envelope
   pub parent : block.parent ≡ request.header
@@ -114,7 +115,7 @@ pub record IsCut {State Cell : Type 0} (m : Meaning State Cell) (is_date : List 
 -- each of the blocks holds such a beginning
 abbrev pub AreCuts : {State Cell : Type 0} → Meaning State Cell → (List ℕ → Bool) → Side → List Block → Type 0
 AreCuts m is_date side [] = ⊤
-AreCuts m is_date side (block ∷ earlier) = IsCut m is_date side block × AreCuts m is_date side earlier
+AreCuts m is_date side (block ∷ earlier) = BlockIsCut m is_date side block × AreCuts m is_date side earlier
 
 -- All that was published on a channel is well blocked ('Messaging in Jupyter' 5.3, "Kernel status"). First comes that
 -- the kernel starts, if it said so, and then one block after the other. Each goes from busy to idle, and holds a
@@ -123,7 +124,7 @@ AreCuts m is_date side (block ∷ earlier) = IsCut m is_date side block × AreCu
 pub record IsWellBlocked {State Cell W : Type 0} (m : Meaning State Cell) (is_date : List ℕ → Bool) (side : Side)
     (sealing : Sealing) (next : ℕ) (owed : Option (Event W)) (items : List (Option (Event W))) : Type 0 where
   pub history : History
-  pub items_are : items ≡ map item_of (said sealing history)
+  pub items_are : items ≡ map item_of (messages_said sealing history)
   pub began : Began is_date side history.started
   pub cuts : AreCuts m is_date side history.blocks
   pub rise : Rise (first_number history.started) history.blocks next

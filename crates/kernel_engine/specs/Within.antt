@@ -7,8 +7,8 @@ use Rattle.kernel_engine.specs.World.{World}
 
 module _ {I P S W Cell : Type 0} where
   -- the parts of an engine
-  abbrev pub parts_of : engine.Inside I P S W Cell → Parts I P S W
-  parts_of engine = engine.parts
+  abbrev pub parts_of_engine : engine.Inside I P S W Cell → Parts I P S W
+  parts_of_engine engine = engine.parts
 
   -- what is always true of the parts of an engine
   abbrev pub IsSound : World I P S W Cell → engine.Inside I P S W Cell → Type 0

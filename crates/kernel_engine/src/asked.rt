@@ -1,7 +1,7 @@
 //! Messages that an engine reads, and what comes of them.
 
 ghost use Rattle.std.specs.Prelude.{◌≡◌, is_some};
-ghost use Rattle.kernel_engine.specs.Orders.{ends, is_interrupt, order_of};
+ghost use Rattle.kernel_engine.specs.Orders.{ends, is_interrupt, order_of_request};
 
 use crate::does::{Does, Order};
 use crate::fault::EngineFault;
@@ -22,7 +22,7 @@ pub struct Asked {
 impl Asked {
     /// Whether it ends the kernel.
     pub fn ends(&self) -> bool
-        ensures { result ≡ is_some (ends (order_of self.now.does)) }
+        ensures { result ≡ is_some (ends (order_of_request self.now.does)) }
     {
         matches!(
             &self.does,
@@ -35,7 +35,7 @@ impl Asked {
 
     /// Whether it asks for the cell that runs to be interrupted.
     pub fn interrupts(&self) -> bool
-        ensures { result ≡ is_interrupt (order_of self.now.does) }
+        ensures { result ≡ is_interrupt (order_of_request self.now.does) }
     {
         matches!(
             &self.does,

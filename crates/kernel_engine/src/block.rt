@@ -6,7 +6,7 @@ ghost use Rattle.jmsg_types.specs.Reply.{reply_data};
 ghost use Rattle.jmsg_types.specs.declared.publication.Publication.TheVariants.{Status};
 ghost use Rattle.kernel_engine.specs.Block.{busy, idle, published, reply_message};
 ghost use Rattle.kernel_engine.specs.Growth.{sealing_of};
-ghost use Rattle.kernel_engine.specs.Opens.{Opens, PublishesNone, Starts, ids_of_reply};
+ghost use Rattle.kernel_engine.specs.Opens.{OpensBlock, PublishesNone, PublishesStarting, ids_of_reply};
 
 use crate::heading::Heading;
 use crate::open_block::OpenBlock;
@@ -85,7 +85,7 @@ impl<P, S: Stamp> Publishing<P, S> {
         P: Publish<Item = Event<W>>,
         requires { self.old.next < 2 ^ 63 }
         ensures { MatchResult result
-            (λ block. Opens P.sink S.stamp header block.heading block.idle self.old self.new
+            (λ block. OpensBlock P.sink S.stamp header block.heading block.idle self.old self.new
             × (block.silent ≡ silent))
             (λ _. PublishesNone P.sink S.stamp self.old self.new) }
     {
@@ -122,7 +122,7 @@ impl<P, S: Stamp> Publishing<P, S> {
         P: Publish<Item = Event<W>>,
         requires { self.old.next ≡ 1 }
         ensures { MatchResult result
-            (λ _. Starts P.sink S.stamp self.old self.new)
+            (λ _. PublishesStarting P.sink S.stamp self.old self.new)
             (λ _. PublishesNone P.sink S.stamp self.old self.new) }
     {
         let parent = Octets::new(Vec::from_slice(alloc, b"{}")?);

@@ -5,7 +5,7 @@ ghost use Rattle.interp_core.specs.Fault.{fault_name, fault_value};
 ghost use Rattle.interp_core.specs.declared.answer.Next.TheVariants.{More};
 ghost use Rattle.jmsg_types.specs.declared.publication.Publication.TheVariants.{Error, ExecuteInput};
 ghost use Rattle.kernel_engine.specs.Course.{CellRuns, IsOutcome, TextRuns};
-ghost use Rattle.kernel_engine.specs.Growth.{Puts, unless_silent};
+ghost use Rattle.kernel_engine.specs.Growth.{PutsUnder, unless_silent};
 ghost use Rattle.kernel_engine.specs.Publications.{last_of};
 ghost use Rattle.kernel_engine.specs.Runs.{RunsCut, RunsWhole, TellsCut, TellsWhole, Underway, failure_of};
 
@@ -49,7 +49,7 @@ fn run_one<I: Interpreter, P, S: Stamp, T: Stop, W: Drop>(
 where
     P: Publish<Item = Event<W>>,
     requires { 0 < I.meaning.steps cell.old }
-    ensures ran { let grew = Puts P.sink S.stamp block.now.heading publishing.old publishing.new in
+    ensures ran { let grew = PutsUnder P.sink S.stamp block.now.heading publishing.old publishing.new in
         let runs = CellRuns I.meaning interp.old cell.old in
         MatchResult result
         (λ ended. MatchOption ended (Underway I.meaning interp.old cell.old interp.new cell.new grew block.now.silent)
@@ -76,7 +76,7 @@ fn run_steps<I: Interpreter, P, S: Stamp, T: Stop, W: Drop>(
 ) -> Result<Outcome, AllocError>
 where
     P: Publish<Item = Event<W>>,
-    ensures { let grew = Puts P.sink S.stamp block.now.heading publishing.old publishing.new in
+    ensures { let grew = PutsUnder P.sink S.stamp block.now.heading publishing.old publishing.new in
         let runs = CellRuns I.meaning interp.old cell in
         MatchResult result (λ outcome. RunsWhole runs (T.may_ask stop.now) outcome interp.new grew block.now.silent)
         (λ _. RunsCut runs interp.new grew block.now.silent) }
@@ -102,7 +102,7 @@ fn run_text<I: Interpreter, P, S: Stamp, T: Stop, W: Drop>(
 ) -> Result<Outcome, AllocError>
 where
     P: Publish<Item = Event<W>>,
-    ensures { let grew = Puts P.sink S.stamp block.now.heading publishing.old publishing.new in
+    ensures { let grew = PutsUnder P.sink S.stamp block.now.heading publishing.old publishing.new in
         let runs = TextRuns I.meaning interp.old code.now in
         MatchResult result (λ outcome. RunsWhole runs (T.may_ask stop.now) outcome interp.new grew block.now.silent)
         (λ _. RunsCut runs interp.new grew block.now.silent) }
@@ -122,7 +122,7 @@ fn put_failure<P, S: Stamp, W: Drop>(
 ) -> Result<(), AllocError>
 where
     P: Publish<Item = Event<W>>,
-    ensures { let grew = Puts P.sink S.stamp block.now.heading publishing.old publishing.new in
+    ensures { let grew = PutsUnder P.sink S.stamp block.now.heading publishing.old publishing.new in
         let error = Error (fault_name fault.now) (fault_value fault.now) in
         MatchResult result (λ _. grew (unless_silent block.now.silent (error ∷ []))) (λ _. grew []) }
 {
@@ -141,7 +141,7 @@ fn put_last<P, S: Stamp, W: Drop>(
 ) -> Result<Option<InterpFault>, AllocError>
 where
     P: Publish<Item = Event<W>>,
-    ensures { let grew = Puts P.sink S.stamp block.now.heading publishing.old publishing.new in
+    ensures { let grew = PutsUnder P.sink S.stamp block.now.heading publishing.old publishing.new in
         MatchResult result
         (λ failure. (failure ≡ failure_of outcome) × grew (unless_silent block.now.silent (last_of count outcome)))
         (λ _. grew []) }
@@ -182,7 +182,7 @@ fn put_input<P, S: Stamp, W: Drop>(
 ) -> Result<(), AllocError>
 where
     P: Publish<Item = Event<W>>,
-    ensures { let grew = Puts P.sink S.stamp block.now.heading publishing.old publishing.new in
+    ensures { let grew = PutsUnder P.sink S.stamp block.now.heading publishing.old publishing.new in
         MatchResult result (λ _. grew (unless_silent block.now.silent (ExecuteInput code.now count ∷ [])))
         (λ _. grew []) }
 {
@@ -205,7 +205,7 @@ where
         stop: &T,
         code: &str,
     ) -> Result<Option<InterpFault>, AllocError>
-        ensures ran { let grew = Puts P.sink S.stamp block.now.heading self.old.publishing self.new.publishing in
+        ensures ran { let grew = PutsUnder P.sink S.stamp block.now.heading self.old.publishing self.new.publishing in
             let runs = TextRuns I.meaning self.old.interp code.now in
             let may = T.may_ask stop.now in
             let count = self.old.count in

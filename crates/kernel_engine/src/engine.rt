@@ -6,7 +6,7 @@ ghost use Rattle.kernel_engine.specs.declared.response.Response.{Response};
 ghost use Rattle.kernel_engine.specs.Handles.{HandlesErr, HandlesOk, Pays, PaysNot};
 ghost use Rattle.kernel_engine.specs.Last.{HandlesLast, HandlesLastErr};
 ghost use Rattle.kernel_engine.specs.Orders.{handled_of};
-ghost use Rattle.kernel_engine.specs.Takes.{Asks, Finishes, GoesUnread, Misses, Takes};
+ghost use Rattle.kernel_engine.specs.Takes.{Asks, Finishes, GoesUnread, AreUnread, Takes};
 ghost use Rattle.kernel_engine.specs.Starts.{SaysNothing, SaysStarting, StartsNot};
 ghost use Rattle.kernel_engine.specs.World.{world_of};
 
@@ -48,10 +48,10 @@ where
 
     ghost Value = { Parts I P S W };
 
-    ghost use Rattle.kernel_engine.specs.Within.{parts_of, IsSound};
+    ghost use Rattle.kernel_engine.specs.Within.{parts_of_engine, IsSound};
     ghost use Rattle.kernel_engine.specs.World.{world_of};
 
-    ghost view = { parts_of };
+    ghost view = { parts_of_engine };
 
     ghost invariant = { IsSound (world_of I.meaning P.sink S.stamp) };
 }
@@ -109,7 +109,7 @@ where
     /// `NoRequest` if they are none, and `NoMemory` if memory was refused.
     pub fn read(&self, alloc: Global, frames: Frames) -> Result<Asked, Unread>
         ensures { MatchResult result (Asks self.now.publishing.signer self.now.side frames)
-            (Misses self.now.publishing.signer frames) }
+            (AreUnread self.now.publishing.signer frames) }
     {
         let request = match open_envelope(alloc, self.signer(), frames.into_vec()) {
             Ok(request) => request,

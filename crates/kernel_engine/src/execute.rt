@@ -3,7 +3,7 @@
 ghost use Rattle.std.specs.Prelude.{◌≡◌, IfOk, MatchResult};
 ghost use Rattle.interp_core.specs.Fault.{fault_name, fault_value};
 ghost use Rattle.jmsg_types.specs.declared.reply.Reply.TheVariants.{ExecuteError};
-ghost use Rattle.kernel_engine.specs.Growth.{Puts};
+ghost use Rattle.kernel_engine.specs.Growth.{PutsUnder};
 ghost use Rattle.kernel_engine.specs.Responds.{ExecutedCut, ExecutedWhole};
 
 use crate::expressions::evaluate_all;
@@ -33,7 +33,7 @@ where
         code: Text,
         expressions: Row<(Text, Text)>,
     ) -> Result<Reply, AllocError>
-        ensures ran { let grew = Puts P.sink S.stamp block.now.heading self.old.publishing self.new.publishing in
+        ensures ran { let grew = PutsUnder P.sink S.stamp block.now.heading self.old.publishing self.new.publishing in
             let may = T.may_ask stop.now in
             let silent = block.now.silent in
             let count = self.old.count in

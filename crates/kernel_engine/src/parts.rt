@@ -2,7 +2,7 @@
 
 ghost use Rattle.std.specs.Prelude.{◌≡◌, ◌⊎◌, ◌≤◌, ◌<◌, ◌^◌, None, OnErr, OnOk, MatchBool, MatchResult};
 ghost use Rattle.kernel_engine.specs.declared.fault.EngineFault.TheVariants.{Memory};
-ghost use Rattle.kernel_engine.specs.Begins.{Begins, BeginsNot};
+ghost use Rattle.kernel_engine.specs.Begins.{BeginsRequest, BeginsNot};
 ghost use Rattle.kernel_engine.specs.Comes.{IsRead, is_silent, message_comes};
 ghost use Rattle.kernel_engine.specs.Handles.{AnswersInBlock, AnswersNot, Closes, HandlesErr};
 ghost use Rattle.kernel_engine.specs.Handles.{HandlesOk, LeavesOpen, Pays, PaysNot};
@@ -182,7 +182,7 @@ where
         ensures begun { let world = world_of I.meaning P.sink S.stamp in
             let may = T.may_ask stop.now in
             MatchResult result
-            (λ begun. Begins world may asked self.old begun self.new)
+            (λ begun. BeginsRequest world may asked self.old begun self.new)
             (λ fault. BeginsNot world asked.request self.old fault self.new) }
         ensures owed { OnOk result (self.new.owed ≡ None) }
         ensures counted { OnErr result (self.new.count ≤ self.new.publishing.next) }

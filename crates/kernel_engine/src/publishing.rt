@@ -5,7 +5,7 @@ ghost use Rattle.jmsg_envelope.specs.Header.{header_octets};
 ghost use Rattle.kernel_engine.specs.Block.{empty_object, message, published};
 ghost use Rattle.jmsg_types.specs.Publication.{publication_data, topic};
 ghost use Rattle.serde_json.specs.Written.{compact_text};
-ghost use Rattle.kernel_engine.specs.Growth.{InFront, Puts, sealing_of, unless_silent};
+ghost use Rattle.kernel_engine.specs.Growth.{InFront, PutsUnder, sealing_of, unless_silent};
 ghost use Rattle.kernel_engine.specs.Publications.{publication_of};
 
 use crate::heading::Heading;
@@ -58,7 +58,7 @@ impl<P, S: Stamp> Publishing<P, S> {
     ) -> Result<(), AllocError>
     where
         P: Publish<Item = Event<W>>,
-        ensures { let grew = Puts P.sink S.stamp block.now.heading self.old self.new in
+        ensures { let grew = PutsUnder P.sink S.stamp block.now.heading self.old self.new in
             MatchResult result (λ _. grew (unless_silent block.now.silent (publication ∷ []))) (λ _. grew []) }
     {
         if block.silent {
@@ -81,7 +81,7 @@ impl<P, S: Stamp> Publishing<P, S> {
     ) -> Result<(), AllocError>
     where
         P: Publish<Item = Event<W>>,
-        ensures { let grew = Puts P.sink S.stamp heading.now self.old self.new in
+        ensures { let grew = PutsUnder P.sink S.stamp heading.now self.old self.new in
             MatchResult result (λ _. grew (publication ∷ [])) (λ _. grew []) }
     {
         if self.next > LAST_NUMBER {
@@ -115,7 +115,7 @@ impl<P, S: Stamp> Publishing<P, S> {
     ) -> Result<(), AllocError>
     where
         P: Publish<Item = Event<W>>,
-        ensures { let grew = Puts P.sink S.stamp block.now.heading self.old self.new in
+        ensures { let grew = PutsUnder P.sink S.stamp block.now.heading self.old self.new in
             MatchResult result (λ _. grew (unless_silent block.now.silent (map publication_of outputs)))
             (λ _. InFront grew block.now.silent (map publication_of outputs)) }
     {

@@ -13,8 +13,8 @@ ghost use Rattle.jmsg_types.specs.Fault.{IsAnswerOrMemory, refusal_of};
 ghost use Rattle.kernel_engine.specs.Answer.{Finds, completeness_reply, completion_reply, error_reply_to, info_reply};
 ghost use Rattle.kernel_engine.specs.Answer.{reply_by, verdict_of};
 ghost use Rattle.kernel_engine.specs.Comes.{asked_of, comes_by, has_meaning, is_silent, refused};
-ghost use Rattle.kernel_engine.specs.Growth.{Puts};
-ghost use Rattle.kernel_engine.specs.Publications.{grown};
+ghost use Rattle.kernel_engine.specs.Growth.{PutsUnder};
+ghost use Rattle.kernel_engine.specs.Publications.{count_after};
 ghost use Rattle.kernel_engine.specs.Responds.{ExecutedCut, ExecutedWhole};
 ghost use Rattle.kernel_engine.specs.Responds.{RespondsCut, RespondsWhole, answer_of};
 
@@ -163,7 +163,8 @@ where
     ) -> Result<Answered, AllocError>
         requires few { self.old.count < 2 ^ 63 }
         requires silent { block.now.silent ≡ is_silent does }
-        ensures responds { let grew = Puts P.sink S.stamp block.now.heading self.old.publishing self.new.publishing in
+        ensures responds { let grew =
+            PutsUnder P.sink S.stamp block.now.heading self.old.publishing self.new.publishing in
             let may = T.may_ask stop.now in
             MatchResult result
             (λ answered. RespondsWhole I.meaning does may self.old.interp self.old.count
@@ -215,17 +216,17 @@ where
         expressions: Row<(Text, Text)>,
     ) -> Result<Answered, AllocError>
         requires { self.old.count < 2 ^ 63 }
-        ensures ran { let grew = Puts P.sink S.stamp block.now.heading self.old.publishing self.new.publishing in
+        ensures ran { let grew = PutsUnder P.sink S.stamp block.now.heading self.old.publishing self.new.publishing in
             let may = T.may_ask stop.now in
             let silent = block.now.silent in
-            let count = grown counts self.old.count in
+            let count = count_after counts self.old.count in
             MatchResult result
             (λ answered. (reply : Reply) × (answered ≡ record { reply = Some reply; order = Order.GoOn })
             × ExecutedWhole I.meaning may silent code expressions count self.old.interp reply self.new.interp grew)
             (λ _. ExecutedCut I.meaning may silent code expressions count self.old.interp self.new.interp grew) }
         ensures rest { self.new ≡ record self.old {
           interp = self.new.interp;
-          count = grown counts self.old.count;
+          count = count_after counts self.old.count;
           publishing = self.new.publishing;
         } }
     {
@@ -239,7 +240,7 @@ where
     /// Counts a cell that is stored.
     fn grow(&mut self, counts: bool)
         requires { self.old.count < 2 ^ 63 }
-        ensures { self.new ≡ record self.old { count = grown counts self.old.count } }
+        ensures { self.new ≡ record self.old { count = count_after counts self.old.count } }
     {
         if counts {
             self.count += 1;
@@ -258,7 +259,7 @@ fn say<P, S: Stamp, W: Drop>(
 ) -> Result<Answered, AllocError>
 where
     P: Publish<Item = Event<W>>,
-    ensures { let grew = Puts P.sink S.stamp heading.now publishing.old publishing.new in
+    ensures { let grew = PutsUnder P.sink S.stamp heading.now publishing.old publishing.new in
         MatchResult result
         (λ answered. (answered ≡ record { reply = reply; order = order }) × grew (option_to_list publication))
         (λ _. grew []) }
@@ -279,7 +280,7 @@ fn publish<P, S: Stamp, W: Drop>(
 ) -> Result<(), AllocError>
 where
     P: Publish<Item = Event<W>>,
-    ensures { let grew = Puts P.sink S.stamp heading.now publishing.old publishing.new in
+    ensures { let grew = PutsUnder P.sink S.stamp heading.now publishing.old publishing.new in
         MatchResult result (λ _. grew (option_to_list publication)) (λ _. grew []) }
 {
     match publication {

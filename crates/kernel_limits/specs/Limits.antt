@@ -25,8 +25,8 @@ abbrev pub capped : ℕ → ℕ
 capped n = min n 18446744073709551615
 
 -- what is left now of a span of time that began then
-abbrev pub left_of : ℕ → ℕ → ℕ → ℕ
-left_of began millis now = capped (began + millis) - now
+abbrev pub left_of_span : ℕ → ℕ → ℕ → ℕ
+left_of_span began millis now = capped (began + millis) - now
 
 -- the relay waits for a slow subscriber, unless it is 300 ms or more since the kernel was to end
 abbrev pub waits_on : Option ℕ → ℕ → Bool
@@ -54,8 +54,8 @@ abbrev pub share_excess : ℕ → ℕ
 share_excess kept = kept - 65536
 
 -- the pace of a subscriber that took so many octets more; once it has taken 64 KiB its time begins anew
-abbrev pub taking : Pace → ℕ → ℕ → Pace
-taking pace count now =
+abbrev pub pace_after : Pace → ℕ → ℕ → Pace
+pace_after pace count now =
     if nat_lt (pace.taken + count) 65536 then record pace { taken = pace.taken + count }
     else record pace { since = now; taken = 0 }
 
@@ -110,8 +110,8 @@ abbrev pub shaking : ℕ → Meter
 shaking now = record { most = 65536; held = 0; since = Some now }
 
 -- the meter of a connection whose messages may have so many octets; nothing of it is unfinished
-abbrev pub opened : ℕ → Meter
-opened most = record { most = most; held = 0; since = None }
+abbrev pub opened_meter : ℕ → Meter
+opened_meter most = record { most = most; held = 0; since = None }
 
 -- when something began: at that time, or now if nothing had begun
 abbrev pub since_or : Option ℕ → ℕ → ℕ
@@ -119,9 +119,9 @@ since_or (Some since) now = since
 since_or None now = now
 
 -- how much is left of the 30 seconds for what is unfinished, if something is
-abbrev pub left_by : Option ℕ → ℕ → Option ℕ
-left_by (Some since) now = Some (left_of since 30000 now)
-left_by None now = None
+abbrev pub left_for_unfinished : Option ℕ → ℕ → Option ℕ
+left_for_unfinished (Some since) now = Some (left_of_span since 30000 now)
+left_for_unfinished None now = None
 
 -- the meter after so many octets more were read
 abbrev pub reading : Meter → ℕ → ℕ → Meter
@@ -146,7 +146,7 @@ resumed meter now = record meter { since = since_now meter.since now }
 -- were read, they are what is unfinished, from now on.
 abbrev pub finished : Meter → ℕ → ℕ → Meter
 finished meter octets now =
-    if nat_le (meter.held - octets) 448 then opened meter.most
+    if nat_le (meter.held - octets) 448 then opened_meter meter.most
     else record { most = meter.most; held = meter.held - octets; since = Some now }
 
 -- how much is unfinished beyond 64 KiB
@@ -163,8 +163,8 @@ ends_so end text = bytes_eq (drop (length text - length end) text) end
 
 -- A type of message that clients send and the kernel doesn't. That is each request but the one on stdin, and two types
 -- of a comm's messages.
-abbrev pub is_asked : List ℕ → Bool
-is_asked kind =
+abbrev pub is_sent_by_clients : List ℕ → Bool
+is_sent_by_clients kind =
     (ends_so (codes "_request") kind && not (bytes_eq kind (codes "input_request")))
     || bytes_eq kind (codes "comm_open") || bytes_eq kind (codes "comm_msg")
 

@@ -1,13 +1,13 @@
 //! How long it is waited once a kernel is to end.
 
 ghost use Rattle.std.specs.Prelude.{◌≡◌};
-ghost use Rattle.kernel_limits.specs.Limits.{left_of, waits_on};
+ghost use Rattle.kernel_limits.specs.Limits.{left_of_span, waits_on};
 
 use crate::limits::END_WAIT_MILLIS;
 
 /// How many milliseconds are left of so many that began then.
 pub fn grace_left(began: u64, millis: u64, now: u64) -> u64
-    ensures { result ≡ left_of began millis now }
+    ensures { result ≡ left_of_span began millis now }
 {
     began.saturating_add(millis).saturating_sub(now)
 }

@@ -2,7 +2,7 @@
 
 ghost use Rattle.std.specs.Prelude.{◌≡◌, ◌++◌, ◌-◌, ◌<◌, ◌≤◌, ◌↔◌, [], length, take, IfNone, IfOk, IfErr, IfSome};
 ghost use Rattle.std.specs.Prelude.{IsTrue, OnOk};
-ghost use Rattle.kernel_limits.specs.Kept.{joined, AreSome};
+ghost use Rattle.kernel_limits.specs.Kept.{joined_chunks, AreSome};
 
 use std::alloc::{AllocError, Global};
 use std::collections::VecDeque;
@@ -27,11 +27,11 @@ pub struct Kept {
 
 impl Model for Kept {
     ghost use Rattle.std.specs.Prelude.{ℕ, List};
-    ghost use Rattle.kernel_limits.specs.Kept.{joined, IsKept};
+    ghost use Rattle.kernel_limits.specs.Kept.{joined_chunks, IsKept};
 
     ghost Value = { List ℕ };
 
-    ghost view = { λ kept. joined kept.full.items kept.last.items };
+    ghost view = { λ kept. joined_chunks kept.full.items kept.last.items };
 
     ghost invariant = { λ kept. IsKept kept.len kept.full.items kept.last.items };
 }
@@ -111,7 +111,7 @@ fn turn_over(
     full: &mut VecDeque<Vec<u8>>,
     last: &mut Vec<u8>,
 ) -> Result<(), AllocError>
-    ensures same { joined full.new.items last.new.items ≡ joined full.old.items last.old.items }
+    ensures same { joined_chunks full.new.items last.new.items ≡ joined_chunks full.old.items last.old.items }
     ensures room { OnOk result (length last.new.items < CHUNK) }
     ensures some { AreSome full.old.items → AreSome full.new.items }
 {

@@ -16,7 +16,7 @@ mod share;
 mod topic_count;
 mod unfinished;
 
-pub use asking::is_asked;
+pub use asking::is_sent_by_clients;
 pub use credit::may_read;
 pub use grace::{grace_left, waits_on};
 pub use handover::{Claim, Holder, is_awaited, takes_over};

@@ -1,7 +1,8 @@
 //! What a connection may still read of a handshake or a message, and until when.
 
 ghost use Rattle.std.specs.Prelude.{◌≡◌, ◌-◌};
-ghost use Rattle.kernel_limits.specs.Limits.{excess_of, finished, left_by, opened, reading, resumed, shaking};
+ghost use Rattle.kernel_limits.specs.Limits.{excess_of, finished, left_for_unfinished, opened_meter, reading, resumed};
+ghost use Rattle.kernel_limits.specs.Limits.{shaking};
 
 use crate::limits::{HANDSHAKE_OCTETS, SMALL_OCTETS, SPELLING_OCTETS, UNFINISHED_MILLIS};
 
@@ -30,7 +31,7 @@ impl Meter {
 
     /// Hands were shaken: from now on each message may have so many octets.
     pub fn open(&mut self, most: usize)
-        ensures { self.new ≡ opened most }
+        ensures { self.new ≡ opened_meter most }
     {
         *self = Meter {
             most,
@@ -48,7 +49,7 @@ impl Meter {
 
     /// For how many milliseconds it may be read on: any number if nothing is unfinished.
     pub fn left(&self, now: u64) -> Option<u64>
-        ensures { result ≡ left_by self.now.since now }
+        ensures { result ≡ left_for_unfinished self.now.since now }
     {
         match self.since {
             Some(since) => Some(since.saturating_add(UNFINISHED_MILLIS).saturating_sub(now)),

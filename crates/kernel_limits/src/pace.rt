@@ -1,7 +1,7 @@
 //! Whether a subscriber keeps the least pace, and for how long that is looked at.
 
 ghost use Rattle.std.specs.Prelude.{◌≡◌};
-ghost use Rattle.kernel_limits.specs.Limits.{grace_of, is_slow, taking, wasted_by, wasting};
+ghost use Rattle.kernel_limits.specs.Limits.{grace_of, is_slow, pace_after, wasted_by, wasting};
 
 use crate::limits::{LEAST_PACE_MILLIS, PACE_MILLIS, PACE_OCTETS, STEADY_MILLIS, WASTE_MILLIS};
 
@@ -30,7 +30,7 @@ impl Pace {
 
     /// Counts octets that the subscriber took. As many as those of the least pace begin it anew.
     pub fn take(&mut self, count: u64, now: u64)
-        ensures { self.new ≡ taking self.old count now }
+        ensures { self.new ≡ pace_after self.old count now }
     {
         let taken = self.taken.saturating_add(count);
         *self = if taken < PACE_OCTETS {

@@ -6,12 +6,12 @@ use Rattle.kernel_program.specs.declared.status.Status.TheVariants.{Done, Failed
 use Rattle.kernel_program.specs.declared.status.Status.TheVariants.{FileUnreadable, FileRefused, CannotBind}
 use Rattle.kernel_program.specs.declared.status.Status.TheVariants.{Incomplete, InputRefused, BeginRefused}
 use Rattle.kernel_program.specs.Profile.{Profile}
-use Rattle.kernel_program.specs.Program.{DoesOrder, Ends, GivenWords, IsSilent, IsUnbegun, OrdersServe}
+use Rattle.kernel_program.specs.Program.{DoesOrder, ProgramEnds, GivenWords, PrintsNothing, IsUnbegun, OrdersServe}
 use Rattle.kernel_program.specs.Program.{RefusesInput, RefusesToBegin, RefusesWords}
 use Rattle.kernel_program.specs.Status.{status_code}
 
 -- each exit status but 0 and 1 is of a program that printed nothing
-pub is_silent : (status : Status) → (status_code status ≡ 0 → ⊥) → (status_code status ≡ 1 → ⊥) → IsSilent status
+pub is_silent : (status : Status) → (status_code status ≡ 0 → ⊥) → (status_code status ≡ 1 → ⊥) → PrintsNothing status
 is_silent Done none one = none refl
 is_silent Failed none one = one refl
 is_silent (WordsRefused said) none one = tt
@@ -30,40 +30,46 @@ is_unbegun status is = absurd (let e = is in cc)
 
 module _ {State Cell : Type 0} (m : Meaning State Cell) (profile : Profile State) (words : GivenWords)
     (input left before after : Option (List ℕ)) where
-  pub says_done : (status : Status) → Ends m profile words input left before after status → status_code status ≡ 0
+  pub says_done : (status : Status) → ProgramEnds m profile words input left before after status
+      → status_code status ≡ 0
       → DoesOrder m profile words input left before after
   says_done Done ends is = ends
   says_done status ends is = absurd (let e = is in cc)
 
-  pub says_words : (status : Status) → Ends m profile words input left before after status → status_code status ≡ 2
+  pub says_words : (status : Status) → ProgramEnds m profile words input left before after status
+      → status_code status ≡ 2
       → RefusesWords profile.name words
   says_words (WordsRefused said) ends is = ends
   says_words WordsUnreadable ends is = ends
   says_words status ends is = absurd (let e = is in cc)
 
-  pub says_file : (status : Status) → Ends m profile words input left before after status → status_code status ≡ 3
+  pub says_file : (status : Status) → ProgramEnds m profile words input left before after status
+      → status_code status ≡ 3
       → OrdersServe profile.name words
   says_file FileUnreadable ends is = ends
   says_file (FileRefused fault) ends is = ends
   says_file status ends is = absurd (let e = is in cc)
 
-  pub says_port : (status : Status) → Ends m profile words input left before after status → status_code status ≡ 4
+  pub says_port : (status : Status) → ProgramEnds m profile words input left before after status
+      → status_code status ≡ 4
       → OrdersServe profile.name words
   says_port (CannotBind port) ends is = ends
   says_port status ends is = absurd (let e = is in cc)
 
-  pub says_input : (status : Status) → Ends m profile words input left before after status → status_code status ≡ 6
+  pub says_input : (status : Status) → ProgramEnds m profile words input left before after status
+      → status_code status ≡ 6
       → RefusesInput profile.name words input
   says_input InputRefused ends is = ends
   says_input status ends is = absurd (let e = is in cc)
 
-  pub says_begin : (status : Status) → Ends m profile words input left before after status → status_code status ≡ 7
+  pub says_begin : (status : Status) → ProgramEnds m profile words input left before after status
+      → status_code status ≡ 7
       → RefusesToBegin profile words
   says_begin (BeginRefused said) ends is = ends
   says_begin status ends is = absurd (let e = is in cc)
 
   -- and no other status
-  pub says_one : (status : Status) → Ends m profile words input left before after status
+  pub says_one : (status : Status) → ProgramEnds m profile words input left before after status
       → (status_code status ≡ 0) ⊎ ((status_code status ≡ 1) ⊎ ((status_code status ≡ 2) ⊎ ((status_code status ≡ 3)
       ⊎ ((status_code status ≡ 4) ⊎ ((status_code status ≡ 6) ⊎ (status_code status ≡ 7))))))
   says_one Done ends = inl refl

@@ -14,7 +14,8 @@ use Rattle.kernel_program.specs.declared.words.Order.{Order}
 use Rattle.kernel_program.specs.declared.words.Order.TheVariants.{Replay, Serve}
 use Rattle.kernel_program.specs.Lines.{hex_octets}
 use Rattle.kernel_program.specs.Profile.{IsRefusal, Profile}
-use Rattle.kernel_program.specs.Program.{EndsPrint, EndsReplay, EndsServe, EndsServing, IsDone, IsSilent, IsUnbegun, JudgesFile}
+use Rattle.kernel_program.specs.Program.{EndsPrint, EndsReplay, EndsServe, EndsServing, IsCarriedOut, PrintsNothing}
+use Rattle.kernel_program.specs.Program.{IsUnbegun, JudgesFile}
 use Rattle.kernel_program.specs.Program.{Obeys}
 use Rattle.kernel_program.specs.Replay.{EndsAnswer, IsNotHex, IsReplayed, Replays}
 use Rattle.kernel_program.specs.Status.{begin_status, unread_status}
@@ -59,7 +60,7 @@ serve_of_octets Refuses octets (BeginRefused said) (inl ends) = ends
 serve_of_octets Refuses octets (BeginRefused said) (inr ends) = absurd ends
 
 -- printing ends in no silent way
-pub print_is_not_silent : (status : Status) → EndsPrint status → IsSilent status → ⊥
+pub print_is_not_silent : (status : Status) → EndsPrint status → PrintsNothing status → ⊥
 print_is_not_silent Done ends silent = silent
 print_is_not_silent Failed ends silent = silent
 print_is_not_silent (WordsRefused said) ends silent = ends
@@ -72,7 +73,7 @@ print_is_not_silent InputRefused ends silent = ends
 print_is_not_silent (BeginRefused said) ends silent = ends
 
 -- if the language refused to begin nothing was printed
-unbegun_is_silent : (status : Status) → IsUnbegun status → IsSilent status
+unbegun_is_silent : (status : Status) → IsUnbegun status → PrintsNothing status
 unbegun_is_silent (BeginRefused said) never = tt
 unbegun_is_silent Done never = absurd never
 unbegun_is_silent Failed never = absurd never
@@ -133,7 +134,7 @@ module _ {State Cell : Type 0} (m : Meaning State Cell) (state : State) where
 
   -- a replay ends silently only where its input is refused
   pub silent_replay : (key : List ℕ) (input left before after : Option (List ℕ)) (status : Status)
-      → Replays m state key input left before after status → IsSilent status → status ≡ InputRefused
+      → Replays m state key input left before after status → PrintsNothing status → status ≡ InputRefused
   silent_replay key input left before after Done ends silent = absurd silent
   silent_replay key input left before after Failed ends silent = absurd silent
   silent_replay key input left before after (WordsRefused said) ends silent = absurd ends
@@ -205,7 +206,7 @@ module _ {State Cell : Type 0} (m : Meaning State Cell) (profile : Profile State
 
   -- what printing a text says of its order
   pub obeys_print : (order : Order) (input left before after : Option (List ℕ)) (status : Status)
-      → (status ≡ Done → IsDone m profile order input left before after) → EndsPrint status
+      → (status ≡ Done → IsCarriedOut m profile order input left before after) → EndsPrint status
       → Obeys m profile order input left before after status
   obeys_print order input left before after Done done ends = done refl
   obeys_print order input left before after Failed done ends = tt

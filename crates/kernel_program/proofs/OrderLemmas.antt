@@ -10,7 +10,7 @@ use Rattle.kernel_program.specs.declared.status.Status.TheVariants.{Incomplete, 
 use Rattle.kernel_program.specs.declared.words.Order.{Order}
 use Rattle.kernel_program.specs.declared.words.Order.TheVariants.{Replay, Serve, KernelSpec, Help}
 use Rattle.kernel_program.specs.Profile.{Profile}
-use Rattle.kernel_program.specs.Program.{Ends, IsReplay, IsServe, Obeys}
+use Rattle.kernel_program.specs.Program.{ProgramEnds, IsReplay, IsServe, Obeys}
 use Rattle.kernel_program.specs.Words.{IsOrder, IsOrdered}
 
 -- words order that a file be served, if what they order is to serve
@@ -33,7 +33,8 @@ replay_ordered name words (Help text) ordered never = absurd never
 pub ends_by_order : {State Cell : Type 0} (m : Meaning State Cell) (profile : Profile State)
     (words : Vec (String Global) Global) (order : Order) (input left before after : Option (List ℕ)) (status : Status)
     → IsOrdered profile.name (map string_bytes words.items) order
-    → Obeys m profile order input left before after status → Ends m profile (Ok words) input left before after status
+    → Obeys m profile order input left before after status
+    → ProgramEnds m profile (Ok words) input left before after status
 ends_by_order m profile words order input left before after Done ordered obeys =
     record { order = order; ordered = ordered; done = obeys }
 ends_by_order m profile words order input left before after Failed ordered obeys = tt

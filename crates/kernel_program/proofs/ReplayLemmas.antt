@@ -30,8 +30,8 @@ use Rattle.zmtp_connection.specs.declared.end.Ending.TheVariants.{Connection, Ho
 use Rattle.zmtp_connection.specs.Ending.{of_connection}
 use Rattle.zmtp_connection.specs.Exchange.{Exchange, ReadingOf, Source, devices_at}
 use Rattle.zmtp_connection.specs.Laws.{IsFinal}
-use Rattle.kernel_session.specs.Laws.{IsSettled, SessionStays}
-use Rattle.kernel_session.specs.Session.{IsSession, IsTold, Run}
+use Rattle.kernel_session.specs.Laws.{SessionIsSettled, SessionStays}
+use Rattle.kernel_session.specs.Session.{IsSession, IsToldWhole, Run}
 use Rattle.kernel_session.specs.Work.{TellsSession, all_items}
 use Rattle.kernel_program.specs.Lines.{ending_text, event_text, printed_lines}
 use Rattle.kernel_program.specs.Replay.{PrintsAll, PrintsPeer}
@@ -117,7 +117,7 @@ begun_as {State} {S} {W} state key stamp fresh started is (inl says) =
     }) sink
 
 -- an ending that is printed is told
-told_of : (end : Ending SessionEnd) → IsSettled end → IsTold end
+told_of : (end : Ending SessionEnd) → SessionIsSettled end → IsToldWhole end
 told_of (Connection Eof) settled = tt
 told_of (Connection (Wire fault)) settled = settled
 told_of (Connection (closed.Failed fault)) settled = absurd settled
@@ -137,7 +137,7 @@ was_read_out one two octets (Connection end) reading is = reading.read_out (let 
 was_read_out one two octets (Host end) leg is = absurd (let e = is in cc)
 
 -- an ending that is settled, and not by the peer's last octet, is for good
-final_of : (ending : Ending SessionEnd) → IsSettled ending → ending ≢ Connection Eof → IsFinal ending
+final_of : (ending : Ending SessionEnd) → SessionIsSettled ending → ending ≢ Connection Eof → IsFinal ending
 final_of (Connection end) settled other = (settled, λ eof. other (ap Connection eof))
 final_of (Host end) settled other = tt
 
@@ -146,11 +146,11 @@ module _ {State Cell : Type 0} (m : Meaning State Cell) (state : State) where
   pub prints_peer : {S W : Type 0} (key : List ℕ) (begun_with after : Parts State (List (Event W)) S W)
       (one two : Inflow) (out last : Outflow) (turns : ℕ) (shell output words : List ℕ) (events : List (Event W))
       (end : Ending SessionEnd) → begun_with ≡ begun_engine state key begun_with.publishing.stamp
-      → (IsTold end → (left : ℕ) × Exchange (λ octets written.
+      → (IsToldWhole end → (left : ℕ) × Exchange (λ octets written.
       TellsSession (world_of m list_sink replay_stamp) ⊥ begun_with octets written after end)
       (devices_at one turns out) (devices_at two left last) (of_connection end))
       → out.written ≡ Some [] → last.written ≡ Some shell → map Some events ≡ all_items list_sink after
-      → IsSettled end → words ≡ ending_text end → output ≡ printed_lines shell (flat_map event_text events) words
+      → SessionIsSettled end → words ≡ ending_text end → output ≡ printed_lines shell (flat_map event_text events) words
       → PrintsPeer m state key one.left two.left output
   prints_peer {S} {W} key begun_with after one two out last turns shell output words events end is tells fresh stands
       published settled worded printed =
@@ -189,7 +189,8 @@ module _ {State Cell : Type 0} (m : Meaning State Cell) (state : State) where
   -- a session that ended holds of all that its peer sends
   prints_on : {T : Type 0} (stop : T) → SessionStays m (λ (t : T). ⊥) → (key : List ℕ)
       (runs : List (Run State)) (octets output rest read : List ℕ) → octets ≡ read ++ rest
-      → (p : IsPrinted m state key runs read output) → p.ending ≢ Connection Eof → IsPrinted m state key runs octets output
+      → (p : IsPrinted m state key runs read output) → p.ending ≢ Connection Eof
+      → IsPrinted m state key runs octets output
   prints_on stop stays key runs octets output rest read is p ended = record {
     written = p.written;
     left = p.left;
@@ -219,7 +220,8 @@ module _ {State Cell : Type 0} (m : Meaning State Cell) (state : State) where
 
   -- the lines of the session with a peer that sends these octets
   prints_all : {T : Type 0} (stop : T) → SessionStays m (λ (t : T). ⊥) → (key octets output : List ℕ)
-      (left' : Option (List ℕ)) → PrintsPeer m state key (Some octets) left' output → PrintsAll m state key octets output
+      (left' : Option (List ℕ)) → PrintsPeer m state key (Some octets) left' output
+      → PrintsAll m state key octets output
   prints_all stop stays key octets output None p = absurd p.taken
   prints_all stop stays key octets output (Some rest) p = (
     p.runs,

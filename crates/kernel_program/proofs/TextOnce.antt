@@ -4,7 +4,7 @@ use Rattle.std.specs.List.{flat_map}
 use Rattle.zmtp_wire.specs.Frame.{text}
 use Rattle.interp_core.specs.Interpreter.{Meaning}
 use Rattle.kernel_session.specs.Laws.{SessionOnce}
-use Rattle.kernel_session.specs.Session.{IsSession, Standing}
+use Rattle.kernel_session.specs.Session.{IsSession, EngineStanding}
 use Rattle.kernel_program.specs.Lines.{ending_text, printed_lines}
 use Rattle.kernel_program.specs.Session.{LinesHaveOneValue, begun, with_starting}
 use Rattle.kernel_program.specs.Stamp.{replay_setting}
@@ -17,11 +17,12 @@ lines_once {State} m stop once state key runs input output other first second =
     let two = second.printed in
     let session = subst (λ o. IsSession m ⊥ (replay_setting key) (begun state runs) o two.written two.left
     two.ending) (sym spelled) two.session in
-    let (wrote, left, ends) = once stop (replay_setting key) (begun state runs) one.left two.left first.octets one.written
+    let (wrote, left, ends) = once stop (replay_setting key)
+    (begun state runs) one.left two.left first.octets one.written
     two.written one.ending two.ending one.settled two.settled one.session session in
     one.printed
     ∙ ap (λ w. printed_lines w (flat_map text (with_starting key one.left.published)) (ending_text one.ending)) wrote
-    ∙ ap (λ (s : Standing State). printed_lines two.written (flat_map text (with_starting key s.published))
+    ∙ ap (λ (s : EngineStanding State). printed_lines two.written (flat_map text (with_starting key s.published))
     (ending_text one.ending)) left
     ∙ ap (λ e. printed_lines two.written (flat_map text (with_starting key two.left.published)) (ending_text e)) ends
     ∙ sym two.printed

@@ -18,7 +18,7 @@ use Rattle.kernel_program.specs.declared.status.Status.TheVariants.{FileUnreadab
 use Rattle.kernel_program.specs.declared.status.Status.TheVariants.{Incomplete, InputRefused, BeginRefused}
 use Rattle.kernel_program.specs.Profile.{Profile}
 use Rattle.kernel_program.specs.Replay.{IsNotHex, IsReplayed}
-use Rattle.kernel_program.specs.Words.{AreWrong, IsOrder, IsOrdered, order_of}
+use Rattle.kernel_program.specs.Words.{AreWrong, IsOrder, IsOrdered, order_of_words}
 
 -- the order is a replay
 abbrev pub IsReplay : Order → Type 0
@@ -88,17 +88,17 @@ EndsPrint InputRefused = ⊥
 EndsPrint (BeginRefused said) = ⊥
 
 -- with such a status the program ends before anything is printed
-abbrev pub IsSilent : Status → Type 0
-IsSilent Done = ⊥
-IsSilent Failed = ⊥
-IsSilent (WordsRefused said) = ⊤
-IsSilent WordsUnreadable = ⊤
-IsSilent FileUnreadable = ⊤
-IsSilent (FileRefused fault) = ⊤
-IsSilent (CannotBind port) = ⊤
-IsSilent Incomplete = ⊤
-IsSilent InputRefused = ⊤
-IsSilent (BeginRefused said) = ⊤
+abbrev pub PrintsNothing : Status → Type 0
+PrintsNothing Done = ⊥
+PrintsNothing Failed = ⊥
+PrintsNothing (WordsRefused said) = ⊤
+PrintsNothing WordsUnreadable = ⊤
+PrintsNothing FileUnreadable = ⊤
+PrintsNothing (FileRefused fault) = ⊤
+PrintsNothing (CannotBind port) = ⊤
+PrintsNothing Incomplete = ⊤
+PrintsNothing InputRefused = ⊤
+PrintsNothing (BeginRefused said) = ⊤
 
 -- with such a status the language refused to begin
 abbrev pub IsUnbegun : Status → Type 0
@@ -124,7 +124,7 @@ WordsSay words Says = IsOkAnd words (λ read. Says (map string_bytes read.items)
 -- status 2: the words of a program of this name aren't texts, or they are wrong, or they name no order
 abbrev pub RefusesWords : Text → GivenWords → Type 0
 RefusesWords name words = MatchResult words (λ read. AreWrong name (map string_bytes read.items)
-    ⊎ (order_of name (map string_bytes read.items) ≡ None)) (λ error. error_kind error ≡ InvalidData)
+    ⊎ (order_of_words name (map string_bytes read.items) ≡ None)) (λ error. error_kind error ≡ InvalidData)
 
 -- statuses 3 and 4: the words order that a connection file be served
 abbrev pub OrdersServe : Text → GivenWords → Type 0
@@ -154,17 +154,17 @@ module _ {State Cell : Type 0} (m : Meaning State Cell) (profile : Profile State
 
   -- What an order did that was carried out. A replay printed its lines. The kernelspec or the help stands on the
   -- output. If a connection file was served nothing is printed.
-  abbrev pub IsDone : Order → Option (List ℕ) → Option (List ℕ) → Option (List ℕ) → Option (List ℕ) → Type 0
-  IsDone (Replay key) input left before after = IsReplayedFromBegun key input left before after
-  IsDone (Serve file) input left before after = after ≡ before
-  IsDone KernelSpec input left before after = Appends before after (profile.kernelspec ++ 10 ∷ [])
-  IsDone (Help text) input left before after = Appends before after text
+  abbrev pub IsCarriedOut : Order → Option (List ℕ) → Option (List ℕ) → Option (List ℕ) → Option (List ℕ) → Type 0
+  IsCarriedOut (Replay key) input left before after = IsReplayedFromBegun key input left before after
+  IsCarriedOut (Serve file) input left before after = after ≡ before
+  IsCarriedOut KernelSpec input left before after = Appends before after (profile.kernelspec ++ 10 ∷ [])
+  IsCarriedOut (Help text) input left before after = Appends before after text
 
   -- words that order something, which was done
   pub record Orders (words : List Text) (input left before after : Option (List ℕ)) : Type 0 where
     pub order : Order
     pub ordered : IsOrdered profile.name words order
-    pub done : IsDone order input left before after
+    pub done : IsCarriedOut order input left before after
 
   -- status 0: the words order something, and that was done
   abbrev pub DoesOrder : GivenWords → Option (List ℕ) → Option (List ℕ) → Option (List ℕ) → Option (List ℕ) → Type 0
@@ -186,7 +186,7 @@ module _ {State Cell : Type 0} (m : Meaning State Cell) (profile : Profile State
 
   -- what each status says of an order, with what the reader and the writer hold before and after
   abbrev pub Obeys : Order → Option (List ℕ) → Option (List ℕ) → Option (List ℕ) → Option (List ℕ) → Status → Type 0
-  Obeys order input left before after Done = IsDone order input left before after
+  Obeys order input left before after Done = IsCarriedOut order input left before after
   Obeys order input left before after Failed = ⊤
   Obeys order input left before after (WordsRefused said) = ⊥
   Obeys order input left before after WordsUnreadable = ⊥
@@ -198,15 +198,15 @@ module _ {State Cell : Type 0} (m : Meaning State Cell) (profile : Profile State
   Obeys order input left before after (BeginRefused said) = (IsServe order ⊎ IsReplay order) × profile.Refuses said
 
   -- what each status says of the command words, with what the reader and the writer hold before and after
-  abbrev pub Ends : GivenWords → Option (List ℕ) → Option (List ℕ) → Option (List ℕ) → Option (List ℕ) → Status
+  abbrev pub ProgramEnds : GivenWords → Option (List ℕ) → Option (List ℕ) → Option (List ℕ) → Option (List ℕ) → Status
       → Type 0
-  Ends words input left before after Done = DoesOrder words input left before after
-  Ends words input left before after Failed = ⊤
-  Ends words input left before after (WordsRefused said) = RefusesWords profile.name words
-  Ends words input left before after WordsUnreadable = RefusesWords profile.name words
-  Ends words input left before after FileUnreadable = OrdersServe profile.name words
-  Ends words input left before after (FileRefused fault) = OrdersServe profile.name words
-  Ends words input left before after (CannotBind port) = OrdersServe profile.name words
-  Ends words input left before after Incomplete = ⊥
-  Ends words input left before after InputRefused = RefusesInput profile.name words input
-  Ends words input left before after (BeginRefused said) = RefusesToBegin profile words
+  ProgramEnds words input left before after Done = DoesOrder words input left before after
+  ProgramEnds words input left before after Failed = ⊤
+  ProgramEnds words input left before after (WordsRefused said) = RefusesWords profile.name words
+  ProgramEnds words input left before after WordsUnreadable = RefusesWords profile.name words
+  ProgramEnds words input left before after FileUnreadable = OrdersServe profile.name words
+  ProgramEnds words input left before after (FileRefused fault) = OrdersServe profile.name words
+  ProgramEnds words input left before after (CannotBind port) = OrdersServe profile.name words
+  ProgramEnds words input left before after Incomplete = ⊥
+  ProgramEnds words input left before after InputRefused = RefusesInput profile.name words input
+  ProgramEnds words input left before after (BeginRefused said) = RefusesToBegin profile words

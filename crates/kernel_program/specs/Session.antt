@@ -10,14 +10,14 @@ use Rattle.kernel_engine.specs.declared.side.Side.TheVariants.{Shell}
 use Rattle.kernel_engine.specs.Block.{Message, starting}
 use Rattle.kernel_session.specs.declared.end.SessionEnd.{SessionEnd}
 use Rattle.zmtp_connection.specs.declared.end.Ending.{Ending}
-use Rattle.kernel_session.specs.Laws.{IsSettled}
-use Rattle.kernel_session.specs.Session.{IsSession, Run, Standing}
+use Rattle.kernel_session.specs.Laws.{SessionIsSettled}
+use Rattle.kernel_session.specs.Session.{IsSession, Run, EngineStanding}
 use Rattle.kernel_program.specs.Lines.{ending_text, hex_octets, printed_lines}
 use Rattle.kernel_program.specs.Stamp.{replay_date, replay_sealing, replay_setting}
 
 -- What an engine has come to that said that the kernel starts. Its interpreter is as it began, no cell is counted, and
 -- the next id is the second. The requests to come are done as these runs say.
-abbrev pub begun : {State : Type 0} → State → List (Run State) → Standing State
+abbrev pub begun : {State : Type 0} → State → List (Run State) → EngineStanding State
 begun state runs = record { state = state; count = 0; next = 2; published = []; runs = runs }
 
 -- the parts of such an engine
@@ -45,9 +45,9 @@ module _ {State Cell : Type 0} (m : Meaning State Cell) (state : State) where
   -- peer sent ended it.
   pub record IsPrinted (key : List ℕ) (runs : List (Run State)) (octets output : List ℕ) : Type 0 where
     pub written : List ℕ
-    pub left : Standing State
+    pub left : EngineStanding State
     pub ending : Ending SessionEnd
-    pub settled : IsSettled ending
+    pub settled : SessionIsSettled ending
     pub session : IsSession m ⊥ (replay_setting key) (begun state runs) octets written left ending
     pub used : left.runs ≡ []
     pub printed : output ≡ printed_lines written (flat_map text (with_starting key left.published))

@@ -78,8 +78,8 @@ order_by None = Some (Replay [])
 order_by (Some (name, options)) = order_named name options
 
 -- what the words of a program of this name order
-abbrev pub order_of : Text → List Text → Option Order
-order_of name words = order_by (subcommand_of (program_command name) (heeded words))
+abbrev pub order_of_words : Text → List Text → Option Order
+order_of_words name words = order_by (subcommand_of (program_command name) (heeded words))
 
 -- What is wrong with the words of a program of this name, or is asked in place of an order, as kinds of `clap`'s
 -- errors. If they are fine that is nothing.
@@ -89,7 +89,7 @@ faults_of name words = fault_of (program_command name) (heeded words)
 -- the words of a program of this name are fine, and order this
 pub record IsOrder (name : Text) (words : List Text) (order : Order) : Type 0 where
   pub fine : faults_of name words ≡ []
-  pub ordered : order_of name words ≡ Some order
+  pub ordered : order_of_words name words ≡ Some order
 
 -- what an order says of the words of a program of this name: they order it, or ask for help or the version
 abbrev pub IsOrdered : Text → List Text → Order → Type 0
@@ -108,7 +108,7 @@ pub record AreWrong (name : Text) (words : List Text) : Type 0 where
 
 -- what a refusal says of the words of a program of this name: something is wrong with them, or they name no order
 abbrev pub IsRefusedBy : Text → List Text → WordsFault → Type 0
-IsRefusedBy name words (Refused text) = AreWrong name words ⊎ (order_of name words ≡ None)
+IsRefusedBy name words (Refused text) = AreWrong name words ⊎ (order_of_words name words ≡ None)
 IsRefusedBy name words OutOfMemory = ⊤
 
 -- what the kind of an error is if help or the version is told

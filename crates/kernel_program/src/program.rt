@@ -3,7 +3,8 @@
 ghost use Rattle.std.specs.Prelude.{◌≡◌, ◌++◌, ◌⊎◌, [], ◌∷◌, Ok};
 ghost use Rattle.std.specs.Io.KnownBytes.{Appends};
 ghost use Rattle.std.specs.declared.io.ErrorKind.TheVariants.{InvalidData};
-ghost use Rattle.kernel_program.specs.Program.{DoesOrder, Ends, EndsPrint, EndsReplay, IsReplay, IsSilent, IsUnbegun};
+ghost use Rattle.kernel_program.specs.Program.{DoesOrder, ProgramEnds, EndsPrint, EndsReplay, IsReplay, PrintsNothing};
+ghost use Rattle.kernel_program.specs.Program.{IsUnbegun};
 ghost use Rattle.kernel_program.specs.Program.{Obeys, OrdersReplay, OrdersServe, RefusesInput, RefusesToBegin};
 ghost use Rattle.kernel_program.specs.Program.{RefusesWords};
 ghost use Rattle.kernel_program.specs.Status.{begin_status, status_code};
@@ -74,8 +75,8 @@ where
     ensures input { result ≡ 6 → RefusesInput (L.profile language.now).name words.now (R.remaining reader.old)
         × (writer.new ≡ writer.old) }
 
-    // 7: the words order a replay or that a file be served, and nothing was read or printed: the language refuses to
-    // begin.
+    // 7: the words order a replay or that a file be served, and nothing was taken from the reader or printed: the
+    // language refuses to begin.
     ensures begin { result ≡ 7 → RefusesToBegin (L.profile language.now) words.now × (reader.new ≡ reader.old)
         × (writer.new ≡ writer.old) }
 
@@ -124,9 +125,9 @@ where
         + Sync
         + Drop
         + 'static,
-    ensures ends { Ends L.Interp.meaning (L.profile language.now) words.now (R.remaining reader.old)
+    ensures ends { ProgramEnds L.Interp.meaning (L.profile language.now) words.now (R.remaining reader.old)
         (R.remaining reader.new) (W.contents writer.old) (W.contents writer.new) result }
-    ensures silent { IsSilent result → writer.new ≡ writer.old }
+    ensures silent { PrintsNothing result → writer.new ≡ writer.old }
     ensures unread { IsUnbegun result → reader.new ≡ reader.old }
     ensures reader { OrdersReplay (L.profile language.now).name words.now ⊎ (reader.new ≡ reader.old) }
 {
@@ -172,9 +173,9 @@ where
         + Sync
         + Drop
         + 'static,
-    ensures ends { Ends L.Interp.meaning (L.profile language.now) (Ok words.now) (R.remaining reader.old)
+    ensures ends { ProgramEnds L.Interp.meaning (L.profile language.now) (Ok words.now) (R.remaining reader.old)
         (R.remaining reader.new) (W.contents writer.old) (W.contents writer.new) result }
-    ensures silent { IsSilent result → writer.new ≡ writer.old }
+    ensures silent { PrintsNothing result → writer.new ≡ writer.old }
     ensures unread { IsUnbegun result → reader.new ≡ reader.old }
     ensures reader { OrdersReplay (L.profile language.now).name (Ok words.now) ⊎ (reader.new ≡ reader.old) }
 {
@@ -213,7 +214,7 @@ where
         + 'static,
     ensures obeys { Obeys L.Interp.meaning (L.profile language.now) order (R.remaining reader.old)
         (R.remaining reader.new) (W.contents writer.old) (W.contents writer.new) result }
-    ensures silent { IsSilent result → writer.new ≡ writer.old }
+    ensures silent { PrintsNothing result → writer.new ≡ writer.old }
     ensures unread { IsUnbegun result → reader.new ≡ reader.old }
     ensures reader { IsReplay order ⊎ (reader.new ≡ reader.old) }
 {
@@ -235,7 +236,7 @@ fn replay_begun<L: Language, R: Read, W: Write>(
 ) -> Status
     ensures replays { EndsReplay L.Interp.meaning (L.profile language.now) key (R.remaining reader.old)
         (R.remaining reader.new) (W.contents writer.old) (W.contents writer.new) result }
-    ensures silent { IsSilent result → writer.new ≡ writer.old }
+    ensures silent { PrintsNothing result → writer.new ≡ writer.old }
     ensures unread { IsUnbegun result → reader.new ≡ reader.old }
 {
     match language.shell(alloc) {
@@ -284,7 +285,8 @@ fn print_text<W: Write>(writer: &mut W, text: Text) -> Status
 
 /// Prints a text and its end: how the program ends.
 fn print<W: Write>(writer: &mut W, text: &str, end: &str) -> Status
-    ensures done { result ≡ Status.Done → Appends (W.contents writer.old) (W.contents writer.new) (text.now ++ end.now) }
+    ensures done { result ≡ Status.Done
+        → Appends (W.contents writer.old) (W.contents writer.new) (text.now ++ end.now) }
     ensures ends { EndsPrint result }
 {
     let written = match write_out(writer, text.as_bytes()) {

@@ -4,7 +4,7 @@
 ghost use Rattle.std.specs.Prelude.{◌≡◌, ◌⊎◌, [], Some, None, IfOk, IfErr, IfSome, OnOk, ◌++◌, map};
 ghost use Rattle.std.specs.List.{flat_map};
 ghost use Rattle.iopub_queue.specs.Sink.{list_sink};
-ghost use Rattle.kernel_session.specs.Laws.{IsSettled};
+ghost use Rattle.kernel_session.specs.Laws.{SessionIsSettled};
 ghost use Rattle.kernel_session.specs.Work.{all_items};
 ghost use Rattle.kernel_program.specs.Lines.{ending_text, ending_words, event_text, hex_octets, printed_lines};
 ghost use Rattle.kernel_program.specs.Session.{begun_engine};
@@ -228,7 +228,7 @@ fn outcome_of<I: Interpreter + Drop>(
     engine: ReplayEngine<I>,
 ) -> Result<Outcome, ReplayFault>
     ensures ending { IfOk result (λ outcome. ending_words outcome.ending ≡ ending_text end) }
-    ensures settled { OnOk result (IsSettled end) }
+    ensures settled { OnOk result (SessionIsSettled end) }
     ensures published { IfOk result (λ outcome. map Some outcome.events.items ≡ all_items list_sink engine) }
 {
     match settled(end) {
@@ -259,7 +259,7 @@ fn outcome_lines(alloc: Global, shell: Vec<u8>, outcome: Outcome) -> Result<Vec<
 
 /// The printed ending of a session that its peer ended; else its fault.
 fn settled(end: Ending<SessionEnd>) -> Result<PrintedEnd, ReplayFault>
-    ensures { IfOk result (λ ending. (ending_words ending ≡ ending_text end) × IsSettled end) }
+    ensures { IfOk result (λ ending. (ending_words ending ≡ ending_text end) × SessionIsSettled end) }
 {
     match end {
         Ending::Connection(ConnectionEnd::Eof) => Ok(PrintedEnd::Eof),

@@ -4,7 +4,7 @@ ghost use Rattle.std.specs.Prelude.{◌≡◌, [], IfSome, OnOk, codes, if◌the
 ghost use Rattle.std.specs.Io.KnownBytes.{Appends};
 ghost use Rattle.kernel_serve.specs.Serving.{port_name};
 ghost use Rattle.kernel_program.specs.Status.{ended_status, status_code};
-ghost use Rattle.kernel_program.specs.Told.{line, told};
+ghost use Rattle.kernel_program.specs.Told.{line, told_of_status};
 
 use crate::lines::write_out;
 use conn_file::ConnFault;
@@ -79,7 +79,7 @@ pub fn end_status(complete: bool) -> u8
 
 /// Tells a person how the program of this name ended, if more is to be said than its exit status says.
 pub(crate) fn tell_status<F: Write>(faults: &mut F, name: &str, status: &Status) -> io::Result<()>
-    ensures { OnOk result (IfSome (told name.now status.now)
+    ensures { OnOk result (IfSome (told_of_status name.now status.now)
         (Appends (F.contents faults.old) (F.contents faults.new))) }
 {
     match status {

@@ -1,6 +1,6 @@
 //! Messages by which a peer shows that it holds the key.
 
-use kernel_limits::is_asked;
+use kernel_limits::is_sent_by_clients;
 use serde_json::Value;
 use std::alloc::{AllocError, Global};
 
@@ -48,7 +48,7 @@ fn header_of(frames: &[Vec<u8>]) -> Option<&[u8]> {
 /// Whether a header names a type of message that clients send and the kernel doesn't.
 fn names_asked(header: &Value) -> bool {
     match header.get("msg_type").and_then(Value::as_str) {
-        Some(kind) => is_asked(kind.as_bytes()),
+        Some(kind) => is_sent_by_clients(kind.as_bytes()),
         None => false,
     }
 }

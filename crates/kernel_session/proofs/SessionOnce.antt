@@ -5,7 +5,7 @@ use Rattle.interp_core.specs.Interpreter.{Meaning}
 use Rattle.jmsg_envelope.specs.Laws.{OpenedOnce, RefusedIsNotOpened}
 use Rattle.jmsg_envelope.specs.declared.envelope.Envelope.{Envelope}
 use Rattle.jmsg_types.specs.declared.publication.Publication.{Publication}
-use Rattle.kernel_engine.specs.Answer.{Answer, Answers}
+use Rattle.kernel_engine.specs.Answer.{Answer, AnswersRequest}
 use Rattle.kernel_engine.specs.Block.{Message, block, reply_message}
 use Rattle.kernel_engine.specs.Laws.{AnswersOnce, PublishesOnce}
 use Rattle.kernel_engine.specs.Opens.{ids_of_reply}
@@ -15,8 +15,8 @@ use Rattle.kernel_engine.specs.Orders.{ends}
 use Rattle.kernel_session.specs.declared.end.SessionEnd.TheVariants.{Shutdown}
 use Rattle.zmtp_connection.specs.declared.server.Answered.TheVariants.{Done, Dropped}
 use Rattle.zmtp_connection.specs.Laws.{IsFunction}
-use Rattle.kernel_session.specs.Laws.{is_asked}
-use Rattle.kernel_session.specs.Session.{DoesMessage, DoesRequest, DropsMessage, Performs, Run, Setting, Standing}
+use Rattle.kernel_session.specs.Laws.{ends_as_asked}
+use Rattle.kernel_session.specs.Session.{DoesMessage, DoesRequest, DropsMessage, Performs, Run, Setting, EngineStanding}
 use Rattle.kernel_session.specs.Session.{heading_by, number_behind, reply_text}
 
 -- the laws of the layers below
@@ -28,8 +28,8 @@ pub record RequestLaws {State Cell : Type 0} (m : Meaning State Cell) : Type 0 w
 
 module _ {State Cell : Type 0} (m : Meaning State Cell) (laws : RequestLaws m) (may : Type 0) (setting : Setting) where
   -- what an engine has come to behind a request
-  abbrev became : Standing State → Envelope → Run State → List Publication → Answer State → List (Run State)
-      → Standing State
+  abbrev became : EngineStanding State → Envelope → Run State → List Publication → Answer State → List (Run State)
+      → EngineStanding State
   became old request run publications answer later = record {
     state = answer.state;
     count = answer.count;
@@ -39,12 +39,12 @@ module _ {State Cell : Type 0} (m : Meaning State Cell) (laws : RequestLaws m) (
   }
 
   -- a request is done in one way by the next run
-  record SameDone (answer other : Answer State) (reply also : List ℕ) (one two : Standing State) : Type 0 where
+  record SameDone (answer other : Answer State) (reply also : List ℕ) (one two : EngineStanding State) : Type 0 where
     answers : answer ≡ other
     replies : reply ≡ also
     standings : one ≡ two
 
-  request_once : (old one two : Standing State) (request : Envelope) (answer other : Answer State)
+  request_once : (old one two : EngineStanding State) (request : Envelope) (answer other : Answer State)
       (reply also : List ℕ) → DoesRequest m may setting old request answer reply one
       → DoesRequest m may setting old request other also two → SameDone answer other reply also one two
   request_once old one two request answer other reply also a b =
@@ -57,7 +57,7 @@ module _ {State Cell : Type 0} (m : Meaning State Cell) (laws : RequestLaws m) (
       b.publishes) in
       let answered = laws.answers does old.state old.count a.run.course
       answer other a.answers
-      (subst (λ (r : Run State). Answers m does old.state old.count
+      (subst (λ (r : Run State). AnswersRequest m does old.state old.count
       r.course other) (sym run) b.answers) in
       record {
         answers = answered;
@@ -77,7 +77,7 @@ module _ {State Cell : Type 0} (m : Meaning State Cell) (laws : RequestLaws m) (
             ∙ sym b.became;
       }
 
-  message_once : (old one two : Standing State) (message : Message) (reply also : List ℕ)
+  message_once : (old one two : EngineStanding State) (message : Message) (reply also : List ℕ)
       (a : DoesMessage m may setting old message reply one) (b : DoesMessage m may setting old message also two)
       → SameDone a.answer b.answer reply also one two
   message_once old one two message reply also a b =
@@ -86,12 +86,12 @@ module _ {State Cell : Type 0} (m : Meaning State Cell) (laws : RequestLaws m) (
       (subst (λ (r : Envelope). DoesRequest m may setting old r b.answer also two) (sym same) b.does)
 
   -- a message isn't both dropped and done
-  not_both : (old one two : Standing State) (message : Message) (reply also : List ℕ)
+  not_both : (old one two : EngineStanding State) (message : Message) (reply also : List ℕ)
       → DropsMessage m may setting old message reply one → DoesMessage m may setting old message also two → ⊥
   not_both old one two message reply also ((fault, refused), none, same) done =
       laws.refused setting.sealing.key message done.request fault refused done.opened
 
-  pub performs_once : IsFunction is_asked (Performs m may setting)
+  pub performs_once : IsFunction ends_as_asked (Performs m may setting)
   performs_once old one two message reply also (Ok Done) (Ok Done) is will (inl (a, none, same))
       (inl (b, nothing, keeps)) =
       (none ∙ sym nothing, same ∙ sym keeps, refl)

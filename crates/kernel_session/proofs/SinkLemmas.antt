@@ -16,7 +16,7 @@ use Rattle.kernel_session.specs.declared.end.SessionEnd.{SessionEnd}
 use Rattle.kernel_session.specs.declared.end.SessionEnd.TheVariants.{Shutdown, Failed}
 use Rattle.zmtp_connection.specs.declared.server.Answered.{Answered}
 use Rattle.zmtp_connection.specs.declared.server.Answered.TheVariants.{Done, Dropped}
-use Rattle.zmtp_connection.specs.Server.{Serving, Treats, GoesOn, AnswersAll, Serves, ServesPeer, begins, told}
+use Rattle.zmtp_connection.specs.Server.{Serving, Treats, GoesOn, AnswersAll, Serves, ServesPeer, begins, told_ending}
 use Rattle.kernel_session.specs.Work.{WorksOne}
 
 module _ {I P S W Cell : Type 0} (world : World I P S W Cell)
@@ -89,7 +89,8 @@ module _ {I P S W Cell : Type 0} (world : World I P S W Cell)
   -- a session
   pub sink_of_session : (old new : Parts I P S W) (one : Devices) (two : ℕ → Devices) (given : Ending SessionEnd)
       → (left : ℕ) × (dropped : Bool) × (ended : Ending SessionEnd)
-      × ServesPeer dropped (WorksOne world may) Router old one (two left) new ended × (given ≡ told dropped ended)
+      × ServesPeer dropped (WorksOne world may) Router old one (two left) new ended
+      × (given ≡ told_ending dropped ended)
       → HasSink old new
   sink_of_session old new one two given (left, dropped, ended, peer, is) =
       sink_served dropped old new peer.exchange.read peer.exchange.written ended peer.exchange.outcome

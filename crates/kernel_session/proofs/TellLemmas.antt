@@ -21,11 +21,11 @@ use Rattle.jmsg_envelope.specs.Stamp.{Stamping}
 use Rattle.kernel_engine.specs.declared.response.Response.{Response}
 use Rattle.kernel_engine.specs.declared.parts.Parts.{Parts}
 use Rattle.kernel_engine.specs.declared.side.Side.{Side}
-use Rattle.kernel_engine.specs.Block.{Message, block, idle, opened, reply_message}
+use Rattle.kernel_engine.specs.Block.{Message, block, idle, opened_block, reply_message}
 use Rattle.kernel_engine.specs.Growth.{item_of, sealing_of}
 use Rattle.kernel_engine.specs.Handles.{answer_with, owed_items}
 use Rattle.kernel_engine.specs.Opens.{ids_of_reply}
-use Rattle.kernel_engine.specs.WellBlocked.{heading_of, past, where_published}
+use Rattle.kernel_engine.specs.WellBlocked.{heading_of, number_past, where_published}
 use Rattle.kernel_engine.specs.World.{World}
 use Rattle.kernel_engine.specs.Orders.{ends}
 use Rattle.kernel_session.specs.declared.end.SessionEnd.{SessionEnd}
@@ -36,8 +36,8 @@ use Rattle.zmtp_connection.specs.Exchange.{Devices, Exchange}
 use Rattle.zmtp_connection.specs.Laws.{IsDone}
 use Rattle.zmtp_connection.specs.Listen.{RunsOut}
 use Rattle.zmtp_connection.specs.Server.{Serving, Treats, GoesOn, AnswersAll, IsLast, IsServed, Serves, ServesPeer}
-use Rattle.zmtp_connection.specs.Server.{BreaksIn, begins, marked, told}
-use Rattle.kernel_session.specs.Session.{DoesMessage, IsTold, Performs, Run, Setting, Standing}
+use Rattle.zmtp_connection.specs.Server.{BreaksIn, begins, marked, told_ending}
+use Rattle.kernel_session.specs.Session.{DoesMessage, IsToldWhole, Performs, Run, Setting, EngineStanding}
 use Rattle.kernel_session.specs.Session.{heading_by, number_behind, reply_text}
 use Rattle.kernel_session.specs.Work.{TellsSession, Works, WorksOne, all_items, setting_of}
 use Rattle.kernel_session.specs.Work.{standing_of}
@@ -110,7 +110,7 @@ module _ {I P S W Cell : Type 0} (world : World I P S W Cell) (may : Type 0) whe
       let run : Run I = record { course = ok.course; date = ok.block.date } in
       let headed : heading_of ok.block ≡ heading_by run request =
       ap (λ p. record { date = ok.block.date; parent = p }) ok.parent in
-      let next : past ok.block ≡ number_behind old.publishing.next publications =
+      let next : number_past ok.block ≡ number_behind old.publishing.next publications =
       ap (λ n. number_behind n publications) ok.adds.number in
       let whole : block sealing (heading_of ok.block) ok.block.number publications
       ≡ block sealing (heading_by run request) old.publishing.next publications =
@@ -120,7 +120,7 @@ module _ {I P S W Cell : Type 0} (world : World I P S W Cell) (may : Type 0) whe
         run = run;
         messages = block sealing (heading_by run request) old.publishing.next publications;
         listed = block_items (world.sink.items old.publishing.sink) (owed_items old.owed)
-            (opened sealing (heading_of ok.block) ok.block.number publications)
+            (opened_block sealing (heading_of ok.block) ok.block.number publications)
             (idle sealing (heading_of ok.block) ok.block.number) ok.block.closed (world.sink.items new.publishing.sink)
             new.owed ok.adds.items (elim ok.adds.owed [
               | inl closed ↦ inl closed
@@ -144,7 +144,8 @@ module _ {I P S W Cell : Type 0} (world : World I P S W Cell) (may : Type 0) whe
               publishes = ok.publishes;
               answers = ok.answers;
               replied = is ∙ ap reply_text (ok.replied
-                  ∙ ap (λ h. reply_message sealing h request.identities (past ok.block) request.msg_type ok.reply)
+                  ∙ ap (λ h. reply_message sealing h request.identities
+                  (number_past ok.block) request.msg_type ok.reply)
                   headed
                   ∙ ap (λ n. reply_message sealing (heading_by run request) request.identities n request.msg_type
                   ok.reply) next);
@@ -162,7 +163,7 @@ module _ {I P S W Cell : Type 0} (world : World I P S W Cell) (may : Type 0) whe
       }
 
   -- an engine in a session in which nothing was dropped, as the session tells it
-  abbrev tells : Parts I P S W → List Message → List (Run I) → Serving (Standing I)
+  abbrev tells : Parts I P S W → List Message → List (Run I) → Serving (EngineStanding I)
   tells parts published runs = record { server = standing_of parts published runs; dropped = false }
 
   -- traffic was treated by some runs, and what was published is this
@@ -192,7 +193,8 @@ module _ {I P S W Cell : Type 0} (world : World I P S W Cell) (may : Type 0) whe
   -- the engine stayed at the first, and treated the others
   treated_past : (old middle new : Parts I P S W) (first : Traffic) (items : List Traffic)
       (reply later replies : List ℕ) → middle ≡ old
-      → ((standing : Standing I) → Treats (Performs world.language may (setting_of world.stamp old)) standing first
+      → ((standing : EngineStanding I)
+      → Treats (Performs world.language may (setting_of world.stamp old)) standing first
       reply standing (Ok Done))
       → IsTreated middle items later new → replies ≡ reply ++ later → IsTreated old (first ∷ items) replies new
   treated_past old middle new first items reply later replies same stay rest is =
@@ -341,7 +343,7 @@ module _ {I P S W Cell : Type 0} (world : World I P S W Cell) (may : Type 0) whe
       → (handled : Response)
       → Works world may served.converses.now.server message handled new
       → last.reply ≡ reply_text handled.reply → (answered : Result Answered SessionEnd)
-      → ((one two : Standing I)
+      → ((one two : EngineStanding I)
       (done : DoesMessage world.language may (setting_of world.stamp served.converses.now.server) one message last.reply
       two) → done.answer.order ≡ handled.order
       → Performs world.language may (setting_of world.stamp served.converses.now.server) one message last.reply two
@@ -470,7 +472,7 @@ module _ {I P S W Cell : Type 0} (world : World I P S W Cell) (may : Type 0) whe
       absurd (no_break served.converses.replies last.reply served.replies breaks lost.silent)
 
   -- a session that the engine ended at one traffic
-  told_last : (old new : Parts I P S W) (octets written : List ℕ) (ending : Ending SessionEnd) → IsTold ending
+  told_last : (old new : Parts I P S W) (octets written : List ℕ) (ending : Ending SessionEnd) → IsToldWhole ending
       → (served : IsServed false (WorksOne world may) Router old octets written new ending)
       (last : IsLast (WorksOne world may) served.converses.now
       served.converses.rest served.converses.replies served.replies (record { server = new; dropped = false }) ending)
@@ -479,7 +481,7 @@ module _ {I P S W Cell : Type 0} (world : World I P S W Cell) (may : Type 0) whe
       last.reply new (Err end) → served.replies ≡ served.converses.replies ++ last.reply
       → TellsSession world may old octets written new ending
   told_last old new octets written ending settled served last (Failed fault) host item named is step wrote =
-      absurd (subst IsTold host settled)
+      absurd (subst IsToldWhole host settled)
   told_last old new octets written ending settled served last (Shutdown restart) host (traffic.Command name rest) named
       is (none, same, goes) wrote =
       absurd (let e = goes in cc)
@@ -491,7 +493,7 @@ module _ {I P S W Cell : Type 0} (world : World I P S W Cell) (may : Type 0) whe
       (λ one two done order_is. (done, restart, ap ends order_is ∙ through.end, refl)) refl
       (inl (Shutdown restart, refl, host, wrote))
 
-  told_served : (old new : Parts I P S W) (octets written : List ℕ) (ending : Ending SessionEnd) → IsTold ending
+  told_served : (old new : Parts I P S W) (octets written : List ℕ) (ending : Ending SessionEnd) → IsToldWhole ending
       → Serves false (WorksOne world may) Router old octets written new ending
       → TellsSession world may old octets written new ending
   told_served old new octets written ending settled (inl (end, is, away, same, none)) =
@@ -511,11 +513,12 @@ module _ {I P S W Cell : Type 0} (world : World I P S W Cell) (may : Type 0) whe
   -- what is told of a session, from what the engine made of each message
   pub tells_session : (old new : Parts I P S W) (one : Devices) (two : ℕ → Devices) (given : Ending SessionEnd)
       → (left : ℕ) × (dropped : Bool) × (ended : Ending SessionEnd)
-      × ServesPeer dropped (WorksOne world may) Router old one (two left) new ended × (given ≡ told dropped ended)
-      → IsTold given
+      × ServesPeer dropped (WorksOne world may) Router old one (two left) new ended
+      × (given ≡ told_ending dropped ended)
+      → IsToldWhole given
       → (left : ℕ) × Exchange (λ octets written. TellsSession world may old octets written new given) one (two left)
       (of_connection given)
-  tells_session old new one two given (left, true, ended, peer, is) settled = absurd (subst IsTold is settled)
+  tells_session old new one two given (left, true, ended, peer, is) settled = absurd (subst IsToldWhole is settled)
   tells_session old new one two given (left, false, ended, peer, is) settled =
       let e = peer.exchange in (
         left,
@@ -525,6 +528,6 @@ module _ {I P S W Cell : Type 0} (world : World I P S W Cell) (may : Type 0) whe
               written = e.written;
               reading = e.reading;
               puts = e.puts;
-              outcome = told_served old new e.read e.written ended (subst IsTold is settled) e.outcome;
+              outcome = told_served old new e.read e.written ended (subst IsToldWhole is settled) e.outcome;
             }),
       )

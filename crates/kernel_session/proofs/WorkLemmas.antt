@@ -9,14 +9,14 @@ use Rattle.kernel_engine.specs.declared.parts.Parts.{Parts}
 use Rattle.kernel_engine.specs.Block.{Message, Sealing, message, reply_message}
 use Rattle.kernel_engine.specs.Growth.{sealing_of}
 use Rattle.kernel_engine.specs.Handles.{HandlesOk}
-use Rattle.kernel_engine.specs.WellBlocked.{heading_of, past}
+use Rattle.kernel_engine.specs.WellBlocked.{heading_of, number_past}
 use Rattle.kernel_engine.specs.declared.publishing.Body.{Body}
 use Rattle.kernel_engine.specs.World.{World}
 use Rattle.kernel_session.specs.declared.end.SessionEnd.{SessionEnd}
 use Rattle.kernel_session.specs.declared.end.SessionEnd.TheVariants.{Shutdown, Failed}
 use Rattle.zmtp_connection.specs.declared.server.Answered.{Answered}
 use Rattle.zmtp_connection.specs.declared.server.Answered.TheVariants.{Done, Dropped}
-use Rattle.kernel_session.specs.Work.{Finishes, Works, WorksOne, Writes}
+use Rattle.kernel_session.specs.Work.{WritesHandled, Works, WorksOne, WritesOutcome}
 use Rattle.kernel_engine.specs.declared.asked.Done.{Done as Came}
 use Rattle.kernel_engine.specs.declared.asked.Done.TheVariants as variant
 use Rattle.kernel_engine.specs.Takes.{Takes}
@@ -49,14 +49,15 @@ module _ {I P S W Cell : Type 0} (world : World I P S W Cell) (may : Type 0) whe
       → HandlesOk world may request old handled new
       → IfSome handled.reply (λ frames. 0 < length frames)
   handled_frames old request handled new ok =
-      some_frames (sealing_of world.stamp old.publishing) (heading_of ok.block) request.identities (past ok.block)
+      some_frames (sealing_of world.stamp old.publishing) (heading_of ok.block) request.identities
+      (number_past ok.block)
       request.msg_type ok.reply handled.reply ok.replied
 
   -- a request was handled, and its reply added, or not for want of memory
   pub finished : (old : Parts I P S W) (message : Message) (handled : Response) (octets : List ℕ)
       (answered : Result Answered SessionEnd) (new : Parts I P S W)
       → Works world may old message handled new
-      → Finishes handled octets answered
+      → WritesHandled handled octets answered
       → WorksOne world may old message octets new answered
   finished old message handled octets (Ok Done) new works (is, ends) =
       inr (record { handled = handled; works = works; end = ends; replied = is })
@@ -69,7 +70,7 @@ module _ {I P S W Cell : Type 0} (world : World I P S W Cell) (may : Type 0) whe
   -- what came of a message, with what was added for it, is a step of the session
   pub taken : (old : Parts I P S W) (message : Message) (done : Came) (octets : List ℕ)
       (answered : Result Answered SessionEnd) (new : Parts I P S W) → Takes world may message old done new
-      → Writes done octets answered → WorksOne world may old message octets new answered
+      → WritesOutcome done octets answered → WorksOne world may old message octets new answered
   taken old message variant.Ignored octets answered new (refused, same) (silent, is) =
       subst (λ a. WorksOne world may old message octets new a) (sym is)
       (inl (record { refused = refused; silent = silent; same = same }))

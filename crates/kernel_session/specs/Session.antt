@@ -12,7 +12,7 @@ use Rattle.jmsg_envelope.specs.Envelope.{Opened}
 use Rattle.jmsg_types.specs.declared.publication.Publication.{Publication}
 use Rattle.kernel_engine.specs.declared.heading.Heading.{Heading}
 use Rattle.kernel_engine.specs.declared.side.Side.{Side}
-use Rattle.kernel_engine.specs.Answer.{Answer, Answers}
+use Rattle.kernel_engine.specs.Answer.{Answer, AnswersRequest}
 use Rattle.kernel_engine.specs.Orders.{ends}
 use Rattle.kernel_engine.specs.Block.{Message, Sealing, block, reply_message}
 use Rattle.kernel_engine.specs.Comes.{message_comes}
@@ -42,7 +42,7 @@ pub record Run (State : Type 0) : Type 0 where
 
 -- What an engine has come to between two requests: the interpreter's state, the execution count, the number of the next
 -- id and what was published. It also says how the requests to come are done.
-pub record Standing (State : Type 0) : Type 0 where
+pub record EngineStanding (State : Type 0) : Type 0 where
   pub state : State
   pub count : ℕ
   pub next : ℕ
@@ -65,15 +65,15 @@ reply_text (Some reply) = text reply
 module _ {State Cell : Type 0} (m : Meaning State Cell) (may : Type 0) (setting : Setting) where
   -- A request is done as the next run says. Its block is published, with the numbers from the next one on. The text of
   -- its reply answers it, if it has one. This is what the engine has come to then.
-  pub record DoesRequest (old : Standing State) (request : Envelope) (answer : Answer State) (reply : List ℕ)
-      (new : Standing State) : Type 0 where
+  pub record DoesRequest (old : EngineStanding State) (request : Envelope) (answer : Answer State) (reply : List ℕ)
+      (new : EngineStanding State) : Type 0 where
     pub run : Run State
     pub runs : old.runs ≡ run ∷ new.runs
     pub dated : setting.is_date run.date ≡ true
     pub ending : MayEnd may run.course.ending
     pub publications : List Publication
     pub publishes : Publishes m (message_comes setting.side request) old.state old.count run.course publications
-    pub answers : Answers m (message_comes setting.side request) old.state old.count run.course answer
+    pub answers : AnswersRequest m (message_comes setting.side request) old.state old.count run.course answer
     pub replied : reply ≡ reply_text (reply_message setting.sealing (heading_by run request) request.identities
         (number_behind old.next publications) request.msg_type answer.reply)
     pub became : new ≡ record {
@@ -85,7 +85,7 @@ module _ {State Cell : Type 0} (m : Meaning State Cell) (may : Type 0) (setting 
     }
 
   -- a message that is opened as a request, which is done
-  pub record DoesMessage (old : Standing State) (message : Message) (reply : List ℕ) (new : Standing State)
+  pub record DoesMessage (old : EngineStanding State) (message : Message) (reply : List ℕ) (new : EngineStanding State)
       : Type 0 where
     pub request : Envelope
     pub opened : Opened setting.sealing.key message request
@@ -93,11 +93,11 @@ module _ {State Cell : Type 0} (m : Meaning State Cell) (may : Type 0) (setting 
     pub does : DoesRequest old request answer reply new
 
   -- a message that is no request is dropped, and nothing changes
-  abbrev pub DropsMessage : Standing State → Message → List ℕ → Standing State → Type 0
+  abbrev pub DropsMessage : EngineStanding State → Message → List ℕ → EngineStanding State → Type 0
   DropsMessage old message reply new = IsNoRequest setting.sealing.key message × (reply ≡ []) × (new ≡ old)
 
   -- A message is dropped, or done as a request. The session goes on, unless the request was one for a shutdown.
-  abbrev pub Performs : Answering (Standing State) SessionEnd
+  abbrev pub Performs : Answering (EngineStanding State) SessionEnd
   Performs old message reply new (Ok Done) = DropsMessage old message reply new
       ⊎ ((done : DoesMessage old message reply new) × (ends done.answer.order ≡ None))
   Performs old message reply new (Ok Dropped) = ⊥
@@ -107,18 +107,18 @@ module _ {State Cell : Type 0} (m : Meaning State Cell) (may : Type 0) (setting 
 
   -- A session with a peer that sends these octets: what is written to it, what the engine has come to, and how the
   -- session ends.
-  abbrev pub IsSession : Standing State → List ℕ → List ℕ → Standing State → Ending SessionEnd → Type 0
+  abbrev pub IsSession : EngineStanding State → List ℕ → List ℕ → EngineStanding State → Ending SessionEnd → Type 0
   IsSession old octets written new ending = Serves false Performs Router old octets written new ending
 
 -- Whether the whole session is told of one that ended so: what was read ended it, or a read or a write failed. Memory
 -- and ids weren't wanting, and no request came back for an idle that is owed. If a write failed, the messages and PINGs
 -- are those up to the one whose reply or PONG it cut.
-abbrev pub IsTold : Ending SessionEnd → Type 0
-IsTold (Connection ended.Eof) = ⊤
-IsTold (Connection (ended.Wire fault)) = fault ≢ OutOfMemory
-IsTold (Connection (ended.Failed Memory)) = ⊥
-IsTold (Connection (ended.Failed Read)) = ⊤
-IsTold (Connection (ended.Failed Write)) = ⊤
-IsTold (Connection (ended.Failed Turns)) = ⊤
-IsTold (Host (Shutdown restart)) = ⊤
-IsTold (Host (Failed fault)) = ⊥
+abbrev pub IsToldWhole : Ending SessionEnd → Type 0
+IsToldWhole (Connection ended.Eof) = ⊤
+IsToldWhole (Connection (ended.Wire fault)) = fault ≢ OutOfMemory
+IsToldWhole (Connection (ended.Failed Memory)) = ⊥
+IsToldWhole (Connection (ended.Failed Read)) = ⊤
+IsToldWhole (Connection (ended.Failed Write)) = ⊤
+IsToldWhole (Connection (ended.Failed Turns)) = ⊤
+IsToldWhole (Host (Shutdown restart)) = ⊤
+IsToldWhole (Host (Failed fault)) = ⊥

@@ -24,7 +24,7 @@ use Rattle.zmtp_connection.specs.declared.end.Ending.{Ending}
 use Rattle.zmtp_connection.specs.declared.server.Answered.{Answered}
 use Rattle.zmtp_connection.specs.declared.server.Answered.TheVariants as goes
 use Rattle.zmtp_connection.specs.Server.{Answering}
-use Rattle.kernel_session.specs.Session.{IsSession, Run, Setting, Standing, reply_text}
+use Rattle.kernel_session.specs.Session.{IsSession, Run, Setting, EngineStanding, reply_text}
 
 module _ {I P S W Cell : Type 0} (world : World I P S W Cell) (may : Type 0) where
   -- the message is no request under the engine's key, and nothing changes
@@ -68,7 +68,7 @@ module _ {I P S W Cell : Type 0} (world : World I P S W Cell) (may : Type 0) whe
     pub memory : fault ≡ Memory
 
   -- the message was opened as a request, which was refused
-  pub record Refuses (old : Parts I P S W) (message : Message) (reply : List ℕ) (fault : EngineFault)
+  pub record RefusesRequest (old : Parts I P S W) (message : Message) (reply : List ℕ) (fault : EngineFault)
       (new : Parts I P S W) : Type 0 where
     pub request : Envelope
     pub opened : Opened old.publishing.signer message request
@@ -83,22 +83,23 @@ module _ {I P S W Cell : Type 0} (world : World I P S W Cell) (may : Type 0) whe
   WorksOne old message reply new (Err (Shutdown restart)) =
       WorksThrough (Some restart) old message reply new
   WorksOne old message reply new (Err (Failed fault)) =
-      Refuses old message reply fault new ⊎ WorksInVain old message reply fault new ⊎ LosesWorn old reply fault new
+      RefusesRequest old message reply fault new ⊎ WorksInVain old message reply fault new
+      ⊎ LosesWorn old reply fault new
 
 -- what is written for a request that was handled, by how the session goes on or ends
-abbrev pub Finishes : Response → List ℕ → Result Answered SessionEnd → Type 0
-Finishes handled octets (Ok goes.Done) = (octets ≡ reply_text handled.reply) × (ends handled.order ≡ None)
-Finishes handled octets (Ok goes.Dropped) = ⊥
-Finishes handled octets (Err (Shutdown restart)) =
+abbrev pub WritesHandled : Response → List ℕ → Result Answered SessionEnd → Type 0
+WritesHandled handled octets (Ok goes.Done) = (octets ≡ reply_text handled.reply) × (ends handled.order ≡ None)
+WritesHandled handled octets (Ok goes.Dropped) = ⊥
+WritesHandled handled octets (Err (Shutdown restart)) =
     (octets ≡ reply_text handled.reply) × (ends handled.order ≡ Some restart)
-Finishes handled octets (Err (Failed fault)) = (octets ≡ []) × (fault ≡ Memory)
+WritesHandled handled octets (Err (Failed fault)) = (octets ≡ []) × (fault ≡ Memory)
 
 -- what is written for what came of a message, by how the session goes on or ends
-abbrev pub Writes : Done → List ℕ → Result Answered SessionEnd → Type 0
-Writes came.Ignored octets answered = (octets ≡ []) × (answered ≡ Ok goes.Done)
-Writes came.Lost octets answered = (octets ≡ []) × (answered ≡ Ok goes.Dropped)
-Writes (came.Handled handled) octets answered = Finishes handled octets answered
-Writes (came.Refused fault) octets answered = (octets ≡ []) × (answered ≡ Err (Failed fault))
+abbrev pub WritesOutcome : Done → List ℕ → Result Answered SessionEnd → Type 0
+WritesOutcome came.Ignored octets answered = (octets ≡ []) × (answered ≡ Ok goes.Done)
+WritesOutcome came.Lost octets answered = (octets ≡ []) × (answered ≡ Ok goes.Dropped)
+WritesOutcome (came.Handled handled) octets answered = WritesHandled handled octets answered
+WritesOutcome (came.Refused fault) octets answered = (octets ≡ []) × (answered ≡ Err (Failed fault))
 
 -- what doesn't change of an engine in a session
 abbrev pub setting_of : {I P S W : Type 0} → Stamping S → Parts I P S W → Setting
@@ -109,7 +110,7 @@ setting_of stamp parts = record {
 }
 
 -- what an engine with these parts has come to, if it published this and does the requests to come so
-abbrev pub standing_of : {I P S W : Type 0} → Parts I P S W → List Message → List (Run I) → Standing I
+abbrev pub standing_of : {I P S W : Type 0} → Parts I P S W → List Message → List (Run I) → EngineStanding I
 standing_of parts published runs = record {
   state = parts.interp;
   count = parts.count;

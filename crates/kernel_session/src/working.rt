@@ -6,10 +6,10 @@ ghost use Rattle.zmtp_wire.specs.declared.handshake.socket_type.SocketType.TheVa
 ghost use Rattle.zmtp_connection.specs.declared.end.Ending.{Ending};
 ghost use Rattle.zmtp_connection.specs.Ending.{of_connection};
 ghost use Rattle.zmtp_connection.specs.Exchange.{Exchange, devices_at};
-ghost use Rattle.zmtp_connection.specs.Server.{Answering, ServesPeer, told};
+ghost use Rattle.zmtp_connection.specs.Server.{Answering, ServesPeer, told_ending};
 ghost use Rattle.kernel_session.specs.declared.end.SessionEnd.{SessionEnd};
-ghost use Rattle.kernel_session.specs.Session.{IsTold};
-ghost use Rattle.kernel_session.specs.Work.{Finishes, TellsSession, WorksOne};
+ghost use Rattle.kernel_session.specs.Session.{IsToldWhole};
+ghost use Rattle.kernel_session.specs.Work.{WritesHandled, TellsSession, WorksOne};
 ghost use Rattle.kernel_engine.specs.World.{world_of};
 
 use crate::end::SessionEnd;
@@ -74,7 +74,7 @@ where
 fn finish(alloc: Global, handled: Response, reply: &mut Vec<u8>) -> Result<Answered, SessionEnd>
     requires { IfSome handled.reply (λ frames. 0 < length frames) }
     ensures finishes { (octets : List ℕ) × (reply.new.items ≡ reply.old.items ++ octets)
-        × Finishes handled octets result }
+        × WritesHandled handled octets result }
 {
     let finished = tell(alloc, &handled, reply);
     drop(handled);
@@ -85,7 +85,7 @@ fn finish(alloc: Global, handled: Response, reply: &mut Vec<u8>) -> Result<Answe
 fn tell(alloc: Global, handled: &Response, reply: &mut Vec<u8>) -> Result<Answered, SessionEnd>
     requires { IfSome handled.now.reply (λ frames. 0 < length frames) }
     ensures finishes { (octets : List ℕ) × (reply.new.items ≡ reply.old.items ++ octets)
-        × Finishes handled.now octets result }
+        × WritesHandled handled.now octets result }
 {
     if let Some(frames) = &handled.reply {
         if write_message(alloc, frames.as_slice(), reply).is_err() {
@@ -141,7 +141,7 @@ fn employ<R: Inlet, W: Outlet, E: Worker, T: Stop>(
         × ServesPeer dropped (E.works (T.may_ask stop.now)) Router worker.old
         (devices_at (R.inflow reader.old) turns (W.outflow writer.old))
         (devices_at (R.inflow reader.new) left (W.outflow writer.new)) worker.new ended
-        × (result ≡ told dropped ended) }
+        × (result ≡ told_ending dropped ended) }
 {
     let mut working = Working { worker, stop };
     serve(
@@ -178,11 +178,11 @@ where
         × ServesPeer dropped (WorksOne (world_of I.meaning P.sink S.stamp) (T.may_ask stop.now)) Router engine.old
         (devices_at (R.inflow reader.old) turns (W.outflow writer.old))
         (devices_at (R.inflow reader.new) left (W.outflow writer.new)) engine.new ended
-        × (result ≡ told dropped ended) }
+        × (result ≡ told_ending dropped ended) }
 
     // If what the peer sent ended it, or a read or a write did: what was written and published is the session's, for
     // some courses and dates.
-    ensures tells { IsTold result → (left : ℕ) × Exchange (λ octets written.
+    ensures tells { IsToldWhole result → (left : ℕ) × Exchange (λ octets written.
         TellsSession (world_of I.meaning P.sink S.stamp) (T.may_ask stop.now) engine.old octets written engine.new
         result) (devices_at (R.inflow reader.old) turns (W.outflow writer.old))
         (devices_at (R.inflow reader.new) left (W.outflow writer.new)) (of_connection result) }

@@ -4,7 +4,7 @@ use Rattle.std.proofs.Common.{append_assoc}
 use Rattle.interp_core.specs.Interpreter.{Meaning}
 use Rattle.iopub_event.specs.declared.event.Event.{Event}
 use Rattle.iopub_queue.specs.Calls.{Adds}
-use Rattle.iopub_queue.specs.Entries.{StandsBehind, of}
+use Rattle.iopub_queue.specs.Entries.{StandsBehind, part_of}
 use Rattle.iopub_queue.specs.Values.{Publishing}
 use Rattle.jmsg_envelope.specs.Stamp.{StampMeaning, Stamping}
 use Rattle.kernel_engine.specs.declared.parts.Parts.{Parts}
@@ -18,9 +18,9 @@ use Rattle.kernel_workers.specs.Staying.{IsSameEngine}
 
 -- what a publisher published is its part of what it was told of
 pub own_part : {T : Type 0} (old closed : Publishing T) (part : Option T) → Adds old part closed
-    → of closed.number closed.told ≡ closed.published
+    → part_of closed.number closed.told ≡ closed.published
 own_part old closed part adds =
-    subst (λ (number : ℕ). of number closed.told ≡ closed.published) (sym adds.number) adds.own_part
+    subst (λ (number : ℕ). part_of number closed.told ≡ closed.published) (sym adds.number) adds.own_part
 
 -- an engine closed its publisher, and an idle that was owed was published before
 pub closed_all : {I S W : Type 0} (engine end parts : Parts I (Publishing (Event W)) S W)

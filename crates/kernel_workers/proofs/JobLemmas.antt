@@ -14,9 +14,9 @@ use Rattle.kernel_engine.specs.declared.does.Does.{Does}
 use Rattle.kernel_engine.specs.declared.fault.EngineFault.{EngineFault}
 use Rattle.kernel_engine.specs.declared.fault.EngineFault.TheVariants.{OwedIdle, Memory, Worn}
 use Rattle.kernel_engine.specs.declared.parts.Parts.{Parts}
-use Rattle.kernel_engine.specs.Handles.{Adds, HandlesErr}
+use Rattle.kernel_engine.specs.Handles.{AddsBlock, HandlesErr}
 use Rattle.kernel_engine.specs.WellBlocked.{Block}
-use Rattle.kernel_engine.specs.Orders.{ends, order_of}
+use Rattle.kernel_engine.specs.Orders.{ends, order_of_request}
 use Rattle.kernel_engine.specs.Takes.{Asks, Finishes, GoesUnread, Takes}
 use Rattle.kernel_engine.specs.World.{World, world_of}
 use Rattle.iopub_queue.specs.Sink.{publisher_sink}
@@ -41,7 +41,7 @@ module _ {I S W Cell : Type 0} (m : Meaning I Cell) (stamps : Stamping S) (may :
   stays old new same = rw (same) (record { side = refl; queue = refl; number = refl; signer = refl; meant = refl })
 
   -- a block was added
-  pub added : (block : Block) (old new : Parts I (Publisher (Event W)) S W) → Adds world block old new
+  pub added : (block : Block) (old new : Parts I (Publisher (Event W)) S W) → AddsBlock world block old new
       → IsSameEngine stamps old new
   added block old new adds = record {
     side = adds.side;
@@ -81,15 +81,16 @@ module _ {I S W Cell : Type 0} (m : Meaning I Cell) (stamps : Stamping S) (may :
   taken_same frames old new (Refused fault) (inr worn) = stays old new worn.same
 
   -- what came of a request that doesn't ask for the kernel's end
-  pub ends_nothing : (frames : List (List ℕ)) (asked : Asked) (old new : Parts I (Publisher (Event W)) S W) (done : Done)
-      → Asks old.publishing.signer old.side frames asked → is_some (ends (order_of asked.does)) ≡ false
+  pub ends_nothing : (frames : List (List ℕ)) (asked : Asked) (old new : Parts I (Publisher (Event W)) S W)
+      (done : Done)
+      → Asks old.publishing.signer old.side frames asked → is_some (ends (order_of_request asked.does)) ≡ false
       → Finishes world may asked old done new → EndsNothing old.publishing.signer old.side frames done
   ends_nothing frames asked old new Ignored asks none never = tt
   ends_nothing frames asked old new Lost asks none never = tt
   ends_nothing frames asked old new (Handled handled) asks none (read, ok) = (
     asked.request,
     asks.opened,
-    subst (λ (does : Does). is_some (ends (order_of does)) ≡ false) read none,
+    subst (λ (does : Does). is_some (ends (order_of_request does)) ≡ false) read none,
   )
   ends_nothing frames asked old new (Refused fault) asks none why = tt
 

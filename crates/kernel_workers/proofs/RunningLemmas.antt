@@ -8,13 +8,13 @@ use Rattle.std.specs.List.{AllByRecursion}
 use Rattle.interp_core.specs.Interpreter.{Meaning}
 use Rattle.zmtp_wire.specs.Device.{Outflow}
 use Rattle.iopub_event.specs.declared.event.Event.{Event}
-use Rattle.iopub_queue.specs.Entries.{of, CloseIsLast, EndsWithClose, IsComplete}
+use Rattle.iopub_queue.specs.Entries.{part_of, CloseIsLast, EndsWithClose, IsComplete}
 use Rattle.iopub_queue.specs.Values.{Publishing, Taking}
 use Rattle.iopub_queue.specs.Calls.{IsCapacity, Settles}
 use Rattle.iopub_queue.specs.declared.fault.OpenFault.TheVariants.{Count, Capacity, OutOfMemory}
 use Rattle.iopub_queue.specs.declared.taken.Settled.{Settled}
 use Rattle.iopub_queue.specs.declared.taken.Settled.TheVariants.{Whole, Beginning}
-use Rattle.iopub_relay.specs.Relay.{IsLeftOf, Relaying, Meets, AreWhole, HasNumber, AreOfNumbers, AreAllClosed}
+use Rattle.iopub_relay.specs.Relay.{RelayIsLeft, Relaying, Meets, AreWhole, HasNumber, AreOfNumbers, AreAllClosed}
 use Rattle.jmsg_envelope.specs.Stamp.{Stamping}
 use Rattle.atomic_table.specs.Seated.{TableId}
 use Rattle.kernel_engine.specs.declared.side.Side.{Side}
@@ -33,14 +33,15 @@ use Rattle.kernel_workers.specs.declared.kernel_end.WorkDone.{WorkDone}
 use Rattle.kernel_workers.specs.declared.shutdown.ShutdownEnd.{ShutdownEnd}
 use Rattle.kernel_workers.specs.Ending.{EndsBlocked, EndsSilent, IsBlockedBy, IsNoMessage, closed_list}
 use Rattle.kernel_workers.specs.declared.ended.Cause.TheVariants.{Told, Shutdown, Asked, Worn}
-use Rattle.kernel_workers.specs.Causes.{restart_of, word_of}
-use Rattle.kernel_workers.specs.Jobs.{AreAnswered, answered_in, messages_of}
+use Rattle.kernel_workers.specs.Causes.{restart_of, shutdown_word}
+use Rattle.kernel_workers.specs.Jobs.{AreAnswered, answered_in, messages_of_jobs}
 use Rattle.kernel_workers.specs.Running.{BothDid, Did}
-use Rattle.kernel_workers.specs.Running.{AnswersLast, EndsAtOnce, EndsBy, EndsFor, EndsOver, EndsWell, IsFaultAtEnd}
-use Rattle.kernel_workers.specs.Running.{FailsBy, IsLast, Leaving, ShutsDown, TellsOf, TookAll, TookEach, both_did}
+use Rattle.kernel_workers.specs.Running.{AnswersLast, EndsAtOnce, KernelEndsBy, EndsFor, EndsOver, EndsWell}
+use Rattle.kernel_workers.specs.Running.{IsFaultAtEnd}
+use Rattle.kernel_workers.specs.Running.{FailsBy, IsLastToken, Leaving, ShutsDown, TellsOf, TookAll, TookEach, both_did}
 use Rattle.kernel_workers.specs.Running.{did_by, did_of, leaving_by, restart_by, taken_of}
 use Rattle.kernel_workers.specs.Shutdown.{EndsInOrder, IsRest}
-use Rattle.kernel_workers.specs.Starting.{AreOfOne, IsOpened, IsSetUp, Setup, beginning, newcomer}
+use Rattle.kernel_workers.specs.Starting.{AreOfOne, IsOpened, IsSetUp, Setup, beginning, publisher_at_first}
 use Rattle.kernel_workers.specs.Staying.{IsSameEngine}
 use Rattle.kernel_workers.specs.Works.{WorksOff}
 use Rattle.kernel_workers.proofs.EndingLemmas.{blocked_same}
@@ -56,15 +57,15 @@ one_of first second third (suc (suc (suc number))) first_is second_is third_is b
 
 module _ {T : Type 0} where
   by_answer : (taker : Taking T) (closed : Publishing T) (answer : Settled) → Settles taker closed answer
-      → EndsWithClose (of closed.number taker.taken) → of closed.number taker.taken ≡ closed.published
+      → EndsWithClose (part_of closed.number taker.taken) → part_of closed.number taker.taken ≡ closed.published
   by_answer taker closed Whole settles ends = settles.decided.1
   by_answer taker closed Beginning settles ends = absurd (settles.decided ends)
 
   -- of a publisher whose close was taken just what it published was
   pub met_whole : (taker : Taking T) (closed : Publishing T) (number : ℕ) → closed.number ≡ number → Meets taker closed
-      → EndsWithClose (of closed.number taker.taken) → of number taker.taken ≡ closed.published
+      → EndsWithClose (part_of closed.number taker.taken) → part_of number taker.taken ≡ closed.published
   met_whole taker closed number is meets ends =
-      subst (λ (n : ℕ). of n taker.taken ≡ closed.published) is (by_answer taker closed meets.0 meets.1 ends)
+      subst (λ (n : ℕ). part_of n taker.taken ≡ closed.published) is (by_answer taker closed meets.0 meets.1 ends)
 
   -- the tokens of three publishers
   abbrev pub three : Publishing T → Publishing T → Publishing T → List (Publishing T)
@@ -125,24 +126,26 @@ module _ {W R : Type 0} (outflow : W → Outflow) where
   pub took_by : (relay : Relaying W) (complete restart : Bool) (ended : KernelEnd W R)
       → TellsOf outflow relay complete restart ended → relay.taker.count ≡ 3 → complete ≡ true
       → IsComplete relay.taker.count relay.taker.taken
-      → ((number : ℕ) → CloseIsLast (of number relay.taker.taken)) → AreOfNumbers relay.taker.count relay.taker.taken
+      → ((number : ℕ) → CloseIsLast (part_of number relay.taker.taken))
+      → AreOfNumbers relay.taker.count relay.taker.taken
       → TookAll outflow ended
   took_by relay complete restart ended tells three_of says whole last others = record {
     says = tells.complete_is ∙ says;
     count = ap (λ (r : Relaying W). r.taker.count) tells.relay_is ∙ three_of;
     complete = subst (λ (r : Relaying W). IsComplete 3 r.taker.taken) (sym tells.relay_is)
         (subst (λ (n : ℕ). IsComplete n relay.taker.taken) three_of whole);
-    last = subst (λ (r : Relaying W). (number : ℕ) → CloseIsLast (of number r.taker.taken)) (sym tells.relay_is) last;
+    last = subst (λ (r : Relaying W). (number : ℕ) → CloseIsLast (part_of number r.taker.taken))
+        (sym tells.relay_is) last;
     others = subst (λ (r : Relaying W). AreOfNumbers 3 r.taker.taken) (sym tells.relay_is)
         (subst (λ (n : ℕ). AreOfNumbers n relay.taker.taken) three_of others);
-    left = subst (λ (r : Relaying W). IsLeftOf outflow r.taker.taken ended.no_room ended.subscribers.items)
+    left = subst (λ (r : Relaying W). RelayIsLeft outflow r.taker.taken ended.no_room ended.subscribers.items)
         (sym tells.relay_is) tells.left;
   }
 
   -- what was taken of a number
-  part_of : (relay : Relaying W) (ended : KernelEnd W R) (number : ℕ) {list : List (Option (Event W))}
-      → ended.relay.value ≡ relay → of number relay.taker.taken ≡ list → of number (taken_of ended) ≡ list
-  part_of relay ended number is part = ap (λ (r : Relaying W). of number r.taker.taken) is ∙ part
+  part_is : (relay : Relaying W) (ended : KernelEnd W R) (number : ℕ) {list : List (Option (Event W))}
+      → ended.relay.value ≡ relay → part_of number relay.taker.taken ≡ list → part_of number (taken_of ended) ≡ list
+  part_is relay ended number is part = ap (λ (r : Relaying W). part_of number r.taker.taken) is ∙ part
 
   -- all was taken, where a relay concluded with three publishers that all closed
   took_all : (old : Taking (Event W)) (concluded : Relaying W) (shell control subscriptions : Publishing (Event W))
@@ -154,7 +157,7 @@ module _ {W R : Type 0} (outflow : W → Outflow) where
       → (IsTrue complete ↔ IsComplete concluded.taker.count concluded.taker.taken)
       → (IsTrue complete → AreWhole concluded.taker tokens)
       → (AreAllClosed old.count tokens → IsTrue complete)
-      → ((number : ℕ) → CloseIsLast (of number concluded.taker.taken))
+      → ((number : ℕ) → CloseIsLast (part_of number concluded.taker.taken))
       → AreOfNumbers concluded.taker.count concluded.taker.taken
       → TellsOf outflow concluded complete restart ended
       → TookEach outflow old.queue shell.published control.published subscriptions.published ended
@@ -168,11 +171,11 @@ module _ {W R : Type 0} (outflow : W → Outflow) where
         took = took_by concluded complete restart ended tells (same.1 ∙ one.count) says_so (says.0 says_so) last
             others;
         queue_is = ap (λ (r : Relaying W). r.taker.queue) tells.relay_is ∙ same.0;
-        shell_is = part_of concluded ended 0 tells.relay_is
+        shell_is = part_is concluded ended 0 tells.relay_is
             (met_whole concluded.taker shell 0 one.shell_is met.0 ends.0);
-        control_is = part_of concluded ended 1 tells.relay_is
+        control_is = part_is concluded ended 1 tells.relay_is
             (met_whole concluded.taker control 1 one.control_is met.1.0 ends.1.0);
-        subscriptions_are = part_of concluded ended 2 tells.relay_is
+        subscriptions_are = part_is concluded ended 2 tells.relay_is
             (met_whole concluded.taker subscriptions 2 one.subscriptions_are met.1.1.0 ends.1.1.0);
       }
 
@@ -187,7 +190,7 @@ module _ {W R : Type 0} (outflow : W → Outflow) where
       → (IsTrue complete ↔ IsComplete concluded.taker.count concluded.taker.taken)
       → (IsTrue complete → AreWhole concluded.taker tokens)
       → (AreAllClosed old.count tokens → IsTrue complete)
-      → ((number : ℕ) → CloseIsLast (of number concluded.taker.taken))
+      → ((number : ℕ) → CloseIsLast (part_of number concluded.taker.taken))
       → AreOfNumbers concluded.taker.count concluded.taker.taken
       → IfOk ended (TellsOf outflow concluded complete restart)
       → IfOk ended (TookEach outflow old.queue shell.published control.published subscriptions.published)
@@ -210,7 +213,7 @@ module _ {W : Type 0} where
   -- the token of subscriptions is that of all others
   pub is_rest : (shell control subscriptions : Publishing (Event W)) (taker : Taking (Event W))
       (tokens : Vec (Publishing (Event W))) → AreOfOne shell control subscriptions taker
-      → IsLast subscriptions tokens
+      → IsLastToken subscriptions tokens
       → IsRest taker shell.number control.number tokens.items × (length tokens.items + 2 ≤ vec_capacity tokens)
   is_rest shell control subscriptions taker tokens one last = (
     subst (λ (list : List (Publishing (Event W))). IsRest taker shell.number control.number list) (sym last.alone)
@@ -235,7 +238,8 @@ did_same work (Ok ended) same = ap both_did same
 
 -- what workers left is as a kernel's end sees it
 pub leaving_is : {I S W R Cell : Type 0} (shell control : Ended I S W R Cell)
-    (of_shell of_control : Engine I (Publishing (Event W)) S W) (subscriptions : Publishing (Event W)) (shell_did control_did : WorkDone) → of_shell ≡ shell.work.engine
+    (of_shell of_control : Engine I (Publishing (Event W)) S W) (subscriptions : Publishing (Event W))
+    (shell_did control_did : WorkDone) → of_shell ≡ shell.work.engine
     → of_control ≡ control.work.engine → did_of shell_did ≡ did_by shell.work → did_of control_did ≡ did_by control.work
     → leaving_by shell control subscriptions ≡ record {
       shell = of_shell;
@@ -253,7 +257,7 @@ module _ {I S W Cell : Type 0} (m : Meaning I Cell) (stamps : Stamping S) where
   in_order : {R : Type 0} (outflow : W → Outflow) (asking : Asking) (left : Leaving I S W) (relay : Relaying W)
       (end : ShutdownEnd W R) (restart : Bool) (ended : KernelEnd W R)
       → AreOfOne left.shell.publishing.sink left.control.publishing.sink left.subscriptions relay.taker
-      → EndsInOrder m stamps left.shell left.control asking.request relay (IsLast left.subscriptions) end
+      → EndsInOrder m stamps left.shell left.control asking.request relay (IsLastToken left.subscriptions) end
       → TellsOf outflow end.relay end.complete restart ended
       → EndsOver m stamps outflow left.shell left.control ended
   in_order outflow asking left relay end restart ended one ends tells =
@@ -262,33 +266,36 @@ module _ {I S W Cell : Type 0} (m : Meaning I Cell) (stamps : Stamping S) where
       let says : IsTrue end.complete =
       ends.closed (subst (λ (list : List (Publishing (Event W))). AllByRecursion
       (λ closed. EndsWithClose closed.published) list) (sym last.alone) (last.ends.close_last, tt)) in
-      let others : AllByRecursion (λ closed. of closed.number taken ≡ closed.published) (last.closed ∷ []) =
+      let others : AllByRecursion (λ closed. part_of closed.number taken ≡ closed.published) (last.closed ∷ []) =
       subst (λ (list : List (Publishing (Event W))). AllByRecursion
-      (λ closed. of closed.number taken ≡ closed.published) list) last.alone (ends.others says) in
-      let silent : of 2 taken ≡ last.closed.published = subst (λ (n : ℕ). of n taken ≡ last.closed.published)
+      (λ closed. part_of closed.number taken ≡ closed.published) list) last.alone (ends.others says) in
+      let silent : part_of 2 taken ≡ last.closed.published = subst (λ (n : ℕ). part_of n taken ≡ last.closed.published)
       (last.ends.number ∙ one.subscriptions_are) others.0 in
       record {
         took = took_by outflow end.relay end.complete restart ended tells (ends.count ∙ one.count) says
             (ends.complete.0 says) ends.last ends.numbers;
         queue = ap (λ (r : Relaying W). r.taker.queue) tells.relay_is ∙ ends.queue ∙ sym one.shell_queue;
-        shell_is = part_of outflow end.relay ended 0 tells.relay_is
-            (subst (λ (n : ℕ). of n taken ≡ closed_list left.shell) one.shell_is (ends.shell_is says));
-        shell_blocked = subst (λ (r : Relaying W). IsBlockedBy m stamps left.shell (of 0 r.taker.taken))
+        shell_is = part_is outflow end.relay ended 0 tells.relay_is
+            (subst (λ (n : ℕ). part_of n taken ≡ closed_list left.shell) one.shell_is (ends.shell_is says));
+        shell_blocked = subst (λ (r : Relaying W). IsBlockedBy m stamps left.shell (part_of 0 r.taker.taken))
             (sym tells.relay_is)
-            (subst (λ (n : ℕ). IsBlockedBy m stamps left.shell (of n taken)) one.shell_is (ends.shell_blocked says));
-        control_blocked = subst (λ (r : Relaying W). IsBlockedBy m stamps left.control (of 1 r.taker.taken))
+            (subst (λ (n : ℕ). IsBlockedBy m stamps left.shell (part_of n taken)) one.shell_is
+            (ends.shell_blocked says));
+        control_blocked = subst (λ (r : Relaying W). IsBlockedBy m stamps left.control (part_of 1 r.taker.taken))
             (sym tells.relay_is)
-            (subst (λ (n : ℕ). IsBlockedBy m stamps left.control (of n taken)) one.control_is
+            (subst (λ (n : ℕ). IsBlockedBy m stamps left.control (part_of n taken)) one.control_is
             (ends.control_blocked says));
-        subscriptions_silent = subst (λ (r : Relaying W). All IsNoMessage (of 2 r.taker.taken)) (sym tells.relay_is)
+        subscriptions_silent = subst (λ (r : Relaying W). All IsNoMessage (part_of 2 r.taker.taken))
+            (sym tells.relay_is)
             (subst (λ (list : List (Option (Event W))). All IsNoMessage list) (sym silent) last.ends.silent);
       }
 
   -- it was shut down so if what is left can be told
   pub shuts_down : (R : Type 0) (outflow : W → Outflow) (asking : Asking) (left : Leaving I S W) (relay : Relaying W)
       (end : ShutdownEnd W R) (ended : Result (KernelEnd W R) KernelFault)
-      → EndsInOrder m stamps left.shell left.control asking.request relay (IsLast left.subscriptions) end
-      → IfOk ended (TellsOf outflow end.relay end.complete (restart_by (word_of end.fault end.restart) left.of_shell))
+      → EndsInOrder m stamps left.shell left.control asking.request relay (IsLastToken left.subscriptions) end
+      → IfOk ended
+      (TellsOf outflow end.relay end.complete (restart_by (shutdown_word end.fault end.restart) left.of_shell))
       → IfOk ended (λ kernel. AnswersLast asking.to end.reply end.fault left.did (both_did kernel.work))
       → IfOk ended (ShutsDown R m stamps outflow asking relay left)
   shuts_down R outflow asking left relay end (Err fault) ends tells answers = tt
@@ -350,7 +357,7 @@ module _ {I S W Cell : Type 0} (m : Meaning I Cell) (stamps : Stamping S) where
       → leaving_by shell control setup.subscriptions ≡ left
       → IfOk ended (EndsOver m stamps outflow left.shell left.control)
       → IfOk ended (EndsFor R m stamps outflow control.cause left)
-      → IfOk ended (EndsBy R m stamps outflow setup)
+      → IfOk ended (KernelEndsBy R m stamps outflow setup)
   ends_by R outflow setup shell control left (Err fault) shell_works control_works same_shell same_control is over ends
       = tt
   ends_by R outflow setup shell control left (Ok ended) shell_works control_works same_shell same_control is over ends =
@@ -390,10 +397,11 @@ module _ {I S W Cell : Type 0} (m : Meaning I Cell) (stamps : Stamping S) where
   -- an engine that was set up over a publisher of a queue that was just opened
   set_up_over : (side : Side) (language : I × S) (key : List ℕ) (number : ℕ) (queue other : TableId)
       (engine : Engine I (Publishing (Event W)) S W)
-      → engine ≡ beginning side language key engine.publishing.sink → engine.publishing.sink ≡ newcomer queue number
-      → other ≡ queue → engine ≡ beginning side language key (newcomer other number)
+      → engine ≡ beginning side language key engine.publishing.sink
+      → engine.publishing.sink ≡ publisher_at_first queue number
+      → other ≡ queue → engine ≡ beginning side language key (publisher_at_first other number)
   set_up_over side language key number queue other engine is over same =
-      is ∙ ap (beginning side language key) (over ∙ ap (λ (q : TableId). newcomer q number) (sym same))
+      is ∙ ap (beginning side language key) (over ∙ ap (λ (q : TableId). publisher_at_first q number) (sym same))
 
   -- what shell did, as a kernel's end tells it
   shell_did : (R : Type 0) (outflow : W → Outflow) (cause : Cause) (left : Leaving I S W) (ended : KernelEnd W R)
@@ -405,18 +413,19 @@ module _ {I S W Cell : Type 0} (m : Meaning I Cell) (stamps : Stamping S) where
 
   -- what came out of control's inbox was answered, if what its worker left to be was
   at_once_answered : {R : Type 0} (before : List (Option Job)) (left : Leaving I S W) (ended : KernelEnd W R)
-      → messages_of left.did.control.jobs ≡ messages_of before ++ (answered_in left.did.control.outcomes.answers ++ [])
+      → messages_of_jobs left.did.control.jobs
+      ≡ messages_of_jobs before ++ (answered_in left.did.control.outcomes.answers ++ [])
       → EndsAtOnce left ended
       → AreAnswered before ended.work.control.inbox.value ended.work.control.outcomes.answers
   at_once_answered before left ended came ends =
       subst (λ (d : Did). AreAnswered before d.jobs d.outcomes.answers)
       (sym (ap (λ (d : BothDid). d.control) ends.did_is))
-      (came ∙ ap (λ (l : List (List (List ℕ))). messages_of before ++ l) (append-nil _))
+      (came ∙ ap (λ (l : List (List (List ℕ))). messages_of_jobs before ++ l) (append-nil _))
 
   control_answered : (R : Type 0) (outflow : W → Outflow) (cause : Cause) (before : List (Option Job))
       (left : Leaving I S W) (ended : KernelEnd W R)
-      → messages_of left.did.control.jobs
-      ≡ messages_of before ++ (answered_in left.did.control.outcomes.answers ++ held_by (Some cause))
+      → messages_of_jobs left.did.control.jobs
+      ≡ messages_of_jobs before ++ (answered_in left.did.control.outcomes.answers ++ held_by (Some cause))
       → EndsFor R m stamps outflow cause left ended
       → AreAnswered before ended.work.control.inbox.value ended.work.control.outcomes.answers
   control_answered R outflow Told before left ended came ends = at_once_answered before left ended came ends
@@ -424,15 +433,15 @@ module _ {I S W Cell : Type 0} (m : Meaning I Cell) (stamps : Stamping S) where
       at_once_answered before left ended came ends
   control_answered R outflow (Asked asking) before left ended came (relay, shuts) =
       let answers = shuts.answers in
-      ap (λ (d : BothDid). messages_of d.control.jobs) answers.rest ∙ came
-      ∙ ap (λ (l : List (List (List ℕ))). messages_of before ++ l)
+      ap (λ (d : BothDid). messages_of_jobs d.control.jobs) answers.rest ∙ came
+      ∙ ap (λ (l : List (List (List ℕ))). messages_of_jobs before ++ l)
       (sym (ap answered_in answers.records.answered ∙ answered_append left.did.control.outcomes.answers _))
   control_answered R outflow Worn before left ended came ends = at_once_answered before left ended came ends
 
   -- a kernel ends well whose workers were set up of its parts
   pub ends_well : (R : Type 0) (outflow : W → Outflow) (parts : Parts I S W) (setup : Setup I S W)
       (taker : Taking (Event W)) (ended : Result (KernelEnd W R) KernelFault) → IsCapacity parts.capacity
-      → IsSetUp parts setup taker → IfOk ended (EndsBy R m stamps outflow setup)
+      → IsSetUp parts setup taker → IfOk ended (KernelEndsBy R m stamps outflow setup)
       → IfOk ended (EndsWell R m stamps outflow parts)
   ends_well R outflow parts setup taker (Err fault) capacity set ends = tt
   ends_well R outflow parts setup taker (Ok ended) capacity set ends =
@@ -458,7 +467,7 @@ module _ {I S W Cell : Type 0} (m : Meaning I Cell) (stamps : Stamping S) where
         shell_is = ends.shell_is;
         ends = subst (λ (p : Publishing (Event W)). EndsFor R m stamps outflow ends.control.cause
             (leaving_by ends.shell ends.control p) ended)
-            (set.opened.subscriptions_are ∙ ap (λ (q : TableId). newcomer q 2) (sym queue)) ends.ends;
+            (set.opened.subscriptions_are ∙ ap (λ (q : TableId). publisher_at_first q 2) (sym queue)) ends.ends;
         shell_answered = subst (λ (d : Did). AreAnswered parts.shell_in.from d.jobs d.outcomes.answers)
             (sym (shell_did R outflow ends.control.cause _ ended ends.ends))
             (shell_answered m stamps _ _ ends.shell shell_works);

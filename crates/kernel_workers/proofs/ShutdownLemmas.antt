@@ -7,7 +7,7 @@ use Rattle.std.specs.List.{AllByRecursion}
 use Rattle.zmtp_wire.proofs.PendingLemmas.{all_append}
 use Rattle.interp_core.specs.Interpreter.{Meaning}
 use Rattle.iopub_event.specs.declared.event.Event.{Event}
-use Rattle.iopub_queue.specs.Entries.{CloseIsLast, Entry, EndsWithClose, IsComplete, StandsBehind, StartsWith, of}
+use Rattle.iopub_queue.specs.Entries.{CloseIsLast, Entry, EndsWithClose, IsComplete, StandsBehind, StartsWith, part_of}
 use Rattle.iopub_queue.specs.Laws.{IsTakenBehind}
 use Rattle.iopub_queue.proofs.Order.{keeps_order}
 use Rattle.iopub_queue.proofs.Parts.{of_append}
@@ -20,7 +20,7 @@ use Rattle.kernel_engine.specs.declared.fault.EngineFault.{EngineFault}
 use Rattle.kernel_engine.specs.declared.fault.EngineFault.TheVariants.{OwedIdle, Memory, Worn}
 use Rattle.kernel_engine.specs.declared.handled.Handled.{Handled}
 use Rattle.kernel_engine.specs.Growth.{item_of, sealing_of}
-use Rattle.kernel_engine.specs.Handles.{Adds, HandlesErr}
+use Rattle.kernel_engine.specs.Handles.{AddsBlock, HandlesErr}
 use Rattle.kernel_engine.specs.Last.{HandlesLastErr, IdleIsBehind}
 use Rattle.kernel_engine.specs.WellBlocked.{Block, idle_of}
 use Rattle.kernel_engine.specs.World.{world_of}
@@ -52,17 +52,17 @@ starts_behind {T} whole told entry (before, ends, (rest, front)) = (
 
 -- a part of a beginning is no longer than the part of the whole
 part_is_short : {T : Type 0} (number : ℕ) (whole told : List (Entry T)) → StartsWith whole told
-    → length (of number told) ≤ length (of number whole)
+    → length (part_of number told) ≤ length (part_of number whole)
 part_is_short {T} number whole told (rest, is) =
-    let parts : length (of number whole) ≡ length (of number told) + length (of number rest) =
-    ap (λ (l : List (Entry T)). length (of number l)) is ∙ ap length (of_append number told rest)
-    ∙ length-append (of number told) (of number rest) in
+    let parts : length (part_of number whole) ≡ length (part_of number told) + length (part_of number rest) =
+    ap (λ (l : List (Entry T)). length (part_of number l)) is ∙ ap length (of_append number told rest)
+    ∙ length-append (part_of number told) (part_of number rest) in
     omega (arith, parts)
 
 -- where all is complete the part of each that met the taker is what that one published
 all_met : {T : Type 0} (taker : Taking T) (tokens : List (Publishing T)) → AllByRecursion (Meets taker) tokens
     → IsComplete taker.count taker.taken
-    → AllByRecursion (λ closed. of closed.number taker.taken ≡ closed.published) tokens
+    → AllByRecursion (λ closed. part_of closed.number taker.taken ≡ closed.published) tokens
 all_met taker [] meets complete = tt
 all_met taker (closed ∷ tokens) (met, meets) complete = (
   met_whole taker closed closed.number refl met (complete closed.number met.1.known),
@@ -71,17 +71,17 @@ all_met taker (closed ∷ tokens) (met, meets) complete = (
 
 -- what was taken of each that met the taker is a beginning of what that one published
 all_begin : {T : Type 0} (taker : Taking T) (tokens : List (Publishing T)) → AllByRecursion (Meets taker) tokens
-    → AllByRecursion (λ closed. StartsWith closed.published (of closed.number taker.taken)) tokens
+    → AllByRecursion (λ closed. StartsWith closed.published (part_of closed.number taker.taken)) tokens
 all_begin taker [] meets = tt
 all_begin taker (closed ∷ tokens) (met, meets) = (met.1.beginning, all_begin taker tokens meets)
 
 -- what was taken of a publisher is a beginning of its list
 begins_by : {T : Type 0} (taker : Taking T) (closed : Publishing T) (number : ℕ) (list : List (Option T))
     → closed.number ≡ number → closed.published ≡ list → Meets taker closed
-    → StartsWith list (of number taker.taken)
+    → StartsWith list (part_of number taker.taken)
 begins_by {T} taker closed number list is same met =
-    subst (λ (n : ℕ). StartsWith list (of n taker.taken)) is
-    (subst (λ (items : List (Option T)). StartsWith items (of closed.number taker.taken)) same met.1.beginning)
+    subst (λ (n : ℕ). StartsWith list (part_of n taker.taken)) is
+    (subst (λ (items : List (Option T)). StartsWith items (part_of closed.number taker.taken)) same met.1.beginning)
 
 -- what came back of a relay is what it was
 pub back_is : {W R : Type 0} (relay back : Relaying W) (drained : Drained W R) → DrainsFrom relay drained
@@ -151,7 +151,7 @@ module _ {W : Type 0} where
       → EndsWithClose shell.published → EndsWithClose control.published
       → (new.queue ≡ old.queue) × (new.count ≡ old.count) → StartsWith new.taken old.taken
       → (IsTrue end.complete ↔ IsComplete new.count new.taken)
-      → ((number : ℕ) → CloseIsLast (of number new.taken)) → AreOfNumbers new.count new.taken
+      → ((number : ℕ) → CloseIsLast (part_of number new.taken)) → AreOfNumbers new.count new.taken
       → AllByRecursion (Meets new) all → (AreAllClosed old.count all → IsTrue end.complete)
       → IsSaid done end.reply end.restart end.fault
       → Concludes old shell control tokens done end
@@ -170,7 +170,7 @@ module _ {W : Type 0} where
           each = λ number below. subst (λ (list : List (Publishing (Event W))). HasNumber number list) (sym are)
               (one_of_each old shell control tokens number (rest.each number below));
         });
-        last = subst (λ (t : Taking (Event W)). (number : ℕ) → CloseIsLast (of number t.taken)) (sym is) last;
+        last = subst (λ (t : Taking (Event W)). (number : ℕ) → CloseIsLast (part_of number t.taken)) (sym is) last;
         numbers = subst (λ (t : Taking (Event W)). AreOfNumbers t.count t.taken) (sym is) numbers;
         meets_shell = subst (λ (t : Taking (Event W)). Meets t shell) (sym is) two.0;
         meets_control = subst (λ (t : Taking (Event W)). Meets t control) (sym is) two.1.0;
@@ -202,14 +202,15 @@ module _ {I S W Cell : Type 0} (m : Meaning I Cell) (stamps : Stamping S) where
       (done : Result Handled EngineFault) → again ≡ shell_closed
       → word ≡ record { queue = shell_closed.queue; list = shell_closed.told }
       → EndsBlocked m stamps shell shell_closed → shell_closed.published ≡ closed_list shell
-      → of shell_closed.number shell_closed.told ≡ shell_closed.published
+      → part_of shell_closed.number shell_closed.told ≡ shell_closed.published
       → DoesLast m stamps word.list request control done after
       → EndsBlocked m stamps after control_closed → control_closed.published ≡ closed_list after
-      → of control_closed.number control_closed.told ≡ control_closed.published
+      → part_of control_closed.number control_closed.told ≡ control_closed.published
       → (after.owed ≡ None
       → StandsBehind control_closed.told (after.publishing.sink.number, None) after.publishing.sink.told)
       → ClosesInOrder m stamps shell control request again control_closed done
-  closes_in_order shell control after request shell_closed again control_closed word done same told shell_ends shell_list
+  closes_in_order shell control after request shell_closed again control_closed word done same told shell_ends
+      shell_list
       shell_own does control_ends control_list control_own behind =
       let stays = last_same word.list request control after done does in
       rw same (record {
@@ -227,7 +228,7 @@ module _ {I S W Cell : Type 0} (m : Meaning I Cell) (stamps : Stamping S) where
       })
 
   -- over a publisher the idle of a block is never owed
-  never_owes : (block : Block) (old new : Engine I S W) → Adds (world_of m publisher_sink stamps) block old new
+  never_owes : (block : Block) (old new : Engine I S W) → AddsBlock (world_of m publisher_sink stamps) block old new
       → (block.closed ≡ true) × (new.owed ≡ None)
   never_owes block old new adds = closes_always adds.owed where
     closes_always : {A B C : Type 0} → A ⊎ (B × C × ⊥) → A
@@ -236,9 +237,9 @@ module _ {I S W Cell : Type 0} (m : Meaning I Cell) (stamps : Stamping S) where
 
   -- the idle of a block that was added stands behind all that the word tells
   idle_behind : (control after : Engine I S W) (word : List (Entry (Event W))) (closed : Publishing (Event W))
-      (block : Block) (taker : Taking (Event W)) → Adds (world_of m publisher_sink stamps) block control after
+      (block : Block) (taker : Taking (Event W)) → AddsBlock (world_of m publisher_sink stamps) block control after
       → IdleIsBehind (world_of m publisher_sink stamps) itself word block control after
-      → closed.number ≡ control.publishing.sink.number → of closed.number closed.told ≡ closed.published
+      → closed.number ≡ control.publishing.sink.number → part_of closed.number closed.told ≡ closed.published
       → (after.owed ≡ None
       → StandsBehind closed.told (control.publishing.sink.number, None) after.publishing.sink.told)
       → Meets taker closed → IsComplete taker.count taker.taken
@@ -251,11 +252,12 @@ module _ {I S W Cell : Type 0} (m : Meaning I Cell) (stamps : Stamping S) where
       let starts = starts_behind closed.told after.publishing.sink.told (control.publishing.sink.number, None)
       (behind none) in
       let short = part_is_short control.publishing.sink.number closed.told after.publishing.sink.told starts in
-      let whole : of control.publishing.sink.number taker.taken ≡ of control.publishing.sink.number closed.told =
+      let whole : part_of control.publishing.sink.number taker.taken
+      ≡ part_of control.publishing.sink.number closed.told =
       met_whole taker closed control.publishing.sink.number number meets (complete closed.number meets.1.known)
-      ∙ sym (subst (λ (n : ℕ). of n closed.told ≡ closed.published) number own) in
-      let same : length (of control.publishing.sink.number taker.taken)
-      ≡ length (of control.publishing.sink.number closed.told) = ap length whole in
+      ∙ sym (subst (λ (n : ℕ). part_of n closed.told ≡ closed.published) number own) in
+      let same : length (part_of control.publishing.sink.number taker.taken)
+      ≡ length (part_of control.publishing.sink.number closed.told) = ap length whole in
       keeps_order closed.told after.publishing.sink.told taker.taken word _ meets.1.agree starts (last is_closed)
       (omega (arith, short, same))
 
@@ -263,7 +265,7 @@ module _ {I S W Cell : Type 0} (m : Meaning I Cell) (stamps : Stamping S) where
   refused_by : {R : Type 0} (control after : Engine I S W) (request : Envelope) (word : List (Entry (Event W)))
       (closed : Publishing (Event W)) (end : ShutdownEnd W R) (why : EngineFault)
       → HandlesLastErr (world_of m publisher_sink stamps) itself ⊥ request word control why after
-      → closed.number ≡ control.publishing.sink.number → of closed.number closed.told ≡ closed.published
+      → closed.number ≡ control.publishing.sink.number → part_of closed.number closed.told ≡ closed.published
       → (after.owed ≡ None
       → StandsBehind closed.told (control.publishing.sink.number, None) after.publishing.sink.told)
       → Meets end.relay.taker closed
@@ -322,11 +324,11 @@ module _ {I S W Cell : Type 0} (m : Meaning I Cell) (stamps : Stamping S) where
   ends_in_order shell control request relay drained Gives tokens shell_closed control_closed done end (entries, more)
       given closes concluded =
       let shell_is : IsTrue end.complete
-      → of shell.publishing.sink.number end.relay.taker.taken ≡ shell_closed.published =
+      → part_of shell.publishing.sink.number end.relay.taker.taken ≡ shell_closed.published =
       λ says. met_whole end.relay.taker shell_closed shell.publishing.sink.number closes.shell_ends.number
       concluded.meets_shell (concluded.complete.0 says shell_closed.number concluded.meets_shell.1.known) in
       let control_is : IsTrue end.complete
-      → of control.publishing.sink.number end.relay.taker.taken ≡ control_closed.published =
+      → part_of control.publishing.sink.number end.relay.taker.taken ≡ control_closed.published =
       λ says. met_whole end.relay.taker control_closed control.publishing.sink.number closes.control_ends.number
       concluded.meets_control (concluded.complete.0 says control_closed.number concluded.meets_control.1.known) in
       record {
@@ -354,7 +356,7 @@ module _ {I S W Cell : Type 0} (m : Meaning I Cell) (stamps : Stamping S) where
         others_begin = all_begin end.relay.taker tokens.items concluded.meets;
         others = λ says. all_met end.relay.taker tokens.items concluded.meets (concluded.complete.0 says);
         word = shell_closed.told;
-        word_is = subst (λ (n : ℕ). of n shell_closed.told ≡ shell_closed.published) closes.shell_ends.number
+        word_is = subst (λ (n : ℕ). part_of n shell_closed.told ≡ shell_closed.published) closes.shell_ends.number
             closes.shell_own ∙ closes.shell_list;
         shell_is = λ says. shell_is says ∙ closes.shell_list;
         control_is = λ says. control_is says ∙ closes.control_list;

@@ -26,11 +26,11 @@ use Rattle.kernel_workers.specs.declared.outcomes.Outcomes.{Outcomes}
 use Rattle.kernel_workers.specs.declared.work.Work.{Work}
 use Rattle.kernel_workers.specs.Causes.{cause_of, cause_of_fault, cause_of_order}
 use Rattle.kernel_workers.specs.Jobs.{AreAnswered, Doing, LeavesAll, LeavesJobs, TakesOut}
-use Rattle.kernel_workers.specs.Jobs.{TakesTurn, TakesTurns, answered_in, doing_of, messages_of}
+use Rattle.kernel_workers.specs.Jobs.{TakesTurn, TakesTurns, answered_in, doing_of, messages_of_jobs}
 use Rattle.kernel_workers.specs.Jobs.{does, nothing, nothing_left, one_left, one_more, told}
 use Rattle.kernel_workers.specs.Outcomes.{Records}
 use Rattle.kernel_engine.specs.World.{World}
-use Rattle.kernel_workers.specs.Works.{Begins, WorksOff}
+use Rattle.kernel_workers.specs.Works.{WorkerBegins, WorksOff}
 
 -- what became of no jobs
 none_yet : (outcomes : Outcomes) → outcomes.answers ≡ [] → outcomes.undone ≡ 0
@@ -43,7 +43,7 @@ module _ {I S W R Cell : Type 0} (m : Meaning I Cell) (stamps : Stamping S) wher
   -- a worker began, and took its turns
   pub works_off : (side : Side) (engine first : Parts I (Publisher (Event W)) S W) (started : Bool)
       (inbox : List (Option Job)) (outcomes : Outcomes) (cause : Cause) (work : Work I S W R Cell)
-      → outcomes.answers ≡ [] → outcomes.undone ≡ 0 → Begins m stamps side engine started first
+      → outcomes.answers ≡ [] → outcomes.undone ≡ 0 → WorkerBegins m stamps side engine started first
       → TakesTurns (world_of m publisher_sink stamps) (doing_of side)
       (record { engine = first; inbox = inbox; outcomes = outcomes }) (Some cause) work
       → WorksOff m stamps side engine inbox (record { work = work; cause = cause; started = started })
@@ -56,7 +56,8 @@ module _ {I S W R Cell : Type 0} (m : Meaning I Cell) (stamps : Stamping S) wher
   }
 
 -- the messages of two lists of notes, one after the other
-messages_append : (one other : List (Option Job)) → messages_of (one ++ other) ≡ messages_of one ++ messages_of other
+messages_append : (one other : List (Option Job)) → messages_of_jobs (one ++ other)
+    ≡ messages_of_jobs one ++ messages_of_jobs other
 messages_append [] other = refl
 messages_append (Some job ∷ more) other = ap (λ (l : List (List (List ℕ))). job.frames ∷ l) (messages_append more other)
 messages_append (None ∷ more) other = messages_append more other
@@ -96,7 +97,7 @@ module _ {I S W R Cell : Type 0} where
   -- What came out of the inbox in between was answered, but for what is left to be.
   pub record Balances (old new : Work I S W R Cell) (held : List (List (List ℕ))) : Type 0 where
     pub came : List (List (List ℕ))
-    pub inbox : messages_of new.inbox ≡ messages_of old.inbox ++ came
+    pub inbox : messages_of_jobs new.inbox ≡ messages_of_jobs old.inbox ++ came
     pub answers : answered_in new.outcomes.answers ++ held ≡ answered_in old.outcomes.answers ++ came
 
   even : (work : Work I S W R Cell) → Balances work work []
@@ -107,7 +108,7 @@ module _ {I S W R Cell : Type 0} where
   after first middle last held one two = record {
     came = one.came ++ two.came;
     inbox = two.inbox ∙ ap (λ (l : List (List (List ℕ))). l ++ two.came) one.inbox
-        ∙ append_assoc (messages_of first.inbox) one.came two.came;
+        ∙ append_assoc (messages_of_jobs first.inbox) one.came two.came;
     answers = two.answers
         ∙ ap (λ (l : List (List (List ℕ))). l ++ two.came)
         (sym (append-nil (answered_in middle.outcomes.answers)) ∙ one.answers)
@@ -116,8 +117,8 @@ module _ {I S W R Cell : Type 0} where
 
   -- what comes out of an inbox adds its message
   out : (old : Work I S W R Cell) (next : Option Job) (new : Work I S W R Cell) → TakesOut old next new
-      → messages_of new.inbox ≡ messages_of old.inbox ++ messages_of (next ∷ [])
-  out old next new takes = ap messages_of takes.inbox ∙ messages_append old.inbox (next ∷ [])
+      → messages_of_jobs new.inbox ≡ messages_of_jobs old.inbox ++ messages_of_jobs (next ∷ [])
+  out old next new takes = ap messages_of_jobs takes.inbox ∙ messages_append old.inbox (next ∷ [])
 
   -- a job came out, and was answered
   answered : (old : Work I S W R Cell) (job : Job) (taken new : Work I S W R Cell) (outcome : Outcome)
@@ -125,7 +126,7 @@ module _ {I S W R Cell : Type 0} where
       → Records job.frames outcome taken.outcomes new.outcomes → Balances old new []
   answered old job taken new outcome takes inbox records = record {
     came = job.frames ∷ [];
-    inbox = ap messages_of inbox ∙ out old (Some job) taken takes;
+    inbox = ap messages_of_jobs inbox ∙ out old (Some job) taken takes;
     answers = append-nil _ ∙ ap answered_in records.answered
         ∙ answered_append taken.outcomes.answers (record { to = job.frames; outcome = outcome } ∷ [])
         ∙ ap (λ (l : List Answer). answered_in l ++ job.frames ∷ [])
@@ -145,7 +146,7 @@ module _ {I S W R Cell : Type 0} where
       → TakesOut old (Some job) taken → new ≡ taken → to ≡ job.frames → Balances old new (to ∷ [])
   held_back old job taken new to takes same is = record {
     came = job.frames ∷ [];
-    inbox = ap (λ (w : Work I S W R Cell). messages_of w.inbox) same ∙ out old (Some job) taken takes;
+    inbox = ap (λ (w : Work I S W R Cell). messages_of_jobs w.inbox) same ∙ out old (Some job) taken takes;
     answers = ap (λ (w : Work I S W R Cell). answered_in w.outcomes.answers ++ to ∷ []) same
         ∙ ap (λ (o : Outcomes). answered_in o.answers ++ to ∷ []) takes.outcomes
         ∙ ap (λ (m : List (List ℕ)). answered_in old.outcomes.answers ++ m ∷ []) is;
@@ -205,18 +206,19 @@ module _ {I S W R Cell : Type 0} (m : Meaning I Cell) (stamps : Stamping S) wher
   -- what came out of a worker's inbox was answered, but for what its end leaves to be
   pub all_answered : (side : Side) (engine : Parts I (Publisher (Event W)) S W) (inbox : List (Option Job))
       (left : Ended I S W R Cell) → WorksOff m stamps side engine inbox left
-      → messages_of left.work.inbox
-      ≡ messages_of inbox ++ (answered_in left.work.outcomes.answers ++ held_by (Some left.cause))
+      → messages_of_jobs left.work.inbox
+      ≡ messages_of_jobs inbox ++ (answered_in left.work.outcomes.answers ++ held_by (Some left.cause))
   all_answered side engine inbox left works =
       let balance = turns_balance (world_of m publisher_sink stamps) (doing_of side) _ left.work _ works.turns in
-      balance.inbox ∙ ap (λ (l : List (List (List ℕ))). messages_of inbox ++ l) (sym balance.answers)
+      balance.inbox ∙ ap (λ (l : List (List (List ℕ))). messages_of_jobs inbox ++ l) (sym balance.answers)
 
   -- all that came out of shell's inbox was answered
   pub shell_answered : (engine : Parts I (Publisher (Event W)) S W) (inbox : List (Option Job))
-      (left : Ended I S W R Cell) → WorksOff m stamps Shell engine inbox left → AreAnswered inbox left.work.inbox left.work.outcomes.answers
+      (left : Ended I S W R Cell) → WorksOff m stamps Shell engine inbox left
+      → AreAnswered inbox left.work.inbox left.work.outcomes.answers
   shell_answered engine inbox left works =
       let none = turns_hold (world_of m publisher_sink stamps) (doing_of Shell) _ left.work _ (λ never. never)
       works.turns in
       all_answered Shell engine inbox left works
-      ∙ ap (λ (l : List (List (List ℕ))). messages_of inbox ++ (answered_in left.work.outcomes.answers ++ l)) none
-      ∙ ap (λ (l : List (List (List ℕ))). messages_of inbox ++ l) (append-nil _)
+      ∙ ap (λ (l : List (List (List ℕ))). messages_of_jobs inbox ++ (answered_in left.work.outcomes.answers ++ l)) none
+      ∙ ap (λ (l : List (List (List ℕ))). messages_of_jobs inbox ++ l) (append-nil _)

@@ -18,9 +18,9 @@ restart_of Worn = None
 
 -- What a request for a shutdown that was left for later says of whether the kernel is to begin anew. If the request was
 -- refused, it says nothing.
-abbrev pub word_of : Option EngineFault → Bool → Option Bool
-word_of None restart = Some restart
-word_of (Some fault) restart = None
+abbrev pub shutdown_word : Option EngineFault → Bool → Option Bool
+shutdown_word None restart = Some restart
+shutdown_word (Some fault) restart = None
 
 -- the cause that an order is, if it ends the worker
 abbrev pub cause_of_order : Order → Option Cause

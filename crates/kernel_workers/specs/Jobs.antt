@@ -10,7 +10,7 @@ use Rattle.kernel_engine.specs.declared.asked.Done.TheVariants.{Ignored, Lost, H
 use Rattle.kernel_engine.specs.declared.side.Side.{Side}
 use Rattle.kernel_engine.specs.declared.side.Side.TheVariants.{Shell, Control}
 use Rattle.kernel_engine.specs.Comes.{message_comes}
-use Rattle.kernel_engine.specs.Orders.{ends, order_of}
+use Rattle.kernel_engine.specs.Orders.{ends, order_of_request}
 use Rattle.kernel_engine.specs.Takes.{Asks, Takes}
 use Rattle.kernel_engine.specs.World.{World}
 use Rattle.kernel_workers.specs.declared.ended.Asking.{Asking}
@@ -24,10 +24,10 @@ use Rattle.kernel_workers.specs.declared.outcomes.Outcome.TheVariants.{Ending}
 use Rattle.kernel_workers.specs.Outcomes.{Records, outcome_of}
 
 -- the messages of the jobs that came out of an inbox
-abbrev pub messages_of : List (Option Job) → List (List (List ℕ))
-messages_of [] = []
-messages_of (Some job ∷ more) = job.frames ∷ messages_of more
-messages_of (None ∷ more) = messages_of more
+abbrev pub messages_of_jobs : List (Option Job) → List (List (List ℕ))
+messages_of_jobs [] = []
+messages_of_jobs (Some job ∷ more) = job.frames ∷ messages_of_jobs more
+messages_of_jobs (None ∷ more) = messages_of_jobs more
 
 -- the messages that were answered
 abbrev pub answered_in : List Answer → List (List (List ℕ))
@@ -37,7 +37,7 @@ answered_in (answer ∷ more) = answer.to ∷ answered_in more
 -- Each job that came out of an inbox since it was `before` has one answer, in the order of the jobs, and there is no
 -- other answer.
 abbrev pub AreAnswered : List (Option Job) → List (Option Job) → List Answer → Type 0
-AreAnswered before inbox answers = messages_of inbox ≡ messages_of before ++ answered_in answers
+AreAnswered before inbox answers = messages_of_jobs inbox ≡ messages_of_jobs before ++ answered_in answers
 
 -- What may become of a job. `may_leave`: it may be left undone, with all that come after it. `may_hold`: if it is a
 -- request for a shutdown it is left for later. `may_ask`: its cell may be interrupted.
@@ -58,7 +58,7 @@ abbrev pub EndsNothing : List ℕ → Side → List (List ℕ) → Done → Type
 EndsNothing key side frames Ignored = ⊤
 EndsNothing key side frames Lost = ⊤
 EndsNothing key side frames (Handled handled) = (request : Envelope) × Opened key frames request
-    × (is_some (ends (order_of (message_comes side request))) ≡ false)
+    × (is_some (ends (order_of_request (message_comes side request))) ≡ false)
 EndsNothing key side frames (Refused fault) = ⊤
 
 module _ {I S W R Cell : Type 0} where
@@ -102,7 +102,7 @@ module _ {I S W R Cell : Type 0} where
       (new : Work I S W R Cell) : Type 0 where
     pub asked : Asked
     pub asks : Asks old.engine.publishing.signer old.engine.side frames asked
-    pub ending : is_some (ends (order_of asked.does)) ≡ true
+    pub ending : is_some (ends (order_of_request asked.does)) ≡ true
     pub asking : Asking
     pub request : asking.request ≡ asked.request
     pub to : asking.to ≡ frames

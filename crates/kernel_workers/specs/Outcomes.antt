@@ -30,11 +30,11 @@ is_undone Refused = true
 is_undone Ending = true
 
 -- A count of jobs after one more, which counts or doesn't. The greatest count stays as it is.
-abbrev pub counted : Bool → ℕ → ℕ
-counted true count = risen count
-counted false count = count
+abbrev pub counted_job : Bool → ℕ → ℕ
+counted_job true count = risen count
+counted_job false count = count
 
 -- What became of a message was noted as its answer. If the message wasn't done to its end, it was counted.
 pub record Records (message : List (List ℕ)) (outcome : Outcome) (old new : Outcomes) : Type 0 where
   pub answered : new.answers ≡ old.answers ++ record { to = message; outcome = outcome } ∷ []
-  pub counts : new.undone ≡ counted (is_undone outcome) old.undone
+  pub counts : new.undone ≡ counted_job (is_undone outcome) old.undone

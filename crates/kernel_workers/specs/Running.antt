@@ -6,11 +6,11 @@ use Rattle.interp_core.specs.Interpreter.{Meaning}
 use Rattle.zmtp_wire.specs.Device.{Outflow}
 use Rattle.iopub_event.specs.declared.event.Event.{Event}
 use Rattle.iopub_queue.specs.Calls.{IsCapacity}
-use Rattle.iopub_queue.specs.Entries.{Entry, of, CloseIsLast, IsComplete}
+use Rattle.iopub_queue.specs.Entries.{Entry, part_of, CloseIsLast, IsComplete}
 use Rattle.iopub_queue.specs.Fault.{open_fault_number}
 use Rattle.iopub_queue.specs.declared.fault.OpenFault.TheVariants.{Count, Capacity, OutOfMemory}
 use Rattle.iopub_queue.specs.Values.{Publishing}
-use Rattle.iopub_relay.specs.Relay.{AreOfNumbers, IsLeftOf, Relaying}
+use Rattle.iopub_relay.specs.Relay.{AreOfNumbers, RelayIsLeft, Relaying}
 use Rattle.jmsg_envelope.specs.Stamp.{Stamping}
 use Rattle.kernel_engine.specs.declared.fault.EngineFault.{EngineFault}
 use Rattle.kernel_engine.specs.declared.parts.Parts.{Parts as Engine}
@@ -32,13 +32,13 @@ use Rattle.kernel_workers.specs.declared.kernel_end.KernelWork.{KernelWork}
 use Rattle.kernel_workers.specs.declared.kernel_end.WorkDone.{WorkDone}
 use Rattle.kernel_workers.specs.declared.shutdown.ShutdownEnd.{ShutdownEnd}
 use Rattle.kernel_workers.specs.declared.work.Work.{Work}
-use Rattle.kernel_workers.specs.Causes.{restart_of, word_of}
+use Rattle.kernel_workers.specs.Causes.{restart_of, shutdown_word}
 use Rattle.kernel_workers.specs.Ending.{EndsSilent, IsBlockedAndClosed, IsBlockedBy, IsNoMessage, closed_list}
 use Rattle.kernel_workers.specs.Ending.{sealing_by}
 use Rattle.kernel_workers.specs.Jobs.{AreAnswered}
 use Rattle.kernel_workers.specs.Outcomes.{Records, replied_by}
 use Rattle.kernel_workers.specs.Shutdown.{EndsInOrder}
-use Rattle.kernel_workers.specs.Starting.{Setup, beginning, newcomer}
+use Rattle.kernel_workers.specs.Starting.{Setup, beginning, publisher_at_first}
 use Rattle.kernel_workers.specs.Works.{WorksOff}
 
 -- The number of a kernel's fault. A fault of its queue has the number that the queue gives it: 60 to 62. 65: a thread
@@ -78,18 +78,18 @@ pub record TookAll {W R : Type 0} (outflow : W → Outflow) (ended : KernelEnd W
   pub says : ended.complete ≡ true
   pub count : ended.relay.value.taker.count ≡ 3
   pub complete : IsComplete 3 (taken_of ended)
-  pub last : (number : ℕ) → CloseIsLast (of number (taken_of ended))
+  pub last : (number : ℕ) → CloseIsLast (part_of number (taken_of ended))
   pub others : AreOfNumbers 3 (taken_of ended)
-  pub left : IsLeftOf outflow (taken_of ended) ended.no_room ended.subscribers.items
+  pub left : RelayIsLeft outflow (taken_of ended) ended.no_room ended.subscribers.items
 
 -- a kernel took from a queue just these lists, of shell, of control and of subscriptions
 pub record TookEach {W R : Type 0} (outflow : W → Outflow) (queue : TableId)
     (shell control subscriptions : List (Option (Event W))) (ended : KernelEnd W R) : Type 0 where
   pub took : TookAll outflow ended
   pub queue_is : ended.relay.value.taker.queue ≡ queue
-  pub shell_is : of 0 (taken_of ended) ≡ shell
-  pub control_is : of 1 (taken_of ended) ≡ control
-  pub subscriptions_are : of 2 (taken_of ended) ≡ subscriptions
+  pub shell_is : part_of 0 (taken_of ended) ≡ shell
+  pub control_is : part_of 1 (taken_of ended) ≡ control
+  pub subscriptions_are : part_of 2 (taken_of ended) ≡ subscriptions
 
 -- what a kernel's end tells of its relay
 pub record TellsOf {W R : Type 0} (outflow : W → Outflow) (relay : Relaying W) (complete restart : Bool)
@@ -97,10 +97,11 @@ pub record TellsOf {W R : Type 0} (outflow : W → Outflow) (relay : Relaying W)
   pub relay_is : ended.relay.value ≡ relay
   pub complete_is : ended.complete ≡ complete
   pub restart_is : ended.restart ≡ restart
-  pub left : IsLeftOf outflow relay.taker.taken ended.no_room ended.subscribers.items
+  pub left : RelayIsLeft outflow relay.taker.taken ended.no_room ended.subscribers.items
 
 -- There is one token: the one that the worker of this publisher of subscriptions left. There is room for two more.
-pub record IsLast {W : Type 0} (publisher : Publishing (Event W)) (tokens : Vec (Publishing (Event W))) : Type 0 where
+pub record IsLastToken {W : Type 0} (publisher : Publishing (Event W))
+    (tokens : Vec (Publishing (Event W))) : Type 0 where
   pub closed : Publishing (Event W)
   pub alone : tokens.items ≡ closed ∷ []
   pub ends : EndsSilent publisher closed
@@ -113,17 +114,17 @@ pub record EndsOver {I S W R Cell : Type 0} (m : Meaning I Cell) (stamps : Stamp
     (shell control : Engine I (Publishing (Event W)) S W) (ended : KernelEnd W R) : Type 0 where
   pub took : TookAll outflow ended
   pub queue : ended.relay.value.taker.queue ≡ shell.publishing.sink.queue
-  pub shell_is : of 0 (taken_of ended) ≡ closed_list shell
-  pub shell_blocked : IsBlockedBy m stamps shell (of 0 (taken_of ended))
-  pub control_blocked : IsBlockedBy m stamps control (of 1 (taken_of ended))
-  pub subscriptions_silent : All IsNoMessage (of 2 (taken_of ended))
+  pub shell_is : part_of 0 (taken_of ended) ≡ closed_list shell
+  pub shell_blocked : IsBlockedBy m stamps shell (part_of 0 (taken_of ended))
+  pub control_blocked : IsBlockedBy m stamps control (part_of 1 (taken_of ended))
+  pub subscriptions_silent : All IsNoMessage (part_of 2 (taken_of ended))
 
 -- what a worker did: what came out of its inbox, and what became of that
 pub record Did : Type 0 where
   pub jobs : List (Option Job)
   pub outcomes : Outcomes
 
--- what the workers of shell and of control did, and whether shell's worker began as it should (`Starts`)
+-- what the workers of shell and of control did, and whether shell's worker began as it should (`EngineStarts`)
 pub record BothDid : Type 0 where
   pub started : Bool
   pub shell : Did
@@ -163,7 +164,7 @@ leaving left work of_shell = record {
 -- A kernel ended without a request for a shutdown on control. What was taken of control is all that its engine
 -- published. What shell was asked says whether the kernel is to begin anew.
 pub record EndsAtOnce {I S W R : Type 0} (left : Leaving I S W) (ended : KernelEnd W R) : Type 0 where
-  pub control_is : of 1 (taken_of ended) ≡ closed_list left.control
+  pub control_is : part_of 1 (taken_of ended) ≡ closed_list left.control
   pub did_is : both_did ended.work ≡ left.did
   pub restart_is : ended.restart ≡ restart_by None left.of_shell
 
@@ -182,11 +183,13 @@ pub record AnswersLast (message : List (List ℕ)) (reply : Option (List (List �
 -- it is to begin anew. If shell was asked for a shutdown, too, the request on control counts. Its reply is the last
 -- that control answered.
 pub record ShutsDown {I S W Cell : Type 0} (R : Type 0) (m : Meaning I Cell) (stamps : Stamping S)
-    (outflow : W → Outflow) (asking : Asking) (relay : Relaying W) (left : Leaving I S W) (ended : KernelEnd W R) : Type 0 where
+    (outflow : W → Outflow) (asking : Asking) (relay : Relaying W) (left : Leaving I S W)
+    (ended : KernelEnd W R) : Type 0 where
   pub end : ShutdownEnd W R
-  pub ends : EndsInOrder m stamps left.shell left.control asking.request relay (IsLast left.subscriptions) end
+  pub ends : EndsInOrder m stamps left.shell left.control asking.request relay (IsLastToken left.subscriptions) end
   pub answers : AnswersLast asking.to end.reply end.fault left.did (both_did ended.work)
-  pub tells : TellsOf outflow end.relay end.complete (restart_by (word_of end.fault end.restart) left.of_shell) ended
+  pub tells : TellsOf outflow end.relay end.complete
+      (restart_by (shutdown_word end.fault end.restart) left.of_shell) ended
 
 -- how a kernel ends, by why control's worker ended
 abbrev pub EndsFor : {I S W Cell : Type 0} (R : Type 0) → Meaning I Cell → Stamping S → (W → Outflow) → Cause
@@ -210,18 +213,18 @@ leaving_by shell control subscriptions = record {
 
 -- How a kernel ends whose workers were given this. Those of shell and of control did the jobs of their inboxes. What
 -- was taken of each is what its engine published by that. The jobs and answers that the kernel's end tells are theirs.
-pub record EndsBy {I S W Cell : Type 0} (R : Type 0) (m : Meaning I Cell) (stamps : Stamping S)
+pub record KernelEndsBy {I S W Cell : Type 0} (R : Type 0) (m : Meaning I Cell) (stamps : Stamping S)
     (outflow : W → Outflow) (setup : Setup I S W) (ended : KernelEnd W R) : Type 0 where
   pub took : TookAll outflow ended
   pub queue : ended.relay.value.taker.queue ≡ setup.shell.engine.publishing.sink.queue
-  pub shell_blocked : IsBlockedBy m stamps setup.shell.engine (of 0 (taken_of ended))
-  pub control_blocked : IsBlockedBy m stamps setup.control.engine (of 1 (taken_of ended))
-  pub subscriptions_silent : All IsNoMessage (of 2 (taken_of ended))
+  pub shell_blocked : IsBlockedBy m stamps setup.shell.engine (part_of 0 (taken_of ended))
+  pub control_blocked : IsBlockedBy m stamps setup.control.engine (part_of 1 (taken_of ended))
+  pub subscriptions_silent : All IsNoMessage (part_of 2 (taken_of ended))
   pub shell : Ended I S W R Cell
   pub control : Ended I S W R Cell
   pub shell_works : WorksOff m stamps setup.shell.side setup.shell.engine setup.shell.inbox shell
   pub control_works : WorksOff m stamps setup.control.side setup.control.engine setup.control.inbox control
-  pub shell_is : of 0 (taken_of ended) ≡ closed_list shell.work.engine
+  pub shell_is : part_of 0 (taken_of ended) ≡ closed_list shell.work.engine
   pub ends : EndsFor R m stamps outflow control.cause (leaving_by shell control setup.subscriptions) ended
 
 -- How a kernel ends. All that was published was taken, by the relay that it hands back. What was taken of shell, and of
@@ -238,20 +241,21 @@ pub record EndsWell {I S W Cell : Type 0} (R : Type 0) (m : Meaning I Cell) (sta
   pub capacity : IsCapacity parts.capacity
   pub took : TookAll outflow ended
   pub shell_blocked : IsBlockedAndClosed m (stamps.is_date (stamps.meaning parts.shell.1)) Shell
-      (sealing_by stamps parts.key.items parts.shell.1) (of 0 (taken_of ended))
+      (sealing_by stamps parts.key.items parts.shell.1) (part_of 0 (taken_of ended))
   pub control_blocked : IsBlockedAndClosed m (stamps.is_date (stamps.meaning parts.control.1)) Control
-      (sealing_by stamps parts.key.items parts.control.1) (of 1 (taken_of ended))
-  pub subscriptions_silent : All IsNoMessage (of 2 (taken_of ended))
+      (sealing_by stamps parts.key.items parts.control.1) (part_of 1 (taken_of ended))
+  pub subscriptions_silent : All IsNoMessage (part_of 2 (taken_of ended))
   pub shell : Ended I S W R Cell
   pub control : Ended I S W R Cell
   pub shell_works : WorksOff m stamps Shell
-      (beginning Shell parts.shell parts.key.items (newcomer ended.relay.value.taker.queue 0)) parts.shell_in.from shell
+      (beginning Shell parts.shell parts.key.items
+      (publisher_at_first ended.relay.value.taker.queue 0)) parts.shell_in.from shell
   pub control_works : WorksOff m stamps Control
-      (beginning Control parts.control parts.key.items (newcomer ended.relay.value.taker.queue 1))
+      (beginning Control parts.control parts.key.items (publisher_at_first ended.relay.value.taker.queue 1))
       parts.control_in.from control
-  pub shell_is : of 0 (taken_of ended) ≡ closed_list shell.work.engine
+  pub shell_is : part_of 0 (taken_of ended) ≡ closed_list shell.work.engine
   pub ends : EndsFor R m stamps outflow control.cause
-      (leaving_by shell control (newcomer ended.relay.value.taker.queue 2)) ended
+      (leaving_by shell control (publisher_at_first ended.relay.value.taker.queue 2)) ended
   pub shell_answered : AreAnswered parts.shell_in.from ended.work.shell.inbox.value ended.work.shell.outcomes.answers
   pub control_answered : AreAnswered parts.control_in.from ended.work.control.inbox.value
       ended.work.control.outcomes.answers

@@ -6,7 +6,7 @@ use Rattle.std.specs.Global.{Vec}
 use Rattle.std.specs.List.{AllByRecursion}
 use Rattle.interp_core.specs.Interpreter.{Meaning}
 use Rattle.iopub_event.specs.declared.event.Event.{Event}
-use Rattle.iopub_queue.specs.Entries.{CloseIsLast, Entry, EndsWithClose, IsComplete, StandsBehind, StartsWith, of}
+use Rattle.iopub_queue.specs.Entries.{CloseIsLast, Entry, EndsWithClose, IsComplete, StandsBehind, StartsWith, part_of}
 use Rattle.iopub_queue.specs.Laws.{IsTakenBehind}
 use Rattle.iopub_queue.specs.Sink.{publisher_sink}
 use Rattle.iopub_queue.specs.Values.{Publishing, Taking}
@@ -64,7 +64,7 @@ module _ {W R : Type 0} where
     pub grows : StartsWith end.relay.taker.taken old.taken
     pub complete : IsTrue end.complete ↔ IsComplete end.relay.taker.count end.relay.taker.taken
     pub closed : AllByRecursion (λ closed. EndsWithClose closed.published) tokens → IsTrue end.complete
-    pub last : (number : ℕ) → CloseIsLast (of number end.relay.taker.taken)
+    pub last : (number : ℕ) → CloseIsLast (part_of number end.relay.taker.taken)
     pub numbers : AreOfNumbers end.relay.taker.count end.relay.taker.taken
     pub meets_shell : Meets end.relay.taker shell
     pub meets_control : Meets end.relay.taker control
@@ -101,9 +101,9 @@ module _ {I S W Cell : Type 0} (m : Meaning I Cell) (stamps : Stamping S) where
       Publishing (Event W)) (done : Result Handled EngineFault) : Type 0 where
     pub shell_ends : EndsBlocked m stamps shell shell_closed
     pub shell_list : shell_closed.published ≡ closed_list shell
-    pub shell_own : of shell_closed.number shell_closed.told ≡ shell_closed.published
+    pub shell_own : part_of shell_closed.number shell_closed.told ≡ shell_closed.published
     pub control_ends : EndsBlocked m stamps control control_closed
-    pub control_own : of control_closed.number control_closed.told ≡ control_closed.published
+    pub control_own : part_of control_closed.number control_closed.told ≡ control_closed.published
     pub after : Engine I S W
     pub control_list : control_closed.published ≡ closed_list after
     pub does : DoesLast shell_closed.told request control done after
@@ -113,7 +113,7 @@ module _ {I S W Cell : Type 0} (m : Meaning I Cell) (stamps : Stamping S) where
   -- The part of an engine's channel in what was taken is all that the engine published, with its close, and is well
   -- blocked.
   abbrev pub IsBlockedIn : Engine I S W → List (Entry (Event W)) → Type 0
-  IsBlockedIn engine taken = IsBlockedBy m stamps engine (of engine.publishing.sink.number taken)
+  IsBlockedIn engine taken = IsBlockedBy m stamps engine (part_of engine.publishing.sink.number taken)
 
   -- The request was handled, and control's engine is then `after`. The request has this reply. If all was taken, its
   -- idle was taken after all that the word tells.
@@ -170,21 +170,21 @@ module _ {I S W Cell : Type 0} (m : Meaning I Cell) (stamps : Stamping S) where
     pub grows : StartsWith end.relay.taker.taken relay.taker.taken
     pub complete : IsTrue end.complete ↔ IsComplete end.relay.taker.count end.relay.taker.taken
     pub closed : AllByRecursion (λ closed. EndsWithClose closed.published) tokens.items → IsTrue end.complete
-    pub last : (number : ℕ) → CloseIsLast (of number end.relay.taker.taken)
+    pub last : (number : ℕ) → CloseIsLast (part_of number end.relay.taker.taken)
     pub numbers : AreOfNumbers end.relay.taker.count end.relay.taker.taken
     pub word : List (Entry (Event W))
-    pub word_is : of shell.publishing.sink.number word ≡ closed_list shell
-    pub shell_begins : StartsWith (closed_list shell) (of shell.publishing.sink.number end.relay.taker.taken)
+    pub word_is : part_of shell.publishing.sink.number word ≡ closed_list shell
+    pub shell_begins : StartsWith (closed_list shell) (part_of shell.publishing.sink.number end.relay.taker.taken)
     pub shell_is : IsTrue end.complete
-        → of shell.publishing.sink.number end.relay.taker.taken ≡ closed_list shell
+        → part_of shell.publishing.sink.number end.relay.taker.taken ≡ closed_list shell
     pub shell_blocked : IsTrue end.complete → IsBlockedIn shell end.relay.taker.taken
     pub after : Engine I S W
     pub request_ends : RepliesInOrder control request word after end ⊎ RefusesInOrder control request word after end
-    pub control_begins : StartsWith (closed_list after) (of control.publishing.sink.number end.relay.taker.taken)
+    pub control_begins : StartsWith (closed_list after) (part_of control.publishing.sink.number end.relay.taker.taken)
     pub control_is : IsTrue end.complete
-        → of control.publishing.sink.number end.relay.taker.taken ≡ closed_list after
+        → part_of control.publishing.sink.number end.relay.taker.taken ≡ closed_list after
     pub control_blocked : IsTrue end.complete → IsBlockedIn control end.relay.taker.taken
-    pub others_begin : AllByRecursion (λ closed. StartsWith closed.published (of closed.number
+    pub others_begin : AllByRecursion (λ closed. StartsWith closed.published (part_of closed.number
         end.relay.taker.taken)) tokens.items
     pub others : IsTrue end.complete
-        → AllByRecursion (λ closed. of closed.number end.relay.taker.taken ≡ closed.published) tokens.items
+        → AllByRecursion (λ closed. part_of closed.number end.relay.taker.taken ≡ closed.published) tokens.items

@@ -16,14 +16,14 @@ use Rattle.kernel_workers.specs.declared.shell.ShellWorker.{ShellWorker}
 use Rattle.kernel_workers.specs.declared.subscriptions.SubscriptionsWorker.{SubscriptionsWorker}
 
 -- a publisher of a queue that was just opened
-abbrev pub newcomer : {T : Type 0} → TableId → ℕ → Publishing T
-newcomer queue number = record { queue = queue; number = number; published = []; told = [] }
+abbrev pub publisher_at_first : {T : Type 0} → TableId → ℕ → Publishing T
+publisher_at_first queue number = record { queue = queue; number = number; published = []; told = [] }
 
 -- the publishers 0, 1 and 2 and the taker of one queue that was just opened
 pub record IsOpened {T : Type 0} (shell control subscriptions : Publishing T) (taker : Taking T) : Type 0 where
-  pub shell_is : shell ≡ newcomer taker.queue 0
-  pub control_is : control ≡ newcomer taker.queue 1
-  pub subscriptions_are : subscriptions ≡ newcomer taker.queue 2
+  pub shell_is : shell ≡ publisher_at_first taker.queue 0
+  pub control_is : control ≡ publisher_at_first taker.queue 1
+  pub subscriptions_are : subscriptions ≡ publisher_at_first taker.queue 2
   pub taker_is : taker ≡ beginner taker.queue 3
 
 -- three publishers and the taker are of one queue: 0, 1 and 2

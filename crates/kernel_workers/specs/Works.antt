@@ -18,14 +18,14 @@ use Rattle.kernel_workers.specs.Jobs.{TakesTurns, doing_of}
 module _ {I S W Cell : Type 0} (m : Meaning I Cell) (stamps : Stamping S) where
   -- How an engine began. If memory wasn't refused it did all that was due: shell's says that the kernel starts, if it
   -- had published nothing, and any other does nothing. If memory was refused nothing was published.
-  abbrev pub Starts : Parts I (Publisher (Event W)) S W → Bool → Parts I (Publisher (Event W)) S W → Type 0
-  Starts old true new = SaysStarting publisher_sink stamps old new ⊎ SaysNothing publisher_sink stamps old new
-  Starts old false new = (fault : EngineFault) × StartsNot publisher_sink stamps old fault new
+  abbrev pub EngineStarts : Parts I (Publisher (Event W)) S W → Bool → Parts I (Publisher (Event W)) S W → Type 0
+  EngineStarts old true new = SaysStarting publisher_sink stamps old new ⊎ SaysNothing publisher_sink stamps old new
+  EngineStarts old false new = (fault : EngineFault) × StartsNot publisher_sink stamps old fault new
 
   -- how a worker of a channel begins: as shell's engine begins on shell, and on control it does nothing
-  abbrev pub Begins : Side → Parts I (Publisher (Event W)) S W → Bool → Parts I (Publisher (Event W)) S W → Type 0
-  Begins Shell old started new = Starts old started new
-  Begins Control old started new = (new ≡ old) × (started ≡ false)
+  abbrev pub WorkerBegins : Side → Parts I (Publisher (Event W)) S W → Bool → Parts I (Publisher (Event W)) S W → Type 0
+  WorkerBegins Shell old started new = EngineStarts old started new
+  WorkerBegins Control old started new = (new ≡ old) × (started ≡ false)
 
   -- A worker of a channel was given this engine and this inbox. It did the jobs that came out of the inbox, one after
   -- the other, in their order, each once, or left them undone. What it leaves tells these jobs, what became of each,
@@ -33,7 +33,7 @@ module _ {I S W Cell : Type 0} (m : Meaning I Cell) (stamps : Stamping S) where
   pub record WorksOff {R : Type 0} (side : Side) (engine : Parts I (Publisher (Event W)) S W)
       (inbox : List (Option Job)) (ended : Ended I S W R Cell) : Type 0 where
     pub first : Parts I (Publisher (Event W)) S W
-    pub begins : Begins side engine ended.started first
+    pub begins : WorkerBegins side engine ended.started first
     pub turns : TakesTurns (world_of m publisher_sink stamps) (doing_of side)
         (record { engine = first; inbox = inbox; outcomes = record { answers = []; undone = 0 } }) (Some ended.cause)
         ended.work

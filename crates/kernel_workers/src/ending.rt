@@ -2,9 +2,9 @@
 
 ghost use Rattle.std.specs.Prelude.{◌≡◌, ◌≤◌, [], IfErr, IfOk, IfSome, vec_capacity};
 ghost use Rattle.iopub_queue.specs.Entries.{EndsWithClose};
-ghost use Rattle.kernel_workers.specs.Causes.{restart_of, word_of};
+ghost use Rattle.kernel_workers.specs.Causes.{restart_of, shutdown_word};
 ghost use Rattle.kernel_workers.specs.Ending.{EndsSilent};
-ghost use Rattle.kernel_workers.specs.Running.{AnswersLast, EndsAtOnce, EndsFor, EndsOver, IsFaultAtEnd, IsLast};
+ghost use Rattle.kernel_workers.specs.Running.{AnswersLast, EndsAtOnce, EndsFor, EndsOver, IsFaultAtEnd, IsLastToken};
 ghost use Rattle.kernel_workers.specs.Running.{ShutsDown, TellsOf, TookEach, both_did, last_outcome, leaving};
 ghost use Rattle.kernel_workers.specs.Running.{restart_by};
 ghost use Rattle.kernel_workers.specs.Shutdown.{EndsInOrder, GivesRest, IsOneQueue};
@@ -320,7 +320,7 @@ fn conclude<W: Outlet + Drop, R: Wait + Drop>(
     mut work: KernelWork,
 ) -> Result<KernelEnd<W, R>, KernelFault>
     ensures left { IfOk result (TellsOf W.outflow end.relay end.complete
-        (restart_by (word_of end.fault end.restart) (restart_of of_shell))) }
+        (restart_by (shutdown_word end.fault end.restart) (restart_of of_shell))) }
     ensures answers { IfOk result (λ ended. AnswersLast to end.reply end.fault (both_did work) (both_did ended.work)) }
     ensures refused { IfErr result IsFaultAtEnd }
 {
@@ -333,7 +333,7 @@ fn conclude<W: Outlet + Drop, R: Wait + Drop>(
     } = end;
     let outcome = last_outcome(reply, &fault);
     work.control.outcomes.record(rt, to, outcome);
-    let restart = restarts(word_of(fault, restart), of_shell.restart());
+    let restart = restarts(shutdown_word(fault, restart), of_shell.restart());
     drop(of_shell);
     left_of(relay, complete, restart, work)
 }
@@ -352,8 +352,8 @@ fn last_outcome(reply: Option<Frames>, fault: &Option<EngineFault>) -> Outcome
 }
 
 /// What a request for a shutdown says of the kernel's new begin: nothing if it was refused.
-fn word_of(fault: Option<EngineFault>, restart: bool) -> Option<bool>
-    ensures { result ≡ word_of fault restart }
+fn shutdown_word(fault: Option<EngineFault>, restart: bool) -> Option<bool>
+    ensures { result ≡ shutdown_word fault restart }
 {
     match fault {
         Some(fault) => {
@@ -384,7 +384,7 @@ where
     requires none { left.tokens.items ≡ [] }
     requires room { 3 ≤ vec_capacity left.tokens }
     ensures { IfSome result (EndsInOrder I.meaning S.stamp left.shell left.control request relay
-        (IsLast left.subscriptions.promise.sink.value)) }
+        (IsLastToken left.subscriptions.promise.sink.value)) }
 {
     let Left {
         shell,
@@ -456,7 +456,7 @@ fn last_token<W: Drop, R: Threads + Wait>(
 ) -> Vec<Closed<Event<W>>>
     requires none { tokens.items ≡ [] }
     requires room { 3 ≤ vec_capacity tokens }
-    ensures { IsLast subscriptions.promise.sink.value result }
+    ensures { IsLastToken subscriptions.promise.sink.value result }
 {
     tokens.push_reserved(end_subscriptions(rt, subscriptions, to_subscriptions));
     tokens

@@ -1,7 +1,7 @@
 //! The flags by which control stops what shell does.
 
 ghost use Rattle.std.specs.Prelude.{◌≡◌, true};
-ghost use Rattle.kernel_engine.specs.Orders.{is_interrupt, order_of};
+ghost use Rattle.kernel_engine.specs.Orders.{is_interrupt, order_of_request};
 
 use kernel_engine::{Asked, Stop};
 use std::alloc::{AllocError, Global};
@@ -66,7 +66,7 @@ impl Flags {
 
     /// Raises the flag of an interrupt, as a request asks for.
     pub(crate) fn interrupt(&self, asked: &Asked)
-        requires { is_interrupt (order_of asked.now.does) ≡ true }
+        requires { is_interrupt (order_of_request asked.now.does) ≡ true }
     {
         let _ = asked;
         self.raise();

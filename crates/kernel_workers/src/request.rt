@@ -1,7 +1,7 @@
 //! One request of shell or control: looked at, handled, and replied to.
 
 ghost use Rattle.std.specs.Prelude.{◌≡◌, None};
-ghost use Rattle.iopub_queue.specs.Entries.{StandsBehind, of};
+ghost use Rattle.iopub_queue.specs.Entries.{StandsBehind, part_of};
 ghost use Rattle.kernel_workers.specs.Causes.{cause_of, cause_of_fault, cause_of_order};
 ghost use Rattle.kernel_workers.specs.Ending.{EndsBlocked, closed_list};
 ghost use Rattle.kernel_workers.specs.Outcomes.{Records, outcome_of};
@@ -79,7 +79,7 @@ where
     R: Wait + Drop,
     ensures blocked { EndsBlocked I.meaning S.stamp engine result }
     ensures list { result.published ≡ closed_list engine }
-    ensures own { of result.number result.told ≡ result.published }
+    ensures own { part_of result.number result.told ≡ result.published }
     ensures behind { engine.owed ≡ None
         → StandsBehind result.told (engine.publishing.sink.number, None) engine.publishing.sink.told }
 {

@@ -3,7 +3,8 @@
 ghost use Rattle.std.specs.Prelude.{◌≡◌, ◌≤◌, [], IfErr, IfOk, IfSome, OnOk, vec_capacity};
 ghost use Rattle.iopub_queue.specs.Calls.{IsCapacity};
 ghost use Rattle.kernel_engine.specs.declared.side.Side.TheVariants.{Shell, Control};
-ghost use Rattle.kernel_workers.specs.Running.{EndsBy, EndsFor, EndsOver, EndsWell, FailsBy, IsFaultAtEnd, did_by};
+ghost use Rattle.kernel_workers.specs.Running.{KernelEndsBy, EndsFor, EndsOver, EndsWell, FailsBy, IsFaultAtEnd};
+ghost use Rattle.kernel_workers.specs.Running.{did_by};
 ghost use Rattle.kernel_workers.specs.Running.{did_of, leaving_by};
 ghost use Rattle.kernel_workers.specs.Starting.{AreOfOne, IsOpened, IsSetUp, Promises, given_to, promised_by};
 
@@ -713,7 +714,7 @@ where
         running.publishers.subscriptions.promise.sink.value running.serving.relay.promise.relay.value.taker }
     requires none { tokens.items ≡ [] }
     requires room { 3 ≤ vec_capacity tokens }
-    ensures ends { IfOk result (EndsBy R I.meaning S.stamp W.outflow (promised_by running.publishers.shell.promise
+    ensures ends { IfOk result (KernelEndsBy R I.meaning S.stamp W.outflow (promised_by running.publishers.shell.promise
         running.publishers.control.promise running.publishers.subscriptions.promise)) }
     ensures refused { IfErr result IsFaultAtEnd }
 {

@@ -7,7 +7,7 @@ ghost use Rattle.kernel_engine.specs.declared.side.Side.TheVariants.{Shell};
 ghost use Rattle.kernel_workers.specs.Jobs.{LeavesJob, LeavesRest, TakesJob, doing_of};
 ghost use Rattle.kernel_workers.specs.Starting.{Promises};
 ghost use Rattle.kernel_workers.specs.Staying.{IsSameEngine};
-ghost use Rattle.kernel_workers.specs.Works.{Starts, WorksOff};
+ghost use Rattle.kernel_workers.specs.Works.{EngineStarts, WorksOff};
 
 use crate::arrivals::Arrivals;
 use crate::ended::{Cause, Ended};
@@ -132,7 +132,7 @@ where
     S: Stamp,
     W: Drop,
     R: Wait,
-    ensures starts { Starts I.meaning S.stamp engine.old result engine.new }
+    ensures starts { EngineStarts I.meaning S.stamp engine.old result engine.new }
     ensures same { IsSameEngine S.stamp engine.old engine.new }
 {
     match engine.start(alloc) {
@@ -144,8 +144,8 @@ where
     }
 }
 
-/// Once its end was asked for, shell leaves all messages undone until it is told to end. A cell that runs is interrupted
-/// by the flags.
+/// Once its end was asked for, shell leaves all messages undone until it is told to end. The flags interrupt a running
+/// cell.
 impl Answering for Flags {
     ghost may = { doing_of Shell };
 

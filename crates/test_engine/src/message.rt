@@ -100,7 +100,7 @@ fn parts_of(whole: &str) -> Option<Parts<'_>> {
     )?;
     let (id, rest) = rest.split_once("\",\"msg_type\":\"")?;
     let (kind, rest) = rest.split_once(
-        "\",\"session\":\"s\",\"username\":\"kernel\",\"version\":\"5.3\"}\n{\"msg_id\":\"",
+        "\",\"session\":\"replay\",\"username\":\"kernel\",\"version\":\"5.3\"}\n{\"msg_id\":\"",
     )?;
     let (parent_id, rest) = rest.split_once("\",\"msg_type\":\"")?;
     let (parent_kind, content) = rest.split_once("\"}\n{}\n")?;

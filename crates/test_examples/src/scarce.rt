@@ -7,7 +7,8 @@ use std::cell::Cell;
 /// The date of each message.
 pub const DATE: &str = "2026-11-23T00:00:00.000000Z";
 
-/// Session `s`, ids `s1`, `s2` and so on, and one date. One call is refused, as where no memory is left for it.
+/// Session `replay`, ids `replay_s1`, `replay_s2` and so on, and one date. One call is refused, as if no memory were
+/// left for it.
 #[derive(Drop)]
 pub struct Scarce {
     /// The call that is refused, counted from 1 over ids and dates, or 0.
@@ -42,7 +43,7 @@ impl Stamp for Scarce {
     ghost use Rattle.jmsg_envelope.specs.Stamp.{numbered, numbered-differ};
 
     ghost stamp = { record {
-      meaning = λ _. record { session = codes "s"; label = codes "s" };
+      meaning = λ _. record { session = codes "replay"; label = codes "replay_s" };
       id_text = numbered;
       is_date = λ _ _. true;
     } };
@@ -50,12 +51,12 @@ impl Stamp for Scarce {
     ghost ids_differ = { numbered-differ };
 
     fn session(&self) -> &str {
-        "s"
+        "replay"
     }
 
     fn id(&self, alloc: Global, n: u64) -> Result<String, AllocError> {
         self.count()?;
-        format!(in alloc; "s{n}")
+        format!(in alloc; "replay_s{n}")
     }
 
     fn date(&mut self, alloc: Global) -> Result<String, AllocError> {

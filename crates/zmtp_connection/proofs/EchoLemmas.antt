@@ -20,7 +20,7 @@ use Rattle.zmtp_connection.specs.Exchange.{Devices, Exchange}
 use Rattle.zmtp_connection.specs.Steps.{TurnsAway}
 use Rattle.zmtp_connection.specs.Listen.{RunsOut}
 use Rattle.zmtp_connection.specs.Server.{Answering, AnswersAll, BreaksIn, Converses, GoesOn, IsLast, Serves, ServesPeer}
-use Rattle.zmtp_connection.specs.Server.{Serving, Treats, begins, marked, told}
+use Rattle.zmtp_connection.specs.Server.{Serving, Treats, begins, marked, told_ending}
 use Rattle.zmtp_connection.specs.Echo.{Echoes, EchoesOne, IsCutShort, echo_of}
 use Rattle.zmtp_connection.proofs.Legs.{decided, memory_decided}
 
@@ -178,11 +178,11 @@ told_exchange (Host error) Comes one two exchange = record {
 
 pub echo_served : {Server : Type 0} (dropped : Bool) (old new : Server) (one two : Devices)
     (ending result : Ending AllocError) → ServesPeer dropped echoes Rep old one two new ending
-    → result ≡ told dropped ending → Exchange (Echoes (told_as result)) one two (Some (told_as result))
+    → result ≡ told_ending dropped ending → Exchange (Echoes (told_as result)) one two (Some (told_as result))
 echo_served dropped old new one two ending result served is =
     let e = served.exchange in
     let (echoed, none) = echo_outcome dropped old new e.read e.written ending e.outcome in
-    let same : result ≡ ending = is ∙ ap (λ d. told d ending) none in
+    let same : result ≡ ending = is ∙ ap (λ d. told_ending d ending) none in
     rw same (told_exchange ending (Echoes (told_as ending)) one two (record {
       read = e.read;
       written = e.written;

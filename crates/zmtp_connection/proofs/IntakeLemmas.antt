@@ -8,7 +8,7 @@ use Rattle.zmtp_connection.specs.declared.end.Ending.{Ending}
 use Rattle.zmtp_connection.specs.declared.end.Ending.TheVariants.{Connection, Host}
 use Rattle.zmtp_connection.specs.Exchange.{Source}
 use Rattle.zmtp_connection.specs.Listen.{Hearing, HearsAll, Listens}
-use Rattle.zmtp_connection.specs.Intake.{Fills, FillsAll, FillsOne, Grows, Taking}
+use Rattle.zmtp_connection.specs.Intake.{Fills, FillsAll, FillsOne, Grows, IntakeStep}
 use Rattle.zmtp_connection.proofs.SeenLemmas.{out_seen, off_seen}
 
 grows_none : (told : Option (List Traffic)) → Grows told told []
@@ -23,12 +23,12 @@ grows_on (Some x) (Some y) None first more a b = absurd b
 grows_on (Some x) (Some y) (Some z) first more a b = b ∙ ap (λ t. t ++ more) a ∙ append_assoc x first more
 
 -- the steps of an intake that a listener holds
-abbrev pub fills_by : {Listener Intake : Type 0} → (Listener → Intake) → Taking Intake
+abbrev pub fills_by : {Listener Intake : Type 0} → (Listener → Intake) → IntakeStep Intake
     → (Intake → Option (List Traffic)) → Hearing Listener ConnectionEnd
 fills_by view takes told old traffic new result = FillsOne takes told (view old) traffic (view new) result
 
 -- the list grew by all that was heard
-grown : {Listener Intake : Type 0} (view : Listener → Intake) (takes : Taking Intake)
+grown : {Listener Intake : Type 0} (view : Listener → Intake) (takes : IntakeStep Intake)
     (told : Intake → Option (List Traffic)) (old new : Listener) (traffic : List Traffic)
     → HearsAll (fills_by view takes told) old traffic new → Grows (told (view old)) (told (view new)) traffic
 grown view takes told old new [] same =
@@ -42,7 +42,7 @@ abbrev pub told_end : Ending ConnectionEnd → ConnectionEnd
 told_end (Connection end) = end
 told_end (Host end) = end
 
-filled : {Listener Intake : Type 0} (view : Listener → Intake) (takes : Taking Intake)
+filled : {Listener Intake : Type 0} (view : Listener → Intake) (takes : IntakeStep Intake)
     (told : Intake → Option (List Traffic)) (old : Listener) (before : List ℕ) (source source' : Source)
     (new : Listener) (ending : Ending ConnectionEnd)
     → Listens (fills_by view takes told) old before source source' new ending
@@ -61,7 +61,7 @@ filled view takes told old before source source' new (Host end) off = record {
 }
 
 -- the same of what the intake became
-pub filled_as : {Listener Intake : Type 0} (view : Listener → Intake) (takes : Taking Intake)
+pub filled_as : {Listener Intake : Type 0} (view : Listener → Intake) (takes : IntakeStep Intake)
     (told : Intake → Option (List Traffic)) (old : Listener) (before : List ℕ) (source source' : Source)
     (new : Listener) (state : Intake) → state ≡ view new → (ending : Ending ConnectionEnd)
     → Listens (fills_by view takes told) old before source source' new ending

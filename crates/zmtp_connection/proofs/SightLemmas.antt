@@ -13,7 +13,7 @@ use Rattle.zmtp_connection.specs.Exchange.{Devices, Source}
 use Rattle.zmtp_connection.specs.Steps.{IsPrompt}
 use Rattle.zmtp_connection.specs.Listen.{RunsOut}
 use Rattle.zmtp_connection.specs.Server.{Answering, AnswersAll, GoesOn, IsLast, IsServed, Serves, ServesPeer, Serving}
-use Rattle.zmtp_connection.specs.Server.{Treats, told}
+use Rattle.zmtp_connection.specs.Server.{Treats, told_ending}
 
 -- Each step of a server is a step of what is seen of it, while this holds of the server.
 pub record Sight {Server Other End : Type 0} (answers : Answering Server End)
@@ -187,10 +187,10 @@ pub peer_seen_as : {Server Other End : Type 0} {answers : Answering Server End} 
     (s : Sight answers sees) (ours : SocketType) (old new : Server) (became : Other) (one : Devices) (two : ℕ → Devices)
     (given : Ending End) → s.holds old → s.view new ≡ became
     → (left : ℕ) × (dropped : Bool) × (ended : Ending End)
-    × ServesPeer dropped answers ours old one (two left) new ended × (given ≡ told dropped ended)
+    × ServesPeer dropped answers ours old one (two left) new ended × (given ≡ told_ending dropped ended)
     → (left : ℕ) × (dropped : Bool) × (ended : Ending End)
     × ServesPeer dropped sees ours (s.view old) one (two left) became ended
-    × (given ≡ told dropped ended)
+    × (given ≡ told_ending dropped ended)
 peer_seen_as {Other = Other} {sees = sees} s ours old new became one two given holds is
     (left, dropped, ended, peer, told_so) = (
       left,

@@ -138,6 +138,6 @@ pub record ServesPeer {Server End : Type 0} (dropped : Bool) (answers : Answerin
   ]
 
 -- The end that is told of a session. If a message was dropped it is want of memory, and else the end itself.
-abbrev pub told : {End : Type 0} → Bool → Ending End → Ending End
-told true ending = Connection (Failed Memory)
-told false ending = ending
+abbrev pub told_ending : {End : Type 0} → Bool → Ending End → Ending End
+told_ending true ending = Connection (Failed Memory)
+told_ending false ending = ending

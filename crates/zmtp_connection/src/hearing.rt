@@ -5,7 +5,7 @@ ghost use Rattle.zmtp_wire.specs.declared.fault.WireFault.{WireFault};
 ghost use Rattle.zmtp_wire.specs.declared.traffic.Traffic.{Traffic};
 ghost use Rattle.zmtp_connection.specs.Exchange.{source_at};
 ghost use Rattle.zmtp_connection.specs.Open.{Holds, IsLeft, once_heard};
-ghost use Rattle.zmtp_connection.specs.Intake.{Taking, Grows, put_by, FillsAll};
+ghost use Rattle.zmtp_connection.specs.Intake.{IntakeStep, Grows, put_by, FillsAll};
 
 use crate::end::{ConnectionEnd, Ending};
 use crate::fault::ConnectionFault;
@@ -17,7 +17,7 @@ use zmtp_wire::{Inlet, Traffic, WireFault};
 /// What the traffic of a peer is put into.
 pub trait Intake {
     /// One step: what the intake was, the traffic, what the intake is then, and whether the traffic was put.
-    ghost takes: { Taking Self };
+    ghost takes: { IntakeStep Self };
 
     /// The traffic that was put so far, if the intake tells it.
     ghost told: { Self → Option (List Traffic) };

@@ -3,7 +3,7 @@
 ghost use Rattle.std.specs.Prelude.{◌≡◌, ℕ, Bool};
 ghost use Rattle.zmtp_connection.specs.declared.end.Ending.{Ending};
 ghost use Rattle.zmtp_connection.specs.Exchange.{devices_at};
-ghost use Rattle.zmtp_connection.specs.Server.{ServesPeer, told};
+ghost use Rattle.zmtp_connection.specs.Server.{ServesPeer, told_ending};
 
 use crate::end::{ConnectionEnd, Ending};
 use crate::fault::ConnectionFault;
@@ -31,7 +31,7 @@ pub fn serve<R: Inlet, W: Outlet, S: Server>(
     ensures serves { (left : ℕ) × (dropped : Bool) × (ending : Ending S.End)
         × ServesPeer dropped S.answers ours server.old (devices_at (R.inflow reader.old) turns (W.outflow writer.old))
         (devices_at (R.inflow reader.new) left (W.outflow writer.new)) server.new ending
-        × (result ≡ told dropped ending) }
+        × (result ≡ told_ending dropped ending) }
 {
     let mut left = turns;
     let mut peer = match shake_within(alloc, reader, writer, ours, &mut left) {
@@ -45,7 +45,7 @@ pub fn serve<R: Inlet, W: Outlet, S: Server>(
 
 /// The end that is told of a session: want of memory if a message was dropped, and else the end itself.
 fn tell<E: Drop>(dropped: bool, ending: Ending<E>) -> Ending<E>
-    ensures { result ≡ told dropped ending }
+    ensures { result ≡ told_ending dropped ending }
 {
     if dropped {
         drop(ending);

@@ -5,7 +5,7 @@ use Rattle.arith_shell.proofs.shell_arithmetic.read.Goals as goal
 
 pub returns-in-Ok-text : goal.returns-in-Ok-text
 returns-in-Ok-text c = rw c.in-Ok-text.ensures (record {
-  cell = Ok (trees_of c.args.code.now c.in-Ok.waiting.items);
+  cell = Ok (trees_of c.args.code.now c.in-Ok.waiting);
   means = c.in-Ok.ensures;
   answers = refl;
 })

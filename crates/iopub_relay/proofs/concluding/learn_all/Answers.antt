@@ -2,7 +2,7 @@ use Rattle.std.proofs.Common.{arith, ◌≡◌, ◌<◌, List, length, take, get
 use Rattle.std.proofs.lemmas.Grind.{common_steps}
 use Rattle.std.proofs.lemmas.List.{set-get_or}
 use Rattle.iopub_event.specs.declared.event.Event.{Event}
-use Rattle.iopub_queue.specs.Entries.{Entry, StartsWith, of}
+use Rattle.iopub_queue.specs.Entries.{Entry, StartsWith, part_of}
 use Rattle.iopub_queue.specs.Values.{Publishing, Taking, Told}
 use Rattle.iopub_relay.proofs.ConcludeLemmas.{tells_still, tells_next}
 use Rattle.iopub_relay.proofs.concluding.learn_all.Goals as goal
@@ -27,7 +27,8 @@ loop-place-preserved g c =
           (c.index_mut.ensures.value ∙ ap (λ (list : List (Publishing (Event g.row.W.Denot))).
           get_or list c.loop-place.place closed) held.tokens) (
             subst (StartsWith told) list learns.word_told,
-            subst (λ (entries : List (Entry (Event g.row.W.Denot))). of closed.number entries ≡ closed.published) list
+            subst (λ (entries : List (Entry (Event g.row.W.Denot))). part_of closed.number entries
+                ≡ closed.published) list
                 c.word-word.ensures.own,
           )
           (tells_still c.loop-place.relay.taker.told told (take c.loop-place.place c.args.tokens.now.items)

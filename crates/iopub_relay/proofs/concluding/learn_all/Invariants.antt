@@ -1,6 +1,6 @@
 use Rattle.std.proofs.Common.{◌≡◌, take}
 use Rattle.std.specs.List.{AllByRecursion}
-use Rattle.iopub_relay.specs.Relay.{IsTold}
+use Rattle.iopub_relay.specs.Relay.{TokenIsTold}
 use Rattle.iopub_relay.proofs.concluding.learn_all.Given as goal
 
 abbrev pub invariant-loop-place : goal.invariant-loop-place
@@ -9,5 +9,5 @@ invariant-loop-place g l = record {
   queue : l.relay.taker.queue ≡ l.fn.relay.taker.queue;
   count : l.relay.taker.count ≡ l.fn.relay.taker.count;
   taken : l.relay.taker.taken ≡ l.fn.relay.taker.taken;
-  told : AllByRecursion (IsTold l.relay.taker.told) (take l.place l.fn.tokens.items);
+  told : AllByRecursion (TokenIsTold l.relay.taker.told) (take l.place l.fn.tokens.items);
 }

@@ -1,5 +1,5 @@
 use Rattle.zmtp_wire.specs.declared.handshake.socket_type.SocketType.TheVariants.{Router}
-use Rattle.kernel_session.specs.Laws.{is_asked}
+use Rattle.kernel_session.specs.Laws.{ends_as_asked}
 use Rattle.kernel_session.specs.Session.{Performs}
 use Rattle.zmtp_connection.proofs.HearOnce.{Laws}
 use Rattle.zmtp_connection.proofs.ServeOnce.{serves_once}
@@ -25,6 +25,6 @@ returns g c =
     } in
     record {
       once = λ stop setting. serves_once laws (Performs g.I.Interpreter.meaning (g.T.Stop.may_ask stop) setting)
-          is_asked (performs_once g.I.Interpreter.meaning requests (g.T.Stop.may_ask stop) setting) Router;
+          ends_as_asked (performs_once g.I.Interpreter.meaning requests (g.T.Stop.may_ask stop) setting) Router;
       stays = λ stop setting. serves_on laws (Performs g.I.Interpreter.meaning (g.T.Stop.may_ask stop) setting) Router;
     }

@@ -1,6 +1,6 @@
 use Rattle.std.proofs.lemmas.Result.{err_from_is_err_and}
 use Rattle.kernel_engine.specs.Course.{TextRuns}
-use Rattle.kernel_engine.specs.Growth.{Puts}
+use Rattle.kernel_engine.specs.Growth.{PutsUnder}
 use Rattle.kernel_engine.proofs.GrowthLemmas.{puts_told}
 use Rattle.kernel_engine.proofs.TellLemmas.{cut_before_last, tells_nothing, tells_cut, tells_last}
 use Rattle.kernel_engine.proofs.parts.Parts.run_cell.Goals as goal
@@ -9,7 +9,7 @@ pub returns-in_err-put_input-clause-ran : goal.returns-in_err-put_input-clause-r
 returns-in_err-put_input-clause-ran g c =
     let p = err_from_is_err_and c.from_residual.result c.from_residual.ensures.1 in
     rw (p.1) (tells_nothing g.I.Interpreter.meaning c.args.self.now.interp c.args.code.now c.args.self.now.count
-    (Puts g.P.Publish.sink g.S.Stamp.stamp c.args.block.now.heading
+    (PutsUnder g.P.Publish.sink g.S.Stamp.stamp c.args.block.now.heading
     c.args.self.now.publishing c.put_input.new.publishing)
     c.args.block.now.silent (g.T.Stop.may_ask c.args.stop.now) c.in_err-put_input.ensures)
 
@@ -17,7 +17,7 @@ pub returns-in_err-outcome-clause-ran : goal.returns-in_err-outcome-clause-ran
 returns-in_err-outcome-clause-ran g c =
     let p = err_from_is_err_and c.from_residual-in_err-outcome.result
     c.from_residual-in_err-outcome.ensures.1 in
-    let puts = Puts g.P.Publish.sink g.S.Stamp.stamp c.args.block.now.heading in
+    let puts = PutsUnder g.P.Publish.sink g.S.Stamp.stamp c.args.block.now.heading in
     rw (p.1) (tells_cut (TextRuns g.I.Interpreter.meaning c.args.self.now.interp c.args.code.now)
     (g.T.Stop.may_ask c.args.stop.now) c.args.code.now c.args.self.now.count c.run_text.new.interp
     (puts c.args.self.now.publishing c.put_input.new.publishing)
@@ -33,7 +33,7 @@ returns-in_err-outcome-clause-ran g c =
 
 pub returns-clause-ran : goal.returns-clause-ran
 returns-clause-ran g c =
-    let puts = Puts g.P.Publish.sink g.S.Stamp.stamp c.args.block.now.heading in
+    let puts = PutsUnder g.P.Publish.sink g.S.Stamp.stamp c.args.block.now.heading in
     tells_last (TextRuns g.I.Interpreter.meaning c.args.self.now.interp c.args.code.now)
     (g.T.Stop.may_ask c.args.stop.now) c.args.code.now c.args.self.now.count c.run_text.new.interp
     (puts c.args.self.now.publishing c.put_input.new.publishing)

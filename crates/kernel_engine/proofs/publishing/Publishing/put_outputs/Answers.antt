@@ -1,7 +1,7 @@
 use Rattle.std.proofs.Common.{◌∷◌, map, sym, ap, ◌∙◌}
 use Rattle.std.proofs.lemmas.Result.{err_from_is_err_and}
 use Rattle.jmsg_types.specs.declared.publication.Publication.{Publication}
-use Rattle.kernel_engine.specs.Growth.{Puts}
+use Rattle.kernel_engine.specs.Growth.{PutsUnder}
 use Rattle.kernel_engine.specs.Publications.{publication_of}
 use Rattle.kernel_engine.proofs.GrowthLemmas.{puts_none, puts_told}
 use Rattle.kernel_engine.proofs.PuttingLemmas.{putting_first, putting_on, putting_cut}
@@ -10,7 +10,7 @@ use Rattle.kernel_engine.proofs.publishing.Publishing.put_outputs.Goals as goal
 pub loop-output-init : goal.loop-output-init
 loop-output-init g c =
     putting_first
-    (Puts g.P.Publish.sink g.S.Stamp.stamp c.args.block.now.heading
+    (PutsUnder g.P.Publish.sink g.S.Stamp.stamp c.args.block.now.heading
     c.args.self.now c.args.self.now)
     c.args.block.now.silent (map publication_of c.args.outputs) (map publication_of c.from_vec-waiting.result.items)
     (ap (map publication_of) (c.from_vec-waiting.ensures.items ∙ c.into_vec.ensures))
@@ -19,7 +19,7 @@ loop-output-init g c =
 
 pub loop-output-preserved : goal.loop-output-preserved
 loop-output-preserved g c =
-    let puts = Puts g.P.Publish.sink g.S.Stamp.stamp c.args.block.now.heading in
+    let puts = PutsUnder g.P.Publish.sink g.S.Stamp.stamp c.args.block.now.heading in
     putting_on (puts c.args.self.now c.loop-output.self) (puts c.loop-output.self c.put.new.self)
     (puts c.args.self.now c.put.new.self) c.args.block.now.silent
     (puts_told g.P.Publish.sink g.S.Stamp.stamp c.args.block.now.heading
@@ -33,7 +33,7 @@ loop-output-preserved g c =
 pub returns-in_err-put : goal.returns-in_err-put
 returns-in_err-put g c =
     let p = err_from_is_err_and c.from_residual.result c.from_residual.ensures.1 in
-    let puts = Puts g.P.Publish.sink g.S.Stamp.stamp c.args.block.now.heading in
+    let puts = PutsUnder g.P.Publish.sink g.S.Stamp.stamp c.args.block.now.heading in
     rw (p.1) (putting_cut (puts c.args.self.now c.loop-output.self) (puts c.loop-output.self c.put.new.self)
     (puts c.args.self.now c.put.new.self) c.args.block.now.silent
     (puts_told g.P.Publish.sink g.S.Stamp.stamp c.args.block.now.heading
