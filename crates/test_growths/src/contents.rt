@@ -4,8 +4,8 @@ use crate::marks::{begin, end, say_number, say_octets, text_at};
 use conn_file::read_connection;
 use interp_core::{InterpFault, fault_words};
 use jmsg_types::{
-    ContentFault, Publication, Reply, Shown, content_of, content_of_publication, content_text,
-    content_text_of_publication, content_words,
+    ContentFault, Publication, Reply, Shown, State, Verdict, content_of, content_of_publication,
+    content_text, content_text_of_publication, content_words,
 };
 use listed::{Frames, Row, Text};
 use serde_json::Value;
@@ -52,19 +52,83 @@ fn values(alloc: Global) -> Result<Row<(Text, Shown)>, AllocError> {
     Ok(Row::new(Vec::from_array(alloc, [sixteen, none])?))
 }
 
-/// The reply of a name: of a cell that ran, or else of one that failed.
-fn reply_named(alloc: Global, name: &str) -> Result<Reply, AllocError> {
-    if name == "ok" {
-        let values = values(alloc)?;
-        return Ok(Reply::ExecuteOk { count: 1, values });
-    }
+/// What the kernel is.
+fn info(alloc: Global) -> Result<Reply, AllocError> {
+    let banner = text(alloc, "b")?;
+    let file_extension = text(alloc, ".e")?;
+    let mimetype = text(alloc, "text/m")?;
+    let name = text(alloc, "n")?;
+    let version = text(alloc, "1")?;
+    Ok(Reply::KernelInfo {
+        banner,
+        file_extension,
+        mimetype,
+        name,
+        version,
+    })
+}
+
+/// How a word may go on.
+fn completion(alloc: Global) -> Result<Reply, AllocError> {
+    let matches = [text(alloc, "a1")?, text(alloc, "ab")?];
+    Ok(Reply::Complete {
+        matches: Row::new(Vec::from_array(alloc, matches)?),
+        start: 3,
+        end: 4,
+    })
+}
+
+/// The name and the value of an error.
+fn error(alloc: Global) -> Result<(Text, Text), AllocError> {
     let ename = text(alloc, "OverflowError")?;
     let evalue = text(alloc, "result outside 64 bits")?;
+    Ok((ename, evalue))
+}
+
+/// A cell that failed.
+fn failed_cell(alloc: Global) -> Result<Reply, AllocError> {
+    let (ename, evalue) = error(alloc)?;
     Ok(Reply::ExecuteError {
         ename,
         evalue,
         count: 1,
     })
+}
+
+/// Another request that failed.
+fn failed(alloc: Global) -> Result<Reply, AllocError> {
+    let (ename, evalue) = error(alloc)?;
+    Ok(Reply::Error { ename, evalue })
+}
+
+/// The reply of a name that has no text of its own.
+fn short_reply(name: &str) -> Reply {
+    match name {
+        "unknown" => Reply::Inspect(None),
+        "whole" => Reply::IsComplete(Verdict::Complete),
+        "part" => Reply::IsComplete(Verdict::Incomplete),
+        "invalid" => Reply::IsComplete(Verdict::Invalid),
+        "history" => Reply::History,
+        "comms" => Reply::CommInfo,
+        "shutdown" => Reply::Shutdown { restart: true },
+        _ => Reply::Interrupt,
+    }
+}
+
+/// The reply of a name.
+fn reply_named(alloc: Global, name: &str) -> Result<Reply, AllocError> {
+    match name {
+        "ok" => Ok(Reply::ExecuteOk {
+            count: 1,
+            values: values(alloc)?,
+        }),
+        "error" => failed_cell(alloc),
+        "failed" => failed(alloc),
+        "info" => info(alloc),
+        "complete" => completion(alloc),
+        "inspect" => Ok(Reply::Inspect(Some(text(alloc, "ab = 2")?))),
+        _ => Ok(short_reply(name)),
+    }
 }
 
 /// Makes the content of a reply in both ways, and tells it.
@@ -83,21 +147,47 @@ pub(crate) fn reply<R: Print + AllocGlobal>(rt: &R, words: &[Vec<u8>]) -> Result
     Ok(())
 }
 
-/// The publication of a name: what a cell displays, with HTML or without, or else its error.
-fn publication_named(alloc: Global, name: &str) -> Result<Publication, AllocError> {
-    if name == "display" {
-        let text = text(alloc, "p")?;
-        let buffers = Frames::new(Vec::new(alloc));
-        return Ok(Publication::Display { text, buffers });
-    }
-    if name == "html" {
-        let html = text(alloc, "<b>p</b>")?;
-        let text = text(alloc, "p")?;
-        return Ok(Publication::DisplayHtml { text, html });
-    }
-    let ename = text(alloc, "OverflowError")?;
-    let evalue = text(alloc, "result outside 64 bits")?;
+/// What a cell displays, with HTML.
+fn page(alloc: Global) -> Result<Publication, AllocError> {
+    let html = text(alloc, "<b>p</b>")?;
+    let text = text(alloc, "p")?;
+    Ok(Publication::DisplayHtml { text, html })
+}
+
+/// The error of a cell.
+fn failure(alloc: Global) -> Result<Publication, AllocError> {
+    let (ename, evalue) = error(alloc)?;
     Ok(Publication::Error { ename, evalue })
+}
+
+/// The publication of a name that has one text.
+fn publication_of(alloc: Global, name: &str, text: Text) -> Publication {
+    match name {
+        "input" => Publication::ExecuteInput {
+            code: text,
+            count: 1,
+        },
+        "stream" => Publication::Stream { err: false, text },
+        "result" => Publication::ExecuteResult { text, count: 2 },
+        "close" => Publication::CommClose { comm_id: text },
+        _ => Publication::Display {
+            text,
+            buffers: Frames::new(Vec::new(alloc)),
+        },
+    }
+}
+
+/// The publication of a name.
+fn publication_named(alloc: Global, name: &str) -> Result<Publication, AllocError> {
+    match name {
+        "busy" => Ok(Publication::Status(State::Busy)),
+        "html" => page(alloc),
+        "error" => failure(alloc),
+        _ => {
+            let text = text(alloc, "p")?;
+            Ok(publication_of(alloc, name, text))
+        }
+    }
 }
 
 /// Makes the content of a publication in both ways, and tells it.

@@ -14,6 +14,7 @@
 //! - `connection FILE`; `door FRAME`, and `door NAME REST` of a command;
 //! - `core EVENT..`: of two publishers `0a` publishes `a`, `0` closes the first, and nothing takes; `queue`: one after
 //!   another all that publishers and a taker do;
+//! - `spared NAME` and what it is given: calls that need no memory;
 //! - `list EVENT..` and `pump EVENT..`: what a relay's subscribers get. `+1` comes, `-1` leaves, `?1topic` asks for a
 //!   topic, `!1topic` gives it up, `@1context` asks for a PONG, and `=first,second` is a message.
 #![tactic(auto)]
@@ -23,6 +24,7 @@ mod envelopes;
 mod marks;
 mod queue;
 mod relay;
+mod spared;
 mod steps;
 mod wire;
 
@@ -84,6 +86,7 @@ fn answer_lent<R: Print + AllocGlobal + Wait + Copy + Drop>(
         "core" => queue::core(rt, words),
         "list" => relay::list(rt, words),
         "pump" => relay::pump(rt, words),
+        "spared" => spared::spared(rt, words),
         _ => {
             answer_alone(rt, name, words);
             Ok(())
