@@ -418,15 +418,15 @@ class Kernel:
             raise Failure(f"it has not ended after {PATIENCE} s") from None
         equal((found, *self.told()), (status, *told), "status, standard output and standard error")
 
-    def shut_down(self):
-        """Asks on control for the end."""
+    def shut_down(self, told=(b"", b"")):
+        """Asks on control for the end, by which it has told this."""
         peer = self.peer("control")
         header = header_of("shutdown_request")
         peer.send(request_frames(self.key, header, {"restart": False}))
         reply = opened(self.key, peer.receive())
         equal((reply.parent, reply.content), (header, {"restart": False, "status": "ok"}), "the reply to a shutdown")
         peer.close()
-        self.ends()
+        self.ends(0, told)
 
     def __exit__(self, kind, _value, _trace):
         try:

@@ -16,7 +16,7 @@ use serde_json::{Map, Value, json};
 use std::alloc::{AllocError, Global};
 
 /// What is published.
-#[derive(Debug, Drop)]
+#[derive(Drop)]
 pub enum Publication {
     /// What the kernel is doing.
     Status(State),

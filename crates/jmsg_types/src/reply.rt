@@ -18,7 +18,7 @@ use serde_json::{Map, Value, json};
 use std::alloc::{AllocError, Global};
 
 /// What a client is replied.
-#[derive(Debug, Drop)]
+#[derive(Drop)]
 pub enum Reply {
     /// What the kernel is.
     KernelInfo {

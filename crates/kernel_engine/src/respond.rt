@@ -38,7 +38,7 @@ use listed::{Row, Text};
 use std::alloc::{AllocError, Global};
 
 /// What a request is answered.
-#[derive(Debug, Drop)]
+#[derive(Drop)]
 pub struct Answered {
     /// The content of its reply, if it has one.
     pub reply: Option<Reply>,

@@ -2,8 +2,10 @@
 
 ghost use Rattle.std.specs.Prelude.{◌≡◌, ◌++◌, ◌-◌, ◌<◌, ◌≤◌, ◌↔◌, [], length, take, IfNone, IfOk, IfErr, IfSome};
 ghost use Rattle.std.specs.Prelude.{IsTrue, OnOk};
-ghost use Rattle.kernel_limits.specs.Kept.{joined_chunks, AreSome};
+ghost use Rattle.kernel_limits.specs.Kept.{chunk_octets, joined_chunks, kept_octets, AreSome};
 
+use crate::chunk::{Chunk, SHORT};
+use arrayvec::ArrayVec;
 use std::alloc::{AllocError, Global};
 use std::collections::VecDeque;
 use std::marker::Model;
@@ -17,7 +19,9 @@ const CHUNK: usize = 1 << 16;
 pub struct Kept {
     /// Where they take their memory.
     alloc: Global,
-    /// Chunks that are full.
+    /// The first of them, if no memory was left when they came. They lie here, and take none.
+    short: ArrayVec<u8, SHORT>,
+    /// Chunks that are full, after these.
     full: VecDeque<Vec<u8>>,
     /// The chunk that is being filled, after these.
     last: Vec<u8>,
@@ -27,13 +31,13 @@ pub struct Kept {
 
 impl Model for Kept {
     ghost use Rattle.std.specs.Prelude.{ℕ, List};
-    ghost use Rattle.kernel_limits.specs.Kept.{joined_chunks, IsKept};
+    ghost use Rattle.kernel_limits.specs.Kept.{kept_octets, IsKept};
 
     ghost Value = { List ℕ };
 
-    ghost view = { λ kept. joined_chunks kept.full.items kept.last.items };
+    ghost view = { λ kept. kept_octets kept.short.items kept.full.items kept.last.items };
 
-    ghost invariant = { λ kept. IsKept kept.len kept.full.items kept.last.items };
+    ghost invariant = { λ kept. IsKept kept.len kept.short.items kept.full.items kept.last.items };
 }
 
 impl Kept {
@@ -43,6 +47,7 @@ impl Kept {
     {
         Kept {
             alloc,
+            short: ArrayVec::new(),
             full: VecDeque::new(alloc),
             last: Vec::new(alloc),
             len: 0,
@@ -68,8 +73,26 @@ impl Kept {
     ///
     /// # Errors
     ///
-    /// If memory is refused. What is kept stays.
+    /// If memory is refused while something is kept. That stays.
     pub fn put(&mut self, piece: &[u8], share: usize) -> Result<usize, AllocError>
+        ensures appends { IfOk result (λ count. self.new ≡ self.old ++ take count piece.now) }
+        ensures bound { IfOk result (λ count. (count ≤ length piece.now) × (count ≤ share - length self.old)) }
+        ensures some { IfOk result (λ count. length self.old < share → 0 < length piece.now → 0 < count) }
+        ensures stays { IfErr result (λ _. self.new ≡ self.old) }
+        ensures refused { IfErr result (λ _. 0 < length self.old) }
+    {
+        match self.put_long(piece, share) {
+            Err(AllocError) if self.is_empty() => Ok(self.put_short(piece, share)),
+            put => put,
+        }
+    }
+
+    /// Keeps the first octets of a piece, as long as fewer than its share are kept, and answers how many.
+    ///
+    /// # Errors
+    ///
+    /// If memory is refused. What is kept stays.
+    fn put_long(&mut self, piece: &[u8], share: usize) -> Result<usize, AllocError>
         ensures appends { IfOk result (λ count. self.new ≡ self.old ++ take count piece.now) }
         ensures bound { IfOk result (λ count. (count ≤ length piece.now) × (count ≤ share - length self.old)) }
         ensures some { IfOk result (λ count. length self.old < share → 0 < length piece.now → 0 < count) }
@@ -83,21 +106,38 @@ impl Kept {
         Ok(front.len())
     }
 
+    /// Keeps the first octets of a piece without memory, if nothing is kept, and answers how many.
+    fn put_short(&mut self, piece: &[u8], share: usize) -> usize
+        requires { self.old ≡ [] }
+        ensures appends { self.new ≡ take result piece.now }
+        ensures bound { (result ≤ length piece.now) × (result ≤ share) }
+        ensures some { 0 < share → 0 < length piece.now → 0 < result }
+    {
+        let (front, _) = piece.split_at(SHORT.min(share).min(piece.len()));
+        let _ = self.short.try_extend_from_slice(front);
+        self.len = front.len();
+        front.len()
+    }
+
     /// Takes a chunk of the first octets. None if nothing is kept.
-    pub fn take(&mut self) -> Option<Vec<u8>>
-        ensures front { IfSome result (λ chunk. self.old ≡ chunk.items ++ self.new) }
-        ensures some { IfSome result (λ chunk. 0 < length chunk.items) }
+    pub fn take(&mut self) -> Option<Chunk>
+        ensures front { IfSome result (λ chunk. self.old ≡ chunk_octets chunk ++ self.new) }
+        ensures some { IfSome result (λ chunk. 0 < length (chunk_octets chunk)) }
         ensures none { IfNone result ((self.old ≡ []) × (self.new ≡ [])) }
     {
+        if !self.short.is_empty() {
+            self.len -= self.short.len();
+            return Some(Chunk::Short(self.short.take()));
+        }
         if let Some(chunk) = self.full.pop_front() {
             self.len -= chunk.len();
-            return Some(chunk);
+            return Some(Chunk::Long(chunk));
         }
         if self.last.is_empty() {
             return None;
         }
         self.len = 0;
-        Some(mem::replace(&mut self.last, Vec::new(self.alloc)))
+        Some(Chunk::Long(mem::replace(&mut self.last, Vec::new(self.alloc))))
     }
 }
 

@@ -3,6 +3,7 @@
 #![tactic(auto)]
 
 mod asking;
+mod chunk;
 mod credit;
 mod grace;
 mod handover;
@@ -17,6 +18,7 @@ mod topic_count;
 mod unfinished;
 
 pub use asking::is_sent_by_clients;
+pub use chunk::Chunk;
 pub use credit::may_read;
 pub use grace::{grace_left, waits_on};
 pub use handover::{Claim, Holder, is_awaited, takes_over};

@@ -32,6 +32,10 @@ pub const SMALL_OCTETS: usize = 64 << 10;
 /// Octets of all unfinished messages together, beyond the small ones: two messages of the greatest size.
 pub const UNFINISHED_OCTETS: usize = 64 << 20;
 
+/// Octets that a connection holds while it waits for a message, and gives back once that begins: what it takes to read
+/// a small one and to do what that asks. It takes them only if as many are left.
+pub const SPARE_OCTETS: usize = 32 << 10;
+
 /// Octets by which a message may be longer than its shortest text, and count as finished all the same. It has 64 frames
 /// at most, and each may spell its size in eight octets, seven more than it needs.
 pub const SPELLING_OCTETS: usize = 64 * 7;

@@ -8,7 +8,7 @@ ghost use Rattle.kernel_serve.specs.Backlog.{IsTried};
 use crate::server::Server;
 use crate::socket::Socket;
 use kernel_limits::limits::REPLY_MILLIS;
-use kernel_limits::{Kept, Pace, share_of, waits_on};
+use kernel_limits::{Chunk, Kept, Pace, share_of, waits_on};
 use std::alloc::{AllocError, Global};
 use std::io::{self, ErrorKind};
 use std::sync::{Arc, Condvar, Mutex, Wait};
@@ -27,7 +27,7 @@ struct State {
     pace: Pace,
     /// Whether none come any more.
     has_ended: bool,
-    /// Whether a write failed, or memory was refused. Nothing is kept any more then, and no further write begun.
+    /// Whether a write failed, or the subscriber was too slow. Nothing is kept any more then, and nothing written.
     has_failed: bool,
 }
 
@@ -47,8 +47,8 @@ impl State {
         self.wait_or_fail(alloc, terms)
     }
 
-    /// Keeps the first octets of a piece, for which there is room. If memory is refused while something is kept, the
-    /// subscriber is waited for in the same way: what it takes gives memory back.
+    /// Keeps the first octets of a piece, for which there is room. If memory is refused, something is kept, and the
+    /// subscriber is waited for in the same way: a few octets need no memory once it took that.
     fn keep(&mut self, alloc: Global, piece: &[u8], share: usize, terms: Terms) -> Tried
         ensures { IsTried (length piece.now) result }
     {
@@ -57,13 +57,7 @@ impl State {
         }
         match self.kept.put(piece, share) {
             Ok(count) => Tried::Kept(count),
-            Err(AllocError) => {
-                if !self.kept.is_empty() {
-                    return self.wait_or_fail(alloc, terms);
-                }
-                self.fail(alloc);
-                Tried::Failed
-            }
+            Err(AllocError) => self.wait_or_fail(alloc, terms),
         }
     }
 
@@ -143,7 +137,7 @@ impl Backlog {
     ///
     /// # Errors
     ///
-    /// If the subscriber was too slow, a write failed, or memory is refused, now or before.
+    /// If the subscriber was too slow, or a write failed, now or before.
     pub(crate) fn put<R: Wait + Clock>(&self, rt: &R, piece: &[u8]) -> io::Result<usize>
         ensures { WritesAtMost result piece.now }
     {
@@ -197,14 +191,14 @@ impl Backlog {
         self.changed.notify_all();
     }
 
-    /// Writes what comes, until nothing comes any more and all is written, or a write failed, the subscriber was too
-    /// slow or memory was refused. Then it shuts the socket down.
+    /// Writes what comes, until nothing comes any more and all is written, or a write failed, or the subscriber was too
+    /// slow. Then it shuts the socket down.
     pub(crate) fn write_all<R: Wait + Clock>(&self, rt: &R, socket: &Socket) {
         for _ in rt.forever() {
-            let Some(octets) = self.take(rt) else {
+            let Some(chunk) = self.take(rt) else {
                 break;
             };
-            if !self.write_chunk(rt, socket, &octets) {
+            if !self.write_chunk(rt, socket, chunk.as_slice()) {
                 self.fail(rt);
                 break;
             }
@@ -214,7 +208,7 @@ impl Backlog {
     }
 
     /// Takes the first chunk of what is kept, once there is one. None if nothing comes any more or something failed.
-    fn take<R: Wait>(&self, rt: &R) -> Option<Vec<u8>> {
+    fn take<R: Wait>(&self, rt: &R) -> Option<Chunk> {
         let mut state = self.changed.wait_while(rt, self.state.lock(rt), |state| {
             state.kept.is_empty() && !state.has_ended && !state.has_failed
         });
@@ -222,10 +216,10 @@ impl Backlog {
             return None;
         }
         let before = state.kept.len();
-        let octets = state.kept.take()?;
+        let chunk = state.kept.take()?;
         self.server.keeps(before, state.kept.len());
         self.changed.notify_all();
-        Some(octets)
+        Some(chunk)
     }
 
     /// Writes a chunk, and answers whether that went well.

@@ -311,7 +311,7 @@ pub(crate) fn serve_requests<R>(rt: R, alloc: Global, guest: &Guest, channel: Ch
 where
     R: Threads + Wait + Clock + Copy + Send + Sync + Drop + 'static,
 {
-    let Ok((mut reader, mut writer)) = guest.halves(rt) else {
+    let Ok((mut reader, mut writer)) = guest.halves(rt, alloc) else {
         drop(channel);
         return;
     };

@@ -33,6 +33,7 @@ impl Guest {
     pub(crate) fn halves<R>(
         &self,
         rt: R,
+        alloc: Global,
     ) -> Result<(Counted<Reader<R>>, Counted<Socket>), AllocError>
     where
         R: Wait + Clock + Drop,
@@ -44,7 +45,7 @@ impl Guest {
         };
         match self.socket.try_clone() {
             Ok(writer) => {
-                let reader = Reader::new(rt, gauge, socket);
+                let reader = Reader::new(rt, alloc, gauge, socket);
                 Ok((Counted::new(reader), Counted::new(writer)))
             }
             Err(AllocError) => {

@@ -63,7 +63,7 @@ pub(crate) fn serve_heartbeat<R>(rt: R, alloc: Global, guest: &Guest)
 where
     R: Wait + Clock + Copy + Drop,
 {
-    let Ok((mut reader, mut writer)) = guest.halves(rt) else {
+    let Ok((mut reader, mut writer)) = guest.halves(rt, alloc) else {
         return;
     };
     match shake(alloc, &mut reader, &mut writer, SocketType::Rep, READS) {

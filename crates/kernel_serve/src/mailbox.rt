@@ -265,8 +265,8 @@ pub(crate) struct Replies {
 }
 
 impl Replies {
-    /// Writes replies to the peer, until nobody is left who could send one, the connection is closed, a write fails or
-    /// there is no memory for a text. Then the peer is to know that, and isn't heard any more.
+    /// Writes replies to the peer, until nobody is left who could send one, the connection is closed or a write fails.
+    /// Then the peer is to know that, and isn't heard any more.
     pub(crate) fn write_all<R: Wait + Clock + Drop>(self, rt: R, alloc: Global) {
         self.write_each(&rt, alloc);
         self.reader.unpark();

@@ -4,11 +4,16 @@ ghost use Rattle.std.specs.Io.{ReadsAtMost};
 
 use crate::server::Server;
 use crate::socket::Socket;
+use kernel_limits::limits::SPARE_OCTETS;
 use kernel_limits::{Meter, Part};
-use std::alloc::Global;
+use std::alloc::{AllocError, Global};
 use std::io::{self, ErrorKind, Read};
 use std::sync::{Arc, Mutex, Wait};
-use std::time::Clock;
+use std::thread;
+use std::time::{Clock, Duration};
+
+/// After how many milliseconds a reader that found no memory looks again.
+const MEMORY_LOOK: u64 = 50;
 
 /// What a connection's reader and those who look at what it read share.
 #[derive(Drop)]
@@ -91,10 +96,12 @@ impl Gauge {
 }
 
 /// What is read of a connection. If a handshake or a message has more octets than it may, or takes longer, the
-/// connection is closed.
+/// connection is closed. Without memory no message is begun, so that what a peer sends waits and isn't lost.
 pub(crate) struct Reader<R: Wait + Clock + Drop> {
     /// The handle to wait by.
     rt: R,
+    /// Where memory comes from.
+    alloc: Global,
     /// What counts.
     gauge: Arc<Gauge, Global>,
     /// The socket.
@@ -105,9 +112,15 @@ pub(crate) struct Reader<R: Wait + Clock + Drop> {
 
 impl<R: Wait + Clock + Drop> Reader<R> {
     /// What is read of this socket.
-    pub(crate) fn new(rt: R, gauge: Arc<Gauge, Global>, socket: Socket) -> Reader<R> {
+    pub(crate) fn new(
+        rt: R,
+        alloc: Global,
+        gauge: Arc<Gauge, Global>,
+        socket: Socket,
+    ) -> Reader<R> {
         Reader {
             rt,
+            alloc,
             gauge,
             socket,
             is_timed: false,
@@ -150,12 +163,49 @@ impl<R: Wait + Clock + Drop> Reader<R> {
         if room == 0 && !buf.is_empty() {
             return Err(ErrorKind::InvalidData.into());
         }
-        let left = meter.left(self.gauge.server.millis(&self.rt));
+        let left = meter.left(self.gauge.now(&self.rt));
         if let Err(error) = self.wait_at_most(left) {
             return Err(error);
         }
+        let spare = match left {
+            None => self.spare(),
+            Some(_) => None,
+        };
         let (front, _) = buf.split_at_mut(room);
-        self.read_counted(front)
+        let result = self.read_counted(front);
+        drop(spare);
+        result
+    }
+
+    /// Memory to be held until a message begins. It is waited for, unless nothing is read any more, or the peer has
+    /// left, so that no more can come than is there.
+    fn spare(&self) -> Option<Vec<u8>> {
+        for _ in self.rt.forever() {
+            match self.try_spare() {
+                Ok(spare) => return Some(spare),
+                Err(AllocError) if self.socket.is_ended() || self.socket.has_hung_up() => {
+                    return None;
+                }
+                Err(AllocError) => thread::sleep(&self.rt, Duration::from_millis(MEMORY_LOOK)),
+            }
+        }
+        unreachable!()
+    }
+
+    /// Memory to be held, if there is as much once more, for what is in work.
+    ///
+    /// # Errors
+    ///
+    /// If there isn't.
+    fn try_spare(&self) -> Result<Vec<u8>, AllocError> {
+        let spare = Vec::with_capacity(self.alloc, SPARE_OCTETS)?;
+        match Vec::<u8>::with_capacity(self.alloc, SPARE_OCTETS) {
+            Ok(_) => Ok(spare),
+            Err(AllocError) => {
+                drop(spare);
+                Err(AllocError)
+            }
+        }
     }
 
     /// Reads, and counts what was read.
@@ -193,6 +243,7 @@ impl<R: Wait + Clock + Drop> Drop for Reader<R> {
     fn drop(self) {
         let Reader {
             rt,
+            alloc: _,
             gauge,
             socket,
             is_timed: _,

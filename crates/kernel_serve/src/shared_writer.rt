@@ -3,7 +3,9 @@
 use crate::socket::Socket;
 use std::alloc::{AllocError, Global};
 use std::sync::{Arc, Mutex, Wait};
-use zmtp_wire::{Counted, Head, Traffic, pong_text, read_ping, write_all, write_message};
+use zmtp_wire::{
+    Counted, Head, Traffic, pong_text, read_ping, write_all, write_frames, write_message,
+};
 
 /// What a peer is written to: by one thread the replies, and by the other the PONGs, one whole text after the other.
 #[derive(Drop)]
@@ -46,11 +48,15 @@ pub(crate) fn pong_to(traffic: &Traffic) -> Option<Head> {
     Some(pong_text(read_ping(traffic)?))
 }
 
-/// Writes a message in as few writes as it takes, and answers whether that went well.
+/// Writes a message in as few writes as memory allows, and answers whether that went well.
 pub(crate) fn write_whole(alloc: Global, writer: &mut Counted<Socket>, frames: &[Vec<u8>]) -> bool {
     if frames.is_empty() {
         return true;
     }
     let mut text = Vec::new(alloc);
-    write_message(alloc, frames, &mut text).is_ok() && write_all(writer, &text).is_ok()
+    match write_message(alloc, frames, &mut text) {
+        Ok(()) => write_all(writer, &text).is_ok(),
+        // A text takes memory, and its frames take none.
+        Err(_) => write_frames(writer, frames).is_ok(),
+    }
 }

@@ -277,7 +277,7 @@ pub(crate) fn serve_subscriber<R>(rt: R, alloc: Global, guest: &Guest, inbox: Su
 where
     R: Threads + Wait + Clock + Copy + Send + Sync + Drop + 'static,
 {
-    let Ok((mut reader, mut writer)) = guest.halves(rt) else {
+    let Ok((mut reader, mut writer)) = guest.halves(rt, alloc) else {
         drop(inbox);
         return;
     };

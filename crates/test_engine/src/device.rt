@@ -44,7 +44,7 @@ impl Devices {
     }
 }
 
-/// Gives so many octets a read, and fails at one.
+/// Gives so many octets a read, and fails at one, and at none after it.
 #[derive(Clone, Copy)]
 pub(crate) struct Drip<'a> {
     /// What it has left.
@@ -69,6 +69,7 @@ impl<'a> Drip<'a> {
 impl Read for Drip<'_> {
     fn read(&mut self, buf: &mut [u8]) -> io::Result<usize> {
         if self.fails == 1 {
+            self.fails = 0;
             return Err(io::Error::from(ErrorKind::BrokenPipe));
         }
         self.fails = self.fails.saturating_sub(1);
@@ -80,7 +81,7 @@ impl Read for Drip<'_> {
     }
 }
 
-/// Takes so many octets a write, and fails at one.
+/// Takes so many octets a write, and fails at one, and at none after it.
 #[derive(Drop)]
 pub(crate) struct Jam {
     /// What it took.
@@ -105,6 +106,7 @@ impl Jam {
 impl Write for Jam {
     fn write(&mut self, buf: &[u8]) -> io::Result<usize> {
         if self.jams == 1 {
+            self.jams = 0;
             return Err(io::Error::from(ErrorKind::BrokenPipe));
         }
         self.jams = self.jams.saturating_sub(1);

@@ -227,31 +227,55 @@ fn tell_text<R: Print + AllocGlobal>(rt: &R, octets: &Result<Vec<u8>, ContentFau
     }
 }
 
-/// Tells the words of a fault: of a content's field, or of a place in a cell.
-pub(crate) fn words<R: Print + AllocGlobal>(rt: &R, words: &[Vec<u8>]) {
-    if text_at(words, 0) == "field" {
-        field_words(rt);
-    } else {
-        place_words(rt);
+/// Tells the words of the fault with a number: of a content, of a cell, or what a language says itself.
+pub(crate) fn words<R: Print + AllocGlobal>(rt: &R, words: &[Vec<u8>]) -> Result<(), AllocError> {
+    match text_at(words, 0) {
+        "30" => content_fault(rt, &ContentFault::NotJson),
+        "31" => content_fault(rt, &ContentFault::NotAnObject),
+        "32" => content_fault(rt, &ContentFault::Field("code")),
+        "57" => raised(rt)?,
+        number => known_fault(rt, number),
+    }
+    Ok(())
+}
+
+/// Tells the words of the fault of a cell with a number, which has nothing of its own.
+fn known_fault<R: Print + AllocGlobal>(rt: &R, number: &str) {
+    match number {
+        "50" => cell_fault(rt, &InterpFault::Syntax(5)),
+        "51" => cell_fault(rt, &InterpFault::Overflow),
+        "52" => cell_fault(rt, &InterpFault::ZeroDivision),
+        "53" => cell_fault(rt, &InterpFault::Shift),
+        "54" => cell_fault(rt, &InterpFault::TooDeep),
+        "55" => cell_fault(rt, &InterpFault::Interrupted),
+        "56" => cell_fault(rt, &InterpFault::OutOfMemory),
+        _ => {}
     }
 }
 
-/// Tells the words of a fault of a content's field.
-fn field_words<R: Print + AllocGlobal>(rt: &R) {
+/// Tells the words of what a language says itself.
+fn raised<R: Print + AllocGlobal>(rt: &R) -> Result<(), AllocError> {
+    let name = text(rt.alloc(), "OperationalError")?;
+    let value = text(rt.alloc(), "no such table: x")?;
+    cell_fault(rt, &InterpFault::Raised { name, value });
+    Ok(())
+}
+
+/// Tells the words of a content's fault.
+fn content_fault<R: Print + AllocGlobal>(rt: &R, fault: &ContentFault) {
     begin(rt);
-    let told = content_words(rt.alloc(), &ContentFault::Field("code"));
+    let told = content_words(rt.alloc(), fault);
     end(rt);
     match told {
         Ok((name, value)) => say_words(rt, name, value),
-        Err(fault) => say_number(rt, fault.number()),
+        Err(refused) => say_number(rt, refused.number()),
     }
 }
 
-/// Tells the words of a fault of a place in a cell.
-fn place_words<R: Print + AllocGlobal>(rt: &R) {
-    let fault = InterpFault::Syntax(5);
+/// Tells the words of a cell's fault.
+fn cell_fault<R: Print + AllocGlobal>(rt: &R, fault: &InterpFault) {
     begin(rt);
-    let told = fault_words(rt.alloc(), &fault);
+    let told = fault_words(rt.alloc(), fault);
     end(rt);
     match told {
         Ok((name, value)) => say_words(rt, name, value),

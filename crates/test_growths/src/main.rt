@@ -10,7 +10,7 @@
 //! - `decode PIECE..`: what a decoder makes of each piece; `ready TYPE`: the READY of a socket; `write FRAME..`;
 //! - `open FRAME..`, `seal PREFIX HEADER PARENT METADATA CONTENT BUFFER`, both under the key `Jefe`, and
 //!   `header SESSION ID DATE TYPE`;
-//! - `reply NAME` and `publication NAME`: a content as JSON, and as it is sent; `words NAME`: how a fault is told;
+//! - `reply NAME` and `publication NAME`: a content as JSON, and as it is sent; `words NUMBER`: how a fault is told;
 //! - `connection FILE`; `door FRAME`, and `door NAME REST` of a command;
 //! - `core EVENT..`: of two publishers `0a` publishes `a`, `0` closes the first, and nothing takes; `queue`: one after
 //!   another all that publishers and a taker do;
@@ -83,6 +83,7 @@ fn answer_lent<R: Print + AllocGlobal + Wait + Copy + Drop>(
         "door" => wire::door(rt, words),
         "reply" => contents::reply(rt, words),
         "publication" => contents::publication(rt, words),
+        "words" => contents::words(rt, words),
         "core" => queue::core(rt, words),
         "list" => relay::list(rt, words),
         "pump" => relay::pump(rt, words),
@@ -106,7 +107,6 @@ fn answer_alone<R: Print + AllocGlobal + Wait + Copy + Drop>(
         "write" => wire::write(rt, words),
         "header" => envelopes::header(rt, words),
         "connection" => contents::connection(rt, words),
-        "words" => contents::words(rt, words),
         "queue" => queue::exchange(rt),
         _ => {}
     }

@@ -1,17 +1,22 @@
 //! Calls that need no memory, so none of what they ask for can be refused.
 
-use crate::marks::{begin, end, say, say_number, say_octets, text_at};
+use crate::marks::{begin, end, say, say_frames, say_number, say_octets, text_at};
 use crate::steps::Shelf;
+use arith_shell::ShellArith;
 use conn_file::ConnFault;
-use iopub_queue::{CoreFault, ListSink, OpenFault, open_queue};
-use iopub_relay::{Pumped, Relay};
+use interp_core::Interpreter;
+use iopub_queue::{CoreFault, ListSink, OpenFault, Publish, open_queue};
+use iopub_relay::{Event, Pumped, Relay};
 use jmsg_envelope::{EnvelopeFault, Signer, hmac_sha256};
 use jmsg_types::{ContentFault, Publication, State, buffers_of, reply_type, topic_of, type_of};
-use listed::Octets;
+use kernel_engine::{Engine, Side};
+use kernel_program::end_status;
+use listed::{Frames, Octets, Row, Text};
 use std::alloc::{AllocError, Global};
 use std::sync::Wait;
+use test_examples::Scarce;
 use zmtp_wire::{
-    Decoder, Limits, SocketType, Traffic, WireFault, frame_head, greeting, pong_text,
+    Decoder, Limits, Message, SocketType, Traffic, WireFault, frame_head, greeting, pong_text,
     read_greeting, read_ping, read_ready, text_len,
 };
 
@@ -23,9 +28,15 @@ pub(crate) fn spared<R: Print + AllocGlobal + Wait + Copy + Drop>(
     match text_at(words, 0) {
         "ready" => tell_ready(rt, &command_of(rt.alloc(), words)?),
         "ping" => tell_pong(rt, &command_of(rt.alloc(), words)?),
+        "types" => types(rt)?,
+        "sink" => sink(rt)?,
         "relay" => relay(rt)?,
+        "learn" => learn(rt)?,
         "complete" => complete(rt),
+        "settle" => settle(rt)?,
         "new" => made(rt)?,
+        "engine" => engine(rt)?,
+        "values" => values(rt)?,
         name => plain(rt, name, words),
     }
     Ok(())
@@ -38,9 +49,9 @@ fn plain<R: Print + AllocGlobal>(rt: &R, name: &str, words: &[Vec<u8>]) {
         "heads" => heads(rt),
         "length" => length(rt, words),
         "hmac" => hmac(rt),
-        "types" => types(rt),
         "numbers" => numbers(rt),
-        "sink" => sink(rt),
+        "arithmetic" => arithmetic(rt),
+        "statuses" => statuses(rt),
         _ => {}
     }
 }
@@ -117,19 +128,30 @@ fn hmac<R: Print>(rt: &R) {
     say_octets(rt, &code);
 }
 
-/// Tells types and topics.
-fn types<R: Print>(rt: &R) {
+/// What is displayed, with a buffer.
+fn displayed(alloc: Global) -> Result<Publication, AllocError> {
+    let buffer = Vec::from_slice(alloc, b"buffer")?;
+    let buffers = Frames::new(Vec::from_array(alloc, [buffer])?);
+    let text = Text::new(String::new(alloc));
+    Ok(Publication::Display { text, buffers })
+}
+
+/// Tells types and topics, and how many buffers go with what is displayed.
+fn types<R: Print + AllocGlobal>(rt: &R) -> Result<(), AllocError> {
+    let display = displayed(rt.alloc())?;
     let busy = Publication::Status(State::Busy);
     begin(rt);
     let reply = reply_type("execute_request").unwrap_or("none");
     let its = (type_of(&busy), topic_of(&busy));
-    let buffers = buffers_of(&busy).len();
+    let buffers = buffers_of(&display).len();
     end(rt);
     drop(busy);
+    drop(display);
     say(rt, reply);
     say(rt, its.0);
     say(rt, its.1);
     say_number(rt, u8::try_from(buffers).unwrap_or(u8::MAX));
+    Ok(())
 }
 
 /// Tells the number of a fault of each crate.
@@ -149,15 +171,22 @@ fn numbers<R: Print>(rt: &R) {
     }
 }
 
-/// Makes a sink, looks at what it has, and takes that out.
-fn sink<R: Print + AllocGlobal>(rt: &R) {
+/// Makes a sink, looks at what another has, and takes that out.
+fn sink<R: Print + AllocGlobal>(rt: &R) -> Result<(), AllocError> {
+    let mut full: ListSink<u8> = ListSink::new(rt.alloc());
+    let Ok(()) = full.publish(b'a') else {
+        return Err(AllocError);
+    };
     begin(rt);
-    let sink: ListSink<u8> = ListSink::new(rt.alloc());
-    let count = sink.items().len();
-    let items = sink.into_items();
+    let empty: ListSink<u8> = ListSink::new(rt.alloc());
+    let counts = (empty.items().len(), full.items().len());
+    let items = full.into_items();
     end(rt);
-    say_number(rt, u8::try_from(count).unwrap_or(u8::MAX));
-    drop(items);
+    say_number(rt, u8::try_from(counts.0).unwrap_or(u8::MAX));
+    say_number(rt, u8::try_from(counts.1).unwrap_or(u8::MAX));
+    say_octets(rt, &items);
+    drop(empty);
+    Ok(())
 }
 
 /// Makes a decoder and a signer.
@@ -173,29 +202,116 @@ fn made<R: Print + AllocGlobal>(rt: &R) -> Result<(), AllocError> {
     Ok(())
 }
 
-/// Pumps a close and nothing, looks at a relay without subscribers, and gives up a publisher.
+/// Makes an engine.
+fn engine<R: Print + AllocGlobal>(rt: &R) -> Result<(), AllocError> {
+    let alloc = rt.alloc();
+    let key = Vec::from_slice(alloc, b"Jefe")?;
+    begin(rt);
+    let sink: ListSink<Event<Shelf>> = ListSink::new(alloc);
+    let interp = ShellArith::new(alloc);
+    let engine = Engine::new(Side::Shell, interp, sink, Scarce::new(0), Signer::new(key));
+    end(rt);
+    drop(engine);
+    say(rt, "made");
+    Ok(())
+}
+
+/// Tells how many steps are left of a cell, at arithmetic that is made for that.
+fn arithmetic<R: Print + AllocGlobal>(rt: &R) {
+    let alloc = rt.alloc();
+    let mut other = ShellArith::new(alloc);
+    let Ok(cell) = other.begin(alloc, "1; 2; 3") else {
+        return;
+    };
+    begin(rt);
+    let interp = ShellArith::new(alloc);
+    let left = interp.steps_left(&cell);
+    end(rt);
+    say_number(rt, u8::try_from(left).unwrap_or(u8::MAX));
+}
+
+/// Tells the statuses with which a kernel ends.
+fn statuses<R: Print>(rt: &R) {
+    begin(rt);
+    let statuses = [end_status(true), end_status(false)];
+    end(rt);
+    for status in statuses {
+        say_number(rt, status);
+    }
+}
+
+/// Makes values of `Vec` and `String`, and takes these out again.
+fn values<R: Print + AllocGlobal>(rt: &R) -> Result<(), AllocError> {
+    let alloc = rt.alloc();
+    let (octets, items) = (
+        Vec::from_slice(alloc, b"ab")?,
+        Vec::from_slice(alloc, &[1, 2, 3])?,
+    );
+    let text = String::from_str(alloc, "text")?;
+    let mut frames = Vec::with_capacity(alloc, 1)?;
+    frames.push_reserved(Vec::from_slice(alloc, b"frame")?);
+    let mut message = Vec::with_capacity(alloc, 1)?;
+    message.push_reserved(Vec::from_slice(alloc, b"message")?);
+    begin(rt);
+    let octets = Octets::new(octets).into_vec();
+    let items = Row::new(items).into_vec();
+    let text = Text::new(text).into_string();
+    let frames = Frames::new(frames).into_vec();
+    let message = Message::new(message).into_vec();
+    end(rt);
+    say_octets(rt, &octets);
+    say_octets(rt, &items);
+    say(rt, text.as_str());
+    say_frames(rt, &frames);
+    say_frames(rt, &message);
+    Ok(())
+}
+
+/// Pumps a close and nothing, looks at a relay with a subscriber, and gives up a publisher.
 fn relay<R: Print + AllocGlobal + Wait + Copy + Drop>(rt: &R) -> Result<(), AllocError> {
     let alloc = rt.alloc();
     let Ok((publishers, taker)) = open_queue(rt, alloc, 2, 8) else {
         return Err(AllocError);
     };
     let mut publishers = publishers.into_iter();
-    let (Some(zero), Some(one)) = (publishers.next(), publishers.next()) else {
+    let (Some(mut zero), Some(one)) = (publishers.next(), publishers.next()) else {
         drop(taker);
         drop(publishers);
         return Err(AllocError);
     };
-    begin(rt);
+    let _ = zero.publish(Event::Attach(1, Shelf::new()));
     let mut relay: Relay<Shelf, R> = Relay::new(alloc, taker);
+    let came = relay.pump();
+    begin(rt);
     let closed = zero.close();
     let pumped = [relay.pump(), relay.pump()];
     let abandoned = one.abandon();
     let state = (relay.failed(1), relay.no_room());
     end(rt);
-    tell_pumped(rt, pumped);
+    tell_pumped(rt, [came, pumped[0], pumped[1]]);
     tell_state(rt, state);
     drop(closed);
     drop(abandoned);
+    drop(relay);
+    Ok(())
+}
+
+/// Makes a relay, and has it learn what a publisher tells.
+fn learn<R: Print + AllocGlobal + Wait + Copy + Drop>(rt: &R) -> Result<(), AllocError> {
+    let alloc = rt.alloc();
+    let Ok((publishers, taker)) = open_queue(rt, alloc, 1, 8) else {
+        return Err(AllocError);
+    };
+    let Some(mut zero) = publishers.into_iter().next() else {
+        drop(taker);
+        return Err(AllocError);
+    };
+    begin(rt);
+    let mut relay: Relay<Shelf, R> = Relay::new(alloc, taker);
+    relay.learn(zero.tell());
+    end(rt);
+    say(rt, "learnt");
+    drop(zero);
     drop(relay);
     Ok(())
 }
@@ -222,6 +338,35 @@ fn complete<R: Print + AllocGlobal + Wait + Copy + Drop>(rt: &R) {
     drop(relay);
 }
 
+/// Settles with a publisher whose close wasn't taken, after it told its number.
+fn settle<R: Print + AllocGlobal + Wait + Copy + Drop>(rt: &R) -> Result<(), AllocError> {
+    let alloc = rt.alloc();
+    let Ok((publishers, taker)) = open_queue(rt, alloc, 1, 8) else {
+        return Err(AllocError);
+    };
+    let Some(zero) = publishers.into_iter().next() else {
+        drop(taker);
+        return Err(AllocError);
+    };
+    begin(rt);
+    let number = zero.number();
+    let Ok(closed) = zero.close() else {
+        unreachable!();
+    };
+    let numbers = (number, closed.number());
+    end(rt);
+    say_number(rt, u8::try_from(numbers.0).unwrap_or(u8::MAX));
+    say_number(rt, u8::try_from(numbers.1).unwrap_or(u8::MAX));
+    let tokens = Vec::from_array(alloc, [closed])?;
+    let mut relay: Relay<Shelf, R> = Relay::new(alloc, taker);
+    begin(rt);
+    let is_whole = relay.settle_all(tokens);
+    end(rt);
+    say(rt, if is_whole { "whole" } else { "beginning" });
+    drop(relay);
+    Ok(())
+}
+
 /// Tells whether a subscriber has failed, and how many found no room.
 fn tell_state<R: Print>(rt: &R, state: (bool, u64)) {
     say(rt, if state.0 { "failed" } else { "well" });
@@ -229,15 +374,16 @@ fn tell_state<R: Print>(rt: &R, state: (bool, u64)) {
 }
 
 /// Tells what pumps did.
-fn tell_pumped<R: Print>(rt: &R, pumped: [Pumped; 2]) {
+fn tell_pumped<R: Print, const COUNT: usize>(rt: &R, pumped: [Pumped; COUNT]) {
     for one in pumped {
         say(
             rt,
             match one {
+                Pumped::Did => "did",
                 Pumped::Closed(_) => "closed",
                 Pumped::Empty => "empty",
                 Pumped::Complete => "complete",
-                Pumped::Did | Pumped::NoTopic(_) | Pumped::NoRoom(_) => "another",
+                Pumped::NoTopic(_) | Pumped::NoRoom(_) => "wanting",
             },
         );
     }

@@ -19,7 +19,7 @@ pub(crate) struct Shelf {
 
 impl Shelf {
     /// A writer that has taken nothing yet.
-    fn new() -> Shelf {
+    pub(crate) fn new() -> Shelf {
         Shelf {
             octets: [0; ROOM],
             count: 0,

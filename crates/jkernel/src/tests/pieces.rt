@@ -63,6 +63,7 @@ impl<'a> Read for Pieces<'a> {
         }
         self.fails = self.fails.saturating_sub(1);
         if self.fails == 0 {
+            self.fails = u32::MAX;
             return Err(io::Error::from(ErrorKind::BrokenPipe));
         }
         let due = if self.front == 0 {

@@ -1,7 +1,8 @@
 //! The relay over lists of events: each subscriber's octets.
 
 use crate::tests::steps::{
-    ALL, EVERYTHING, Last, STREAMS, Step, Takes, are_left, event_of, events_of, standard,
+    ALL, EVERYTHING, Last, STREAMS, Step, Takes, WHOLE_TEXTS, are_left, event_of, events_of,
+    standard,
 };
 use iopub_relay::feed_core;
 use std::alloc::{AllocError, Global};
@@ -167,9 +168,6 @@ fn standard_leaves(
     let left = feed_core(alloc, standard(alloc, first, second)?)?;
     Ok(are_left(&left, &[(1, beginning), (2, STREAMS)]))
 }
-
-/// Writes of whole texts: how many are taken, and how many octets these are.
-const WHOLE_TEXTS: [(usize, usize); 5] = [(0, 0), (1, 18), (2, 29), (3, 47), (4, 65)];
 
 #[test]
 fn a_write_that_fails_at_every_place(rt: HostRuntime) -> Result<(), Fail> {

@@ -3,7 +3,7 @@
 ghost use Rattle.std.specs.Prelude.{◌≡◌};
 
 use crate::tests::steps::{
-    ALL, EVERYTHING, Last, Narrow, STREAMS, Step, Takes, events_of, standard,
+    ALL, EVERYTHING, Last, Narrow, STREAMS, Step, Takes, WHOLE_TEXTS, events_of, standard,
 };
 use iopub_queue::{Closed, Publisher, open_queue};
 use iopub_relay::{Drain, Event, Pumped, Relay};
@@ -227,6 +227,21 @@ fn a_writer_that_ends_at_every_place_or_never(rt: HostRuntime) -> Result<(), Fai
             };
             let first = Takes {
                 width: 1,
+                writes,
+                last,
+            };
+            assert!(rt; drained_leaves(rt, rt.alloc(), first, octets)?, "{first:?}");
+        }
+    }
+    Ok(())
+}
+
+#[test]
+fn a_writer_of_whole_texts_that_ends_at_every_one(rt: HostRuntime) -> Result<(), Fail> {
+    for last in [Last::Fails, Last::TakesNothing] {
+        for (writes, octets) in WHOLE_TEXTS {
+            let first = Takes {
+                width: usize::MAX,
                 writes,
                 last,
             };

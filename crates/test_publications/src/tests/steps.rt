@@ -5,10 +5,10 @@ use listed::{Frames, Octets};
 use std::alloc::{AllocError, Global};
 use zmtp_wire::{Outlet, WriteFailed};
 
-/// How a writer ends.
+/// How the write of a writer is that goes wrong.
 #[derive(Clone, Copy, Debug)]
 pub(crate) enum Last {
-    /// Its writes fail.
+    /// It fails.
     Fails,
     /// It takes nothing.
     TakesNothing,
@@ -19,9 +19,9 @@ pub(crate) enum Last {
 pub(crate) struct Takes {
     /// How many octets a write takes.
     pub(crate) width: usize,
-    /// How many writes are taken.
+    /// How many writes are taken before one that isn't. All after that are taken.
     pub(crate) writes: usize,
-    /// How it ends then.
+    /// How that one is.
     pub(crate) last: Last,
 }
 
@@ -58,6 +58,7 @@ impl Outlet for Narrow {
 
     fn write(&mut self, piece: &[u8]) -> Result<usize, WriteFailed> {
         if self.takes.writes == 0 {
+            self.takes.writes = usize::MAX;
             return match self.takes.last {
                 Last::Fails => Err(WriteFailed),
                 Last::TakesNothing => Ok(0),
@@ -135,6 +136,9 @@ pub(crate) fn are_left(left: &[(u64, Narrow)], wanted: &[(u64, &[u8])]) -> bool 
 /// The octets of the first subscriber of the standard list, behind all four messages: 65.
 pub(crate) const EVERYTHING: &[u8] = b"\x01\x0dstream.stdout\x00\x01x\x01\x06status\x00\x01y\
     \x01\x0dstream.stdout\x00\x01z\x01\x0dstream.stdout\x00\x01w";
+
+/// Writes of its whole texts: how many are taken, and how many octets these are.
+pub(crate) const WHOLE_TEXTS: [(usize, usize); 5] = [(0, 0), (1, 18), (2, 29), (3, 47), (4, 65)];
 
 /// The octets of the second, which holds `stream` twice and gives it up twice: 36.
 pub(crate) const STREAMS: &[u8] = b"\x01\x0dstream.stdout\x00\x01x\x01\x0dstream.stdout\x00\x01z";
