@@ -1,6 +1,7 @@
 """Keys of wrong bodies: a sum of all that a refusal rests on, and the file of a crate in which the keys stand of those
 that were refused. A key is known only where the crate is proved. Beside it stands a sum of all texts that the crate is
-made of: while these are the same the key is, too, and the crate needn't be proved."""
+made of: while these are the same the key is, too, and the crate needn't be proved. That sum is of the toolchain's logic
+and not of its version: what a version refused, another one of the same logic needn't try while the texts are the same."""
 
 import functools
 import hashlib
@@ -8,8 +9,9 @@ import os
 import re
 import threading
 
+from bodies import tested
 from bodies.edits import is_own
-from bodies.repository import edits_of, files_of, folder_of, modules_kept, text_of, version
+from bodies.repository import edits_of, files_of, folder_of, logic, modules_kept, text_of, version
 
 # What counts as refused, and what a key is made of: another number where either changes.
 FORM = "2"
@@ -48,7 +50,9 @@ def head_of(path):
 
 
 def text_for(body):
-    """A sum of a wrong body, of the toolchain, and of all texts that its crate is made of."""
+    """A sum of a wrong body, of the toolchain's logic, and of all texts that its crate is made of, or its test."""
+    if body.test:
+        return tested.sum_of(body, logic())
     return hashlib.sha256(repr((FORM, text_of(body.crate), body.pairs)).encode()).hexdigest()[:40]
 
 
@@ -137,9 +141,14 @@ class Refused:
         """Whether a wrong body was refused under this key."""
         return key is not None and self.lines.get((version(), body.short_name), ("", ""))[0] == key
 
-    def stands(self, body):
-        """Whether a wrong body was refused under just these texts."""
-        return self.lines.get((version(), body.short_name), ("", ""))[1] == text_for(body)
+    def refusers(self, body):
+        """The versions of the toolchain, all of this one's logic, that refused a wrong body under just these texts."""
+        if body.bad:
+            return set()
+        name, text = body.short_name, text_for(body)
+        with self.lock:
+            lines = [(kit, sums[1]) for (kit, its), sums in self.lines.items() if its == name]
+        return {kit for kit, its in lines if its == text and logic(kit) == logic()}
 
     def keep(self, body, key, text=""):
         """Keeps that a wrong body was refused under this key and these texts, or without a key, that it wasn't."""

@@ -64,8 +64,8 @@ def add_texts(found, crate):
 
 @functools.cache
 def text_of(crate):
-    """A sum of the toolchain and of all texts that a crate is made of."""
-    found = hashlib.sha256(version().encode())
+    """A sum of the toolchain's logic and of all texts that a crate is made of."""
+    found = hashlib.sha256(logic().encode())
     add_texts(found, crate)
     return found.hexdigest()
 
@@ -112,6 +112,12 @@ def version():
     """The toolchain's name of itself, as one word."""
     said = subprocess.run(["rt", "version"], stdout=subprocess.PIPE, stdin=subprocess.DEVNULL, text=True, check=True)
     return re.sub(r"\s+", "-", said.stdout.strip())
+
+
+def logic(name=None):
+    """Of the toolchain's name, this one's without another, what tells what can be proved: its versions of one logic have
+    it in common."""
+    return (name or version()).partition("-logic-")[2] or name or version()
 
 
 def checker(crate, jobs=1):

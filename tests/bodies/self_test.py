@@ -9,6 +9,8 @@ import sys
 import tempfile
 from concurrent.futures import ThreadPoolExecutor
 
+from bodies.repository import logic
+
 FILES = {
     "HANDLES": "Handles allowed: Threads, Wait, Net.\n",
     "crates.txt": "base_sample:\nsample: base_sample\ntest_sample: sample\n",
@@ -254,6 +256,16 @@ def said_of(script, top, *words):
     return subprocess.run([sys.executable, script, "--top", top, *words], **how, check=False).stdout.split("\n")
 
 
+def refused_by(top, version, its_logic):
+    """Has all that was refused in the sample be refused by one other version of the toolchain."""
+    path = os.path.join(top, "crates", "sample", "wrong", "passed")
+    with open(path, encoding="utf-8") as file:
+        head, *lines = file.readlines()
+    words = {it.split(" ", 2)[1]: it.partition(" ")[2] for it in lines}
+    with open(path, "w", encoding="utf-8") as file:
+        file.writelines([head, *(f"{version}{its_logic} {its}" for its in words.values())])
+
+
 def tried(lines):
     """Those of which a line says that they were tried and refused."""
     return {found[1] for it in lines if (found := re.match(r"\w+/(\w+): refused at its own function: ", it))}
@@ -299,6 +311,16 @@ def self_test(script, jobs):
         expect("each is tried where none was yet", tried(lines) == set(KEPT), lines)
         lines = said_of(script, top, "--again", "2", "--seed", "1")
         expect("two are tried again where that is wanted", len(tried(lines)) == 2, lines)
+        refused_by(top, "another-kit-logic-", logic())
+        lines = said_of(script, top)
+        expect("what another version of the same logic refused isn't tried", not tried(lines), lines)
+        by_others = f"{len(KEPT):5} of these by another version of the toolchain alone, of the same logic"
+        expect("how many these are is said", by_others in lines and f"{len(KEPT)} passed, 0 failed" in lines, lines)
+        lines = said_of(script, top, "--again", "2", "--seed", "1")
+        expect("two of these are tried where that is wanted", len(tried(lines)) == 2, lines)
+        refused_by(top, "another-kit-logic-", "0123456789abcdef")
+        lines = said_of(script, top, "--jobs", str(jobs))
+        expect("what a version of another logic refused is tried", tried(lines) == set(KEPT), lines)
         with ThreadPoolExecutor(jobs) as pool:
             runs = {it: pool.submit(after_change, script, room, it) for it in CHANGES}
             for name, run in runs.items():

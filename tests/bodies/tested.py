@@ -30,11 +30,16 @@ def has_test(crate, name):
     return False
 
 
-def key_of(body):
-    """A sum of a wrong body, of the toolchain, and of all that its test is made of."""
-    found = hashlib.sha256(repr((FORM, version(), body.pairs, body.test)).encode())
+def sum_of(body, toolchain):
+    """A sum of a wrong body, of what is said of the toolchain, and of all that its test is made of."""
+    found = hashlib.sha256(repr((FORM, toolchain, body.pairs, body.test)).encode())
     add_texts(found, body.test[0])
     return found.hexdigest()[:40]
+
+
+def key_of(body):
+    """A sum of a wrong body, of the toolchain, and of all that its test is made of."""
+    return sum_of(body, version())
 
 
 def copy_for(crate, top):

@@ -44,7 +44,7 @@ class Told:
     """What was told of each wrong body; it is printed, too, where it is shown."""
 
     def __init__(self, count, known, is_shown=True):
-        self.count, self.known, self.is_shown = count, known, is_shown
+        self.count, self.known, self.known_elsewhere, self.is_shown = count, known, 0, is_shown
         self.outcomes, self.lines, self.failed, self.left = [], {}, [], []
         self.lock = threading.Lock()
 
@@ -64,6 +64,7 @@ class Told:
     def sum_up(self):
         """Prints how many there are of each kind, and which failed, and then the last line; gives the exit status."""
         print(f"{self.known:5} refused earlier, and all that this rests on is the same")
+        print(f"{self.known_elsewhere:5} of these by another version of the toolchain alone, of the same logic")
         for outcome in Outcome:
             print(f"{self.outcomes.count(outcome):5} {outcome.value}")
         if self.left:

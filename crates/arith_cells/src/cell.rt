@@ -1,6 +1,6 @@
 //! A cell, run to its end, and what is printed of it.
 
-ghost use Rattle.std.specs.Prelude.{◌≡◌, OnOk, IfOk};
+ghost use Rattle.std.specs.Prelude.{◌≡◌, ◌++◌, codes, OnOk, IfOk};
 ghost use Rattle.std.specs.List.{flat_map};
 ghost use Rattle.std.specs.Io.KnownBytes.{Appends};
 ghost use Rattle.arith_cells.specs.Printed.{CellPrints, FoundMemory, IsReported, Prints, StepsPrint, fault_line};
@@ -42,7 +42,9 @@ fn run_steps<I: Interpreter, W: Write>(
 {
     'steps: while interpreter.steps_left(cell) != 0 {
         let stepped = interpreter.step(alloc, cell);
-        if !print_step(alloc, stepped, writer)? {
+        let printed = print_step(alloc, &stepped, writer);
+        drop(stepped);
+        if !printed? {
             return Ok(());
         }
     }
@@ -51,27 +53,26 @@ fn run_steps<I: Interpreter, W: Write>(
 
 /// Prints what a step writes, and what it comes to where it ends its cell. Tells whether the cell goes on.
 #[tactic(auto, using(crate::proofs::PrintedLemmas::appends_then))]
-fn print_step<W: Write>(alloc: Global, stepped: Stepped, writer: &mut W) -> io::Result<bool>
-    ensures text { OnOk result (Appends (W.contents writer.old) (W.contents writer.new) (step_text stepped)) }
-    ensures answered { OnOk result (FoundMemory stepped.next) }
-    ensures goes_on { IfOk result (λ more. more ≡ goes_on stepped.next) }
+fn print_step<W: Write>(alloc: Global, stepped: &Stepped, writer: &mut W) -> io::Result<bool>
+    ensures text { OnOk result (Appends (W.contents writer.old) (W.contents writer.new) (step_text stepped.now)) }
+    ensures answered { OnOk result (FoundMemory stepped.now.next) }
+    ensures goes_on { IfOk result (λ more. more ≡ goes_on stepped.now.next) }
 {
-    let Stepped { outputs, next } = stepped;
-    print_outputs(outputs.as_slice(), writer)?;
-    print_next(alloc, next, writer)
+    print_outputs(stepped.outputs.as_slice(), writer)?;
+    print_next(alloc, &stepped.next, writer)
 }
 
 /// Prints the value or the fault by which a step ends its cell. Tells whether the cell goes on.
-fn print_next<W: Write>(alloc: Global, next: Next, writer: &mut W) -> io::Result<bool>
-    ensures text { OnOk result (Appends (W.contents writer.old) (W.contents writer.new) (next_text next)) }
-    ensures answered { OnOk result (FoundMemory next) }
-    ensures goes_on { IfOk result (λ more. more ≡ goes_on next) }
+fn print_next<W: Write>(alloc: Global, next: &Next, writer: &mut W) -> io::Result<bool>
+    ensures text { OnOk result (Appends (W.contents writer.old) (W.contents writer.new) (next_text next.now)) }
+    ensures answered { OnOk result (FoundMemory next.now) }
+    ensures goes_on { IfOk result (λ more. more ≡ goes_on next.now) }
 {
     match next {
         Next::More => return Ok(true),
         Next::Done(Some(value)) => print_line(value.as_str(), writer)?,
         Next::Done(None) => {}
-        Next::Failed(fault) => print_fault(alloc, &fault, writer)?,
+        Next::Failed(fault) => print_fault(alloc, fault, writer)?,
     }
     Ok(false)
 }
@@ -108,7 +109,17 @@ fn print_fault<W: Write>(alloc: Global, fault: &InterpFault, writer: &mut W) -> 
     let Ok((name, value)) = fault_words(alloc, fault) else {
         return Err(io::Error::from(AllocError));
     };
+    let printed = print_words(name, value.as_str(), writer);
+    drop(value);
+    printed
+}
+
+/// Prints a name and what is said of it, as `ename: evalue`.
+fn print_words<W: Write>(name: &str, value: &str, writer: &mut W) -> io::Result<()>
+    ensures { OnOk result (Appends (W.contents writer.old) (W.contents writer.new)
+        (name.now ++ codes ": " ++ line value.now)) }
+{
     writer.write_all(name.as_bytes())?;
     writer.write_all(b": ")?;
-    print_line(value.as_str(), writer)
+    print_line(value, writer)
 }

@@ -1,17 +1,21 @@
 //! A kernel in its threads: all its jobs, its end by control, an interrupt, and capacities that no queue has.
 
-use super::*;
-use crate::tests::control::INTERRUPTED;
+use crate::tests::keeper::Keeper;
 use crate::tests::long::Long;
-use crate::tests::shell::{ASKED, INFO, SHUTDOWN};
+use arith_shell::ShellArith;
+use crossbeam_channel::{Receiver, Sender, unbounded};
 use interp_core::Interpreter;
-use kernel_workers::{Flags, Inbox, KernelFault, Parts, run_kernel};
+use iopub_event::Event;
+use kernel_workers::{Flags, Inbox, Job, KernelFault, Note, Parts, ReplyMessage, run_kernel};
 use listed::Octets;
-use std::sync::Arc;
+use std::alloc::Global;
+use std::process::Abort;
 use std::sync::atomic::{AtomicBool, Ordering};
+use std::sync::{Arc, Wait};
+use std::test::Fail;
 use std::thread;
 use std::thread::Threads;
-use zmtp_wire::{Outlet, WriteFailed};
+use test_requests::{ASKED, INFO, INTERRUPTED, OneDate, SHUTDOWN, due_message, frames_text, put};
 
 /// How often a wait looks before its test fails.
 const TURNS: usize = 10_000_000;
@@ -24,42 +28,6 @@ const ON_SHELL: u64 = 100;
 
 /// The requests on control.
 const ON_CONTROL: u64 = 8;
-
-/// What the type of an output is.
-const STREAM: &[u8] = b"stream";
-
-/// Keeps the octets that it is given, and raises a flag at a piece in which the type of an output stands.
-#[derive(Drop)]
-pub(super) struct Keeper {
-    /// What it was given.
-    pub(super) octets: Vec<u8>,
-    /// Whether an output came.
-    has_output: Arc<AtomicBool, Global>,
-}
-
-impl Outlet for Keeper {
-    ghost use Rattle.std.specs.Prelude.{None};
-
-    ghost outflow = { λ keeper. record { written = None; failures = 18446744073709551615 } };
-
-    fn write(&mut self, piece: &[u8]) -> Result<usize, WriteFailed> {
-        if piece.windows(STREAM.len()).any(|window| window == STREAM) {
-            self.has_output.store(true, Ordering::SeqCst);
-        }
-        match self.octets.extend_from_slice(piece) {
-            Ok(()) => Ok(piece.len()),
-            Err(_) => Err(WriteFailed),
-        }
-    }
-}
-
-/// One that was given nothing.
-pub(super) fn empty_keeper(alloc: Global) -> Result<Keeper, Fail> {
-    Ok(Keeper {
-        octets: Vec::new(alloc),
-        has_output: Arc::new(alloc, AtomicBool::new(false))?,
-    })
-}
 
 /// By whom a kernel is spoken to, and what is heard of it.
 #[derive(Drop)]
@@ -114,10 +82,7 @@ fn kernel_of<I: Drop, R: Wait>(
     let (subscriptions_in, to_subscriptions) = inbox_of(alloc)?;
     let (shell_replies, from_shell) = unbounded(alloc)?;
     let (control_replies, from_control) = unbounded(alloc)?;
-    let keeper = Keeper {
-        octets: Vec::new(alloc),
-        has_output: Arc::try_clone(&has_output)?,
-    };
+    let keeper = Keeper::new(alloc, Arc::try_clone(&has_output)?);
     subscribe(rt, alloc, &to_subscriptions, keeper)?;
     let parts = Parts {
         shell: (shell, OneDate),

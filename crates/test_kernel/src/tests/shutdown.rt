@@ -4,16 +4,23 @@ ghost use Rattle.std.specs.Prelude.{◌≡◌, ◌<◌, ◌≤◌, [], IfOk, len
 ghost use Rattle.kernel_workers.specs.Starting.{IsOpened};
 ghost use Rattle.test_kernel.specs.Ready.{AreOfOne, IsLast};
 
-use super::*;
-use crate::tests::running::{Keeper, empty_keeper};
-use crate::tests::shell::SHUTDOWN;
-use iopub_queue::{Closed, OpenFault, Publish, Publisher};
+use crate::tests::keeper::Keeper;
+use arith_shell::ShellArith;
+use crossbeam_channel::unbounded;
+use iopub_event::Event;
+use iopub_queue::{Closed, OpenFault, Publish, Publisher, Taker, open_queue};
 use iopub_relay::Relay;
-use jmsg_envelope::{Envelope, open_envelope};
-use kernel_engine::{Done, EngineFault, Stop};
-use kernel_workers::{RelayEnd, RelayWorker, Shutdown, ShutdownEnd, shutdown_order};
-use listed::Octets;
+use jmsg_envelope::{Envelope, Signer, Stamp, open_envelope};
+use kernel_engine::{Done, Engine, EngineFault, Side, Stop};
+use kernel_workers::{RelayEnd, RelayWorker, Shutdown, ShutdownEnd, Waking, shutdown_order};
+use listed::{Frames, Octets};
+use std::alloc::{AllocError, Global};
+use std::process::Abort;
+use std::sync::atomic::AtomicBool;
+use std::sync::{Arc, Wait};
+use std::test::Fail;
 use std::thread::Threads;
+use test_requests::{DATE, SHUTDOWN, due_text, frames_text};
 
 /// What handles the requests of a channel.
 type KeptEngine<R> = Engine<ShellArith, Waking<Event<Keeper>, R>, FewDates, Keeper>;
@@ -167,7 +174,7 @@ where
     } = ready;
     let mut shell = kept_engine(alloc, Side::Shell, shell, FewDates(ENOUGH));
     let control = kept_engine(alloc, Side::Control, control, FewDates(dates));
-    let keeper = empty_keeper(alloc)?;
+    let keeper = Keeper::new(alloc, Arc::new(alloc, AtomicBool::new(false))?);
     let frames = frames_of(alloc, "execute_request", r#"{"code":"1;2;3"}"#)?;
     let Some(thread) = relay.spawn(rt) else {
         return Err(Fail::from("no thread"));

@@ -3,20 +3,7 @@
 use super::*;
 use kernel_workers::{Cause, Flags, ShellWorker};
 use std::thread;
-
-/// What the kernel says of itself.
-pub(crate) const INFO: &str = concat!(
-    r#"{"banner":"Shell arithmetic in 64 bits","help_links":[],"implementation":"jkernel","#,
-    r#""implementation_version":"1.0","language_info":{"file_extension":".sha","#,
-    r#""mimetype":"text/plain","name":"sharith","version":"1.0"},"#,
-    r#""protocol_version":"5.3","status":"ok"}"#,
-);
-
-/// The type of a request that asks what the kernel is.
-pub(crate) const ASKED: &str = "kernel_info_request";
-
-/// The type of a request to shut the kernel down.
-pub(crate) const SHUTDOWN: &str = "shutdown_request";
+use test_requests::{ASKED, INFO, SHUTDOWN};
 
 /// A status that was published by shell.
 fn status(alloc: Global, number: u64, state: &str, parent_type: &str) -> Result<String, Fail> {

@@ -3,10 +3,10 @@
 
 use super::*;
 use crate::tests::control::{Lines, pair_of};
-use crate::tests::shell::{ASKED, SHUTDOWN};
 use kernel_workers::{Account, Credit};
 use std::sync::Arc;
 use std::thread;
+use test_requests::{ASKED, SHUTDOWN};
 
 /// The octets that each job is said to have.
 const OCTETS: usize = 7;

@@ -1,0 +1,58 @@
+//! Messages as texts, each frame on a line of its own.
+
+use crate::stamp::DATE;
+use listed::Frames;
+use std::alloc::Global;
+use std::test::Fail;
+
+/// What a kernel of shell arithmetic says of itself.
+pub const INFO: &str = concat!(
+    r#"{"banner":"Shell arithmetic in 64 bits","help_links":[],"implementation":"jkernel","#,
+    r#""implementation_version":"1.0","language_info":{"file_extension":".sha","#,
+    r#""mimetype":"text/plain","name":"sharith","version":"1.0"},"#,
+    r#""protocol_version":"5.3","status":"ok"}"#,
+);
+
+/// The reply to a cell that was interrupted.
+pub const INTERRUPTED: &str = concat!(
+    r#"{"ename":"Interrupted","evalue":"interrupted","execution_count":1,"#,
+    r#""status":"error","traceback":["Interrupted: interrupted"]}"#,
+);
+
+/// The frames of a message, each on a line of its own.
+pub fn frames_text(alloc: Global, frames: &Frames) -> Result<String, Fail> {
+    let mut octets = Vec::new(alloc);
+    for (place, frame) in frames.as_slice().iter().enumerate() {
+        if place > 0 {
+            octets.push(b'\n')?;
+        }
+        octets.extend_from_slice(frame.as_slice())?;
+    }
+    Ok(String::from_utf8(octets)?)
+}
+
+/// A message after what stands before its delimiter: its type, the number of its id, and its content, with a request
+/// of a type as its parent.
+pub fn due_text(
+    alloc: Global,
+    front: &str,
+    due: (&str, u64, &str),
+    parent_type: &str,
+) -> Result<String, Fail> {
+    let parent = format!(in alloc; "{{\"msg_id\":\"q\",\"msg_type\":\"{parent_type}\"}}")?;
+    due_message(alloc, front, due, parent.as_str())
+}
+
+/// A message after what stands before its delimiter: its type, the number of its id, and its content, with this header
+/// as its parent.
+pub fn due_message(
+    alloc: Global,
+    front: &str,
+    (msg_type, number, content): (&str, u64, &str),
+    parent: &str,
+) -> Result<String, Fail> {
+    Ok(format!(in alloc;
+        "{front}<IDS|MSG>\n\n{{\"date\":\"{DATE}\",\"msg_id\":\"s{number}\",\"msg_type\":\"{msg_type}\",\
+        \"session\":\"s\",\"username\":\"kernel\",\"version\":\"5.3\"}}\n{parent}\n{{}}\n{content}"
+    )?)
+}
