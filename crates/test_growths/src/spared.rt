@@ -4,17 +4,19 @@ use crate::marks::{begin, end, say, say_frames, say_number, say_octets, text_at}
 use crate::steps::Shelf;
 use arith_shell::ShellArith;
 use conn_file::ConnFault;
-use interp_core::Interpreter;
+use interp_core::{InterpFault, Interpreter};
 use iopub_queue::{CoreFault, ListSink, OpenFault, Publish, open_queue};
 use iopub_relay::{Event, Pumped, Relay};
 use jmsg_envelope::{EnvelopeFault, Signer, hmac_sha256};
 use jmsg_types::{ContentFault, Publication, State, buffers_of, reply_type, topic_of, type_of};
-use kernel_engine::{Engine, Side};
+use kernel_engine::{Engine, EngineFault, Side};
 use kernel_program::end_status;
+use kernel_workers::KernelFault;
 use listed::{Frames, Octets, Row, Text};
 use std::alloc::{AllocError, Global};
 use std::sync::Wait;
 use test_examples::Scarce;
+use zmtp_connection::ConnectionFault;
 use zmtp_wire::{
     Decoder, Limits, Message, SocketType, Traffic, WireFault, frame_head, greeting, pong_text,
     read_greeting, read_ping, read_ready, text_len,
@@ -32,7 +34,7 @@ pub(crate) fn spared<R: Print + AllocGlobal + Wait + Copy + Drop>(
         "sink" => sink(rt)?,
         "relay" => relay(rt)?,
         "learn" => learn(rt)?,
-        "complete" => complete(rt),
+        "complete" => complete(rt)?,
         "settle" => settle(rt)?,
         "new" => made(rt)?,
         "engine" => engine(rt)?,
@@ -154,6 +156,16 @@ fn types<R: Print + AllocGlobal>(rt: &R) -> Result<(), AllocError> {
     Ok(())
 }
 
+/// The numbers of faults of kernels, of which the first is of the interface of languages.
+fn numbers_of_kernels() -> [u8; 4] {
+    [
+        InterpFault::TooDeep.number(),
+        KernelFault::NoThread.number(),
+        ConnectionFault::Turns.number(),
+        EngineFault::Worn.number(),
+    ]
+}
+
 /// Tells the number of a fault of each crate.
 fn numbers<R: Print>(rt: &R) {
     begin(rt);
@@ -165,8 +177,12 @@ fn numbers<R: Print>(rt: &R) {
         OpenFault::Count.number(),
         CoreFault::OutOfMemory.number(),
     ];
+    let others = numbers_of_kernels();
     end(rt);
     for number in numbers {
+        say_number(rt, number);
+    }
+    for number in others {
         say_number(rt, number);
     }
 }
@@ -316,26 +332,32 @@ fn learn<R: Print + AllocGlobal + Wait + Copy + Drop>(rt: &R) -> Result<(), Allo
     Ok(())
 }
 
-/// Pumps until all is complete.
-fn complete<R: Print + AllocGlobal + Wait + Copy + Drop>(rt: &R) {
+/// Pumps until all is complete, and settles then.
+fn complete<R: Print + AllocGlobal + Wait + Copy + Drop>(rt: &R) -> Result<(), AllocError> {
     let alloc = rt.alloc();
+    let mut tokens = Vec::with_capacity(alloc, 1)?;
     let Ok((publishers, taker)) = open_queue(rt, alloc, 1, 8) else {
-        return;
+        drop(tokens);
+        return Err(AllocError);
     };
-    let mut publishers = publishers.into_iter();
-    let Some(zero) = publishers.next() else {
+    let Some(zero) = publishers.into_iter().next() else {
+        drop(tokens);
         drop(taker);
-        drop(publishers);
-        return;
+        return Err(AllocError);
     };
     begin(rt);
     let mut relay: Relay<Shelf, R> = Relay::new(alloc, taker);
-    let closed = zero.close();
+    let Ok(closed) = zero.close() else {
+        unreachable!();
+    };
     let pumped = [relay.pump(), relay.pump()];
+    tokens.push_reserved(closed);
+    let is_whole = relay.settle_all(tokens);
     end(rt);
     tell_pumped(rt, pumped);
-    drop(closed);
+    say(rt, if is_whole { "whole" } else { "beginning" });
     drop(relay);
+    Ok(())
 }
 
 /// Settles with a publisher whose close wasn't taken, after it told its number.
