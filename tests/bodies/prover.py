@@ -101,14 +101,21 @@ class Proof:
         if lacking:
             self.lack = f"its library {lacking[0]} is not built"
             return
+        said = self.checked(jobs)
+        if jobs > 1 and not said.is_proved:
+            # It may have been killed for want of memory.
+            said = self.checked(1)
+        self.functions = said.functions
+        if not said.is_proved:
+            self.lack = f"the crate itself is not proved: {said.first_error()}"
+
+    def checked(self, jobs):
+        """What the prover says of the crate."""
         words = [*checker(self.crate, jobs), "--incremental", kept_of(self.crate)]
         os.makedirs(kept_of(self.crate), exist_ok=True)
         how = {"stdin": subprocess.DEVNULL, "stdout": subprocess.PIPE, "stderr": subprocess.STDOUT, "errors": "replace"}
         ran = subprocess.run(words, cwd=folder_of(self.crate), **how, check=False)
-        said = Checked(self.crate, ran.returncode, ran.stdout)
-        self.functions = said.functions
-        if not said.is_proved:
-            self.lack = f"the crate itself is not proved: {said.first_error()}"
+        return Checked(self.crate, ran.returncode, ran.stdout)
 
 
 class Copy:

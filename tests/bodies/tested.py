@@ -14,7 +14,7 @@ from bodies.trials import Outcome
 # What counts as refused, and what a key is made of: another number where either changes.
 FORM = "1"
 # How long a test may take, in seconds, and how long with what is built for it. A wrong body may have it wait for ever.
-RUN, WHOLE = 60, 600
+RUN, WHOLE = 60, 1200
 
 
 def has_test(crate, name):

@@ -397,10 +397,10 @@ class Kernel:
         """Whether it has no more file descriptors, and no more threads, than before."""
         return all(now <= then for now, then in zip(self.counts(), before))
 
-    def memory(self):
-        """Its resident memory in KiB."""
+    def memory(self, name="VmRSS"):
+        """Its resident memory in KiB, or another size that the system tells by this name."""
         with open(f"/proc/{self.process.pid}/status", encoding="ascii") as file:
-            return int(re.search(r"VmRSS:\s+(\d+)", file.read())[1])
+            return int(re.search(rf"{name}:\s+(\d+)", file.read())[1])
 
     def processor_time(self):
         """For how many seconds its threads have run so far."""

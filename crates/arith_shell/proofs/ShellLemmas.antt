@@ -1,19 +1,16 @@
 -- What the readings and values of shell arithmetic come to as an interpreter's answers.
-use Rattle.std.proofs.Common.{◌≡◌, ◌∷◌, [], ℕ, List, Result, Ok, Err, inr, refl, sym, subst}
+use Rattle.std.proofs.Common.{ℕ, List, Result, Ok, Err, inr, refl}
 use Rattle.std.specs.Prelude.{⊤}
 use Rattle.std.specs.Str.{chars}
 use Rattle.arith_syntax.specs.declared.fault.ReadFault.{ReadFault}
 use Rattle.arith_syntax.specs.declared.fault.ReadFault.TheVariants as read_fault
-use Rattle.arith_syntax.specs.declared.part.Part.{Part}
 use Rattle.arith_syntax.specs.Grammar.{Tree}
-use Rattle.arith_syntax.specs.Parts.{tree_of, trees_of}
 use Rattle.arith_syntax.specs.Reading.{CellMeans, StatementMeans, OrMemory}
-use Rattle.arith_value.specs.Value.{value}
 use Rattle.arith_value.specs.Variables.{Bindings}
 use Rattle.interp_core.specs.declared.fault.InterpFault.{InterpFault}
 use Rattle.interp_core.specs.declared.fault.InterpFault.TheVariants as fault
 use Rattle.interp_core.specs.Interpreter.{Answers, IfMemory, OnMemory}
-use Rattle.arith_shell.specs.ShellArithmetic.{from_read, BreaksOff, GivesUp, IsEvaluated, IsPrintedValue, IsRead}
+use Rattle.arith_shell.specs.ShellArithmetic.{from_read, GivesUp, IsEvaluated, IsPrintedValue, IsRead}
 
 -- a fault of a cell's text
 pub read_fails : (text : List ℕ) (f : ReadFault) → OrMemory (λ g. CellMeans (chars text) (Err g)) f
@@ -63,10 +60,3 @@ gave_up old new text tree means (Err fault.TooDeep) h = tt
 gave_up old new text tree means (Err fault.Interrupted) h = tt
 gave_up old new text tree means (Err fault.OutOfMemory) h = inr (tree, means, h)
 gave_up old new text tree means (Err (fault.Raised name words)) h = tt
-
--- a statement was taken, and no memory was found to run it
-pub not_begun : (variables : Bindings) (text : List ℕ) (old new : List (List Part)) (row : List Part) → old ≡ row ∷ new
-    → BreaksOff variables (trees_of text old) variables
-not_begun variables text old new row is =
-    subst (λ (rows : List (List Part)). BreaksOff variables (trees_of text rows) variables) (sym is)
-    (record { done = []; rest = (value (tree_of text row) variables).made; beginning = refl; assigned = refl })

@@ -193,7 +193,7 @@ fn evaluate_text(alloc: Global, variables: &mut Variables, text: &str) -> Result
     ensures refused { OnMemory result (GivesUp variables.old text.now variables.new) }
 {
     match read_statement(alloc, text) {
-        Ok(parts) => value_text(alloc, variables, text, parts.as_slice()),
+        Ok(parts) => value_text(alloc, variables, text, parts.lend()),
         Err(fault) => Err(from_read(fault)),
     }
 }

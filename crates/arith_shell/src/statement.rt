@@ -2,6 +2,7 @@
 
 ghost use Rattle.std.specs.Prelude.{◌≡◌, ◌+◌, ◌<◌, List, [], ◌∷◌, ◌++◌, codes, length, MatchResult};
 ghost use Rattle.arith_syntax.specs.Grammar.{Tree};
+ghost use Rattle.arith_syntax.specs.Packed.{parts_of};
 ghost use Rattle.arith_syntax.specs.Parts.{tree_of, trees_of};
 ghost use Rattle.arith_value.specs.Value.{Stops, value};
 ghost use Rattle.interp_core.specs.declared.answer.Next.TheVariants.{Failed};
@@ -11,11 +12,11 @@ ghost use Rattle.interp_core.specs.Interpreter.{ByMemory};
 ghost use Rattle.arith_shell.specs.ShellArithmetic.{BreaksOff, IsLast, IsPrintedValue, Runs};
 
 use crate::fault::from_value;
-use arith_syntax::{Part, Trees};
+use arith_syntax::{PartsRef, Trees};
 use arith_value::{Variables, evaluate};
 use interp_core::{InterpFault, Next, Output, Stepped};
 use listed::{Row, Text};
-use std::alloc::{AllocError, Global};
+use std::alloc::Global;
 
 /// Runs the first of some statements of a text, of which there is one.
 pub(crate) fn run_first(
@@ -31,13 +32,14 @@ pub(crate) fn run_first(
         (trees_of code.now waiting.new)) }
     ensures lessened { length waiting.new + 1 ≡ length waiting.old }
 {
-    match waiting.pop_front(alloc) {
-        Ok(Some(statement)) => {
-            let last = waiting.is_empty();
-            run(alloc, variables, code, statement.as_slice(), last)
+    let last = waiting.len() == 1;
+    match waiting.first() {
+        Some(statement) => {
+            let stepped = run(alloc, variables, code, statement, last);
+            waiting.remove_first();
+            stepped
         }
-        Ok(None) => unreachable!(),
-        Err(AllocError) => failed(alloc, InterpFault::OutOfMemory),
+        None => unreachable!(),
     }
 }
 
@@ -46,13 +48,14 @@ fn run(
     alloc: Global,
     variables: &mut Variables,
     code: &str,
-    statement: &[Part],
+    statement: PartsRef<'_>,
     last: bool,
 ) -> Stepped
     ensures { ByMemory result.next
-        ((result.outputs ≡ []) × Stops (value (tree_of code.now statement.now)) variables.old variables.new)
-        ((left : List Tree) → IsLast last left → Runs variables.old (tree_of code.now statement.now ∷ left) result
-        variables.new left) }
+        ((result.outputs ≡ []) × Stops (value (tree_of code.now (parts_of statement.entry))) variables.old
+        variables.new)
+        ((left : List Tree) → IsLast last left → Runs variables.old
+        (tree_of code.now (parts_of statement.entry) ∷ left) result variables.new left) }
 {
     match value_text(alloc, variables, code, statement) {
         Ok(text) if last => Stepped {
@@ -97,9 +100,9 @@ pub(crate) fn value_text(
     alloc: Global,
     variables: &mut Variables,
     code: &str,
-    statement: &[Part],
+    statement: PartsRef<'_>,
 ) -> Result<Text, InterpFault>
-    ensures { IsPrintedValue (tree_of code.now statement.now) variables.old result variables.new }
+    ensures { IsPrintedValue (tree_of code.now (parts_of statement.entry)) variables.old result variables.new }
 {
     let value = evaluate(alloc, code, statement, variables).map_err(from_value)?;
     let text = format!(in alloc; "{value}")?;

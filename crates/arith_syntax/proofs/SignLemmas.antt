@@ -88,11 +88,6 @@ sign_at_front text a b c front token (x ∷ y ∷ z ∷ []) more all is =
 sign_at_front text a b c front token (x ∷ y ∷ z ∷ w ∷ rest) more all is =
     let no : false ≡ true = sign_may_be token (x ∷ y ∷ z ∷ w ∷ rest) is in cc
 
--- a character in front of a text that isn't 0 is there
-front_of_one : (text : List ℕ) (a : ℕ) → a ≡ get_or text 0 0 → 32 < a → (a ∷ [] ≡ take 1 text) × (1 ≤ length text)
-front_of_one [] a first there = absurd (omega arith)
-front_of_one (x ∷ xs) a first there = (cc, omega arith)
-
 -- two characters in front of a text are there where the second isn't 0
 front_of_two : (text : List ℕ) (a b : ℕ) → a ≡ get_or text 0 0 → b ≡ get_or text 1 0 → 32 < b
     → (a ∷ b ∷ [] ≡ take 2 text) × (2 ≤ length text)
@@ -155,26 +150,6 @@ two_is_longest text a b c front no_three token is =
             (sign_at_front text a b c front other sign more (sym (take-append-drop 2 text) ∙ same) is_other) [
               | inl found ↦ omega (arith, found.1)
               | inr (inl found) ↦ omega (arith, found.1)
-              | inr (inr found) ↦ absurd (no_three other found.0)
-            ];
-      },
-    )
-
--- a sign of one character is the longest where the first two and the first three are none
-pub one_is_longest : (text : List ℕ) (a b c : ℕ) → IsFront text a b c → SpellsSign (a ∷ b ∷ c ∷ []) None
-    → SpellsSign (a ∷ b ∷ []) None
-    → (token : Token) → IsSign token (a ∷ []) → (1 ≤ length text) × IsLongestSign token (take 1 text) (drop 1 text)
-one_is_longest text a b c front no_three no_two token is =
-    let there : (32 < a) × (a < 128) = sign_character_bounds a (sign_may_be token (a ∷ []) is) in
-    let all : (a ∷ [] ≡ take 1 text) × (1 ≤ length text) = front_of_one text a front.first there.0 in
-    let size : length (take 1 text) ≡ 1 = ap length (sym all.0) in (
-      all.1,
-      record {
-        is_sign = subst (λ (s : List ℕ). IsSign token s) all.0 is;
-        longest = λ other sign more is_other same. elim
-            (sign_at_front text a b c front other sign more (sym (take-append-drop 1 text) ∙ same) is_other) [
-              | inl found ↦ omega (arith, found.1)
-              | inr (inl found) ↦ absurd (no_two other found.0)
               | inr (inr found) ↦ absurd (no_three other found.0)
             ];
       },

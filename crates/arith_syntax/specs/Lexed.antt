@@ -52,6 +52,11 @@ abbrev pub SpellsSign : List ℕ → Option Token → Type 0
 SpellsSign text (Some token) = IsSign token text
 SpellsSign text None = (token : Token) → IsSign token text → ⊥
 
+-- no sign of two or three characters begins with these two
+abbrev pub StandsAlone : ℕ → ℕ → Type 0
+StandsAlone first second =
+    SpellsSign (first ∷ second ∷ []) None × ((third : ℕ) → SpellsSign (first ∷ second ∷ third ∷ []) None)
+
 -- the longest sign that a text begins with
 abbrev pub BeginsWithSign : List ℕ → Option Spelled → Type 0
 BeginsWithSign text (Some s) =

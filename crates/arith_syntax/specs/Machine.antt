@@ -205,11 +205,11 @@ state_at frames true trees = record { begun = stack_of frames (before trees); op
 
 -- the state that a parser of a text stands for
 abbrev pub state_of : List ℕ → Parser → State
-state_of text parser = state_at parser.frames.items parser.held (trees_in text parser.parts.items)
+state_of text parser = state_at parser.frames.items parser.held (trees_in text parser.parts)
 
 -- the constructs around the operand that a parser of a text holds
 abbrev pub around : List ℕ → Parser → List Begun
-around text parser = stack_of parser.frames.items (before (trees_in text parser.parts.items))
+around text parser = stack_of parser.frames.items (before (trees_in text parser.parts))
 
 -- want of memory, the one fault that the parser's steps have
 abbrev pub IsMemory : ReadFault → Type 0
@@ -271,7 +271,7 @@ IsNameOf u false = (op : AssignmentOperator) (bs : List Begun) → take_assign o
 -- a parser got one part more, which is its operand; or no memory was left
 abbrev pub HoldsMore : Part → Parser → Result (Unit {0}) ReadFault → Parser → Type 0
 HoldsMore p old (Ok done) new =
-    (new.frames ≡ old.frames) × (new.parts.items ≡ old.parts.items ++ (p ∷ [])) × (new.held ≡ true)
+    (new.frames ≡ old.frames) × (new.parts ≡ old.parts ++ (p ∷ [])) × (new.held ≡ true)
 HoldsMore p old (Err fault) new = IsMemory fault
 
 -- the constructs and the operand are what has settled, or no memory was left

@@ -1,17 +1,17 @@
--- Trees in little memory: of each part its mark, and its number apart, after each tree an end.
-use Rattle.std.specs.Prelude.{◌≡◌, ℕ, Bool, true, false, List, [], ◌∷◌, ◌++◌, drop, length, map, Option, Some, None}
-use Rattle.std.specs.Prelude.{Result, Ok, Err}
+-- Parts in little memory: of each part its mark, and its number apart.
+use Rattle.std.specs.Prelude.{◌≡◌, ◌≢◌, ℕ, Bool, true, false, List, [], ◌∷◌, ◌++◌, drop, length, map, take, Option}
+use Rattle.std.specs.Prelude.{Some, None}
 use Rattle.std.specs.Bool.{nat_lt}
-use Rattle.std.specs.declared.alloc.AllocError.{AllocError}
-use Rattle.std.specs.Global.{Vec}
 use Rattle.std.specs.List.{flat_map}
-use Rattle.arith_syntax.specs.declared.packed.Mark.{Mark}
-use Rattle.arith_syntax.specs.declared.packed.Mark.TheVariants as mark
-use Rattle.arith_syntax.specs.declared.packed.Packed.{Packed}
-use Rattle.arith_syntax.specs.declared.packed.Width.{Width}
-use Rattle.arith_syntax.specs.declared.packed.Width.TheVariants.{Narrow, Wide}
+use Rattle.arith_syntax.specs.declared.mark.Mark.{Mark}
+use Rattle.arith_syntax.specs.declared.mark.Mark.TheVariants as mark
+use Rattle.arith_syntax.specs.declared.mark.Width.{Width}
+use Rattle.arith_syntax.specs.declared.mark.Width.TheVariants.{Narrow, Wide}
+use Rattle.arith_syntax.specs.declared.operator.AssignmentOperator.{AssignmentOperator}
 use Rattle.arith_syntax.specs.declared.part.Part.{Part}
 use Rattle.arith_syntax.specs.declared.part.Part.TheVariants as part
+use Rattle.arith_syntax.specs.declared.parts.PartsRef.{PartsRef}
+use Rattle.arith_syntax.specs.declared.trees.Size.{Size}
 
 -- among which numbers one is kept, if it is below 2^32 or isn't
 abbrev pub width_by : Bool → Width
@@ -62,27 +62,6 @@ wide_part (part.Constant n) = wide_number n
 wide_part (part.Variable place) = wide_number place
 wide_part _ = []
 
--- the marks of trees, which are given by their parts, with an end after each
-abbrev pub marks_of : List (List Part) → List Mark
-marks_of [] = []
-marks_of (row ∷ rows) = map mark_of row ++ mark.End ∷ marks_of rows
-
--- the numbers of trees that are below 2^32
-abbrev pub narrow_of : List (List Part) → List ℕ
-narrow_of [] = []
-narrow_of (row ∷ rows) = flat_map narrow_part row ++ narrow_of rows
-
--- the other numbers of trees
-abbrev pub wide_of : List (List Part) → List ℕ
-wide_of [] = []
-wide_of (row ∷ rows) = flat_map wide_part row ++ wide_of rows
-
--- these trees are kept
-pub record IsPacked (rows : List (List Part)) (packed : Packed) : Type 0 where
-  pub marks : packed.marks.items ≡ marks_of rows
-  pub narrow : packed.narrow.items ≡ narrow_of rows
-  pub wide : packed.wide.items ≡ wide_of rows
-
 -- the first of some numbers, or 0
 abbrev pub first_number : List ℕ → ℕ
 first_number [] = 0
@@ -103,61 +82,76 @@ abbrev pub wide_left : Width → List ℕ → List ℕ
 wide_left Narrow wide = wide
 wide_left Wide wide = drop 1 wide
 
--- a part in front of the first of some trees
-abbrev pub in_front : Part → List (List Part) → List (List Part)
-in_front p [] = (p ∷ []) ∷ []
-in_front p (row ∷ rows) = (p ∷ row) ∷ rows
+-- the parts that marks and numbers are read as
+abbrev pub parts_in : List Mark → List ℕ → List ℕ → List Part
+parts_in [] narrow wide = []
+parts_in (mark.Constant width ∷ marks) narrow wide =
+    part.Constant (next_number width narrow wide) ∷ parts_in marks (narrow_left width narrow) (wide_left width wide)
+parts_in (mark.Variable width ∷ marks) narrow wide =
+    part.Variable (next_number width narrow wide) ∷ parts_in marks (narrow_left width narrow) (wide_left width wide)
+parts_in (mark.Group ∷ marks) narrow wide = part.Group ∷ parts_in marks narrow wide
+parts_in (mark.Unary op ∷ marks) narrow wide = part.Unary op ∷ parts_in marks narrow wide
+parts_in (mark.Binary op ∷ marks) narrow wide = part.Binary op ∷ parts_in marks narrow wide
+parts_in (mark.Conditional ∷ marks) narrow wide = part.Conditional ∷ parts_in marks narrow wide
+parts_in (mark.Assignment op ∷ marks) narrow wide = part.Assignment op ∷ parts_in marks narrow wide
 
--- the trees that marks and numbers are read as
-abbrev pub rows_in : List Mark → List ℕ → List ℕ → List (List Part)
-rows_in [] narrow wide = []
-rows_in (mark.Constant width ∷ marks) narrow wide =
-    in_front (part.Constant (next_number width narrow wide))
-    (rows_in marks (narrow_left width narrow) (wide_left width wide))
-rows_in (mark.Variable width ∷ marks) narrow wide =
-    in_front (part.Variable (next_number width narrow wide))
-    (rows_in marks (narrow_left width narrow) (wide_left width wide))
-rows_in (mark.Group ∷ marks) narrow wide = in_front part.Group (rows_in marks narrow wide)
-rows_in (mark.Unary op ∷ marks) narrow wide = in_front (part.Unary op) (rows_in marks narrow wide)
-rows_in (mark.Binary op ∷ marks) narrow wide = in_front (part.Binary op) (rows_in marks narrow wide)
-rows_in (mark.Conditional ∷ marks) narrow wide = in_front part.Conditional (rows_in marks narrow wide)
-rows_in (mark.Assignment op ∷ marks) narrow wide = in_front (part.Assignment op) (rows_in marks narrow wide)
-rows_in (mark.End ∷ marks) narrow wide = [] ∷ rows_in marks narrow wide
+-- the parts that are lent
+abbrev pub parts_of : PartsRef → List Part
+parts_of parts = parts_in parts.marks.now parts.narrow.now parts.wide.now
 
--- the trees that are kept
-abbrev pub rows_of : Packed → List (List Part)
-rows_of packed = rows_in packed.marks.items packed.narrow.items packed.wide.items
+-- these marks and numbers are kept of parts, and no others
+pub record IsKept (row : List Part) (kept : List Mark) (below above : List ℕ) : Type 0 where
+  pub marks : kept ≡ map mark_of row
+  pub narrow : below ≡ flat_map narrow_part row
+  pub wide : above ≡ flat_map wide_part row
 
--- the tree that is kept as its parts, if there is one
-abbrev pub last_row : Option (Vec Part) → List (List Part)
-last_row None = []
-last_row (Some parts) = parts.items ∷ []
+-- the first of some parts was taken, or there is none
+abbrev pub GoesOn : List Part → Option Part → List Part → Type 0
+GoesOn old None new = (old ≡ []) × (new ≡ [])
+GoesOn old (Some p) new = old ≡ p ∷ new
 
--- What the next mark tells: a part of the first tree, or its end. `left` is what is left of that tree.
-abbrev pub TakesNext : List Part → List (List Part) → Option Part → Packed → Type 0
-TakesNext [] more next new = (next ≡ None) × IsPacked more new
-TakesNext (p ∷ left) more next new = (next ≡ Some p) × IsPacked (left ∷ more) new
+-- whether a mark is that of an assignment
+abbrev pub is_assignment_mark : Mark → Bool
+is_assignment_mark (mark.Assignment op) = true
+is_assignment_mark _ = false
 
--- The marks and numbers of these trees were put, and those of a beginning of one tree more. `rest` is what of that tree
--- isn't put yet.
-pub record PutsOn (rows : List (List Part)) (rest whole : List Part) (packed : Packed) : Type 0 where
-  pub marks : packed.marks.items ++ map mark_of rest ≡ marks_of rows ++ map mark_of whole
-  pub narrow : packed.narrow.items ++ flat_map narrow_part rest ≡ narrow_of rows ++ flat_map narrow_part whole
-  pub wide : packed.wide.items ++ flat_map wide_part rest ≡ wide_of rows ++ flat_map wide_part whole
+-- some parts don't begin with a name and end with an operator that assigns
+abbrev pub IsNoAssignment : List Part → Type 0
+IsNoAssignment row = (place : ℕ) (op : AssignmentOperator) (operand : List Part)
+    → row ≢ part.Variable place ∷ (operand ++ part.Assignment op ∷ [])
 
--- the number of a part was put, and its mark wasn't
-pub record PutsNumber (p : Part) (old new : Packed) : Type 0 where
-  pub marks : new.marks.items ≡ old.marks.items
-  pub narrow : new.narrow.items ≡ old.narrow.items ++ narrow_part p
-  pub wide : new.wide.items ≡ old.wide.items ++ wide_part p
+-- how many the marks and numbers are that are lent
+abbrev pub size_of : PartsRef → Size
+size_of parts = record {
+  marks = length parts.marks.now;
+  narrow = length parts.narrow.now;
+  wide = length parts.wide.now;
+}
 
--- What is always true of trees: those before the last one are kept apart, and all are counted.
-pub record IsKept (earlier : Packed) (last : Option (Vec Part)) (count : ℕ) : Type 0 where
-  pub packed : IsPacked (rows_of earlier) earlier
-  pub counted : count ≡ length (rows_of earlier ++ last_row last)
+-- how much is kept of a tree, which is given by its parts
+abbrev pub size_kept : List Part → Size
+size_kept row = record {
+  marks = length row;
+  narrow = length (flat_map narrow_part row);
+  wide = length (flat_map wide_part row);
+}
 
--- The first of some trees was taken, if there is one. If memory was refused it was taken, too.
-abbrev pub TakesFirst : List (List Part) → Result (Option (Vec Part)) AllocError → List (List Part) → Type 0
-TakesFirst old (Ok None) new = (old ≡ []) × (new ≡ [])
-TakesFirst old (Ok (Some parts)) new = old ≡ parts.items ∷ new
-TakesFirst old (Err fault) new = (row : List Part) × (old ≡ row ∷ new)
+-- the trees that marks and numbers are read as, by how much is kept of each
+abbrev pub rows_in : List Size → List Mark → List ℕ → List ℕ → List (List Part)
+rows_in [] marks narrow wide = []
+rows_in (size ∷ sizes) marks narrow wide =
+    parts_in (take size.marks marks) narrow wide
+    ∷ rows_in sizes (drop size.marks marks) (drop size.narrow narrow) (drop size.wide wide)
+
+-- these marks and numbers are kept of trees, one tree after the other
+pub record AreKept (rows : List (List Part)) (sizes : List Size) (kept : List Mark) (below above : List ℕ)
+    : Type 0 where
+  pub sizes_are : sizes ≡ map size_kept rows
+  pub marks : kept ≡ flat_map (map mark_of) rows
+  pub narrow : below ≡ flat_map (flat_map narrow_part) rows
+  pub wide : above ≡ flat_map (flat_map wide_part) rows
+
+-- the parts of the first tree are lent, or there is none
+abbrev pub IsFirst : List (List Part) → Option PartsRef → Type 0
+IsFirst rows None = rows ≡ []
+IsFirst rows (Some parts) = rows ≡ parts_of parts ∷ drop 1 rows

@@ -1,6 +1,5 @@
 -- What the parser gives for the tokens of a statement, and that the grammar gives them one tree.
 use Rattle.std.specs.Prelude.{◌≡◌, ℕ, ⊤, List, ◌⊎◌, Result, Ok, Err}
-use Rattle.std.specs.Global.{Vec}
 use Rattle.arith_syntax.specs.declared.part.Part.{Part}
 use Rattle.arith_syntax.specs.declared.fault.ReadFault.{ReadFault}
 use Rattle.arith_syntax.specs.declared.fault.ReadFault.TheVariants.{Syntax, TooDeep, OutOfMemory}
@@ -18,8 +17,8 @@ Parses sentence tree (Err OutOfMemory) = ⊤
 
 -- The parts of the tree of a sentence of this text, or the sentence's first place that doesn't fit. Want of memory says
 -- nothing.
-abbrev pub IsParsed : Sentence → List ℕ → Result (Vec Part) ReadFault → Type 0
-IsParsed sentence text (Ok parts) = IsStatement (tokens_of sentence.tokens) (tree_of text parts.items)
+abbrev pub IsParsed : Sentence → List ℕ → Result (List Part) ReadFault → Type 0
+IsParsed sentence text (Ok parts) = IsStatement (tokens_of sentence.tokens) (tree_of text parts)
 IsParsed sentence text (Err (Syntax place)) = FailsAtToken sentence place ⊎ FailsAtEnd sentence place
 IsParsed sentence text (Err TooDeep) = ⊥
 IsParsed sentence text (Err OutOfMemory) = ⊤

@@ -17,6 +17,7 @@ ghost use Rattle.arith_syntax.specs.declared.token.Token.TheVariants.{Operator, 
 use crate::fault::ReadFault;
 use crate::operator::{AssignmentOperator, BinaryOperator, UnaryOperator};
 use crate::part::Part;
+use crate::parts::Parts;
 use crate::token::{Placed, Token};
 use std::alloc::Global;
 
@@ -95,7 +96,7 @@ struct Parser {
     /// The constructs that have begun, the innermost last.
     frames: Vec<Frame>,
     /// The parts of what was read.
-    parts: Vec<Part>,
+    parts: Parts,
     /// Whether an operand was read last; else one is due.
     held: bool,
 }
@@ -106,7 +107,7 @@ impl Parser {
         ensures { MatchResult result (λ parser. (text : List ℕ) → state_of text parser ≡ start) IsMemory }
     {
         Ok(Parser {
-            parts: Vec::with_capacity(alloc, room)?,
+            parts: Parts::with_room(alloc, room)?,
             frames: Vec::new(alloc),
             held: false,
         })
@@ -129,7 +130,7 @@ impl Parser {
     fn take_due(&mut self, text: &str, placed: &Placed) -> Result<bool, ReadFault>
         requires due { self.old.held ≡ false }
         requires named { IsNamed text.now placed.now }
-        ensures { LeadsTo (take_due (stack_of self.old.frames.items (trees_in text.now self.old.parts.items))
+        ensures { LeadsTo (take_due (stack_of self.old.frames.items (trees_in text.now self.old.parts))
             placed.now.token) result (state_of text.now self.new) }
     {
         match &placed.token {
@@ -156,6 +157,7 @@ impl Parser {
     }
 
     /// Adds a part, behind which an operand was read.
+    #[inline(always)]
     fn hold(&mut self, part: Part) -> Result<(), ReadFault>
         ensures { HoldsMore part self.old result self.new }
     {
@@ -167,7 +169,7 @@ impl Parser {
     /// Takes a token behind an operand.
     fn take_behind(&mut self, text: &str, token: &Token) -> Result<bool, ReadFault>
         requires { self.old.held ≡ true }
-        ensures { LeadsTo (take_behind (around text.now self.old) (tree_of text.now self.old.parts.items) token.now)
+        ensures { LeadsTo (take_behind (around text.now self.old) (tree_of text.now self.old.parts) token.now)
             result (state_of text.now self.new) }
     {
         match token {
@@ -195,7 +197,7 @@ impl Parser {
 
     /// Takes an operator between two operands.
     fn take_operator(&mut self, text: &str, operator: BinaryOperator) -> Result<bool, ReadFault>
-        ensures { LeadsTo (take_behind (around text.now self.old) (tree_of text.now self.old.parts.items)
+        ensures { LeadsTo (take_behind (around text.now self.old) (tree_of text.now self.old.parts)
             (Operator operator)) result (state_of text.now self.new) }
     {
         self.settle(text, operator.level())?;
@@ -205,7 +207,7 @@ impl Parser {
 
     /// Takes `?` behind a condition.
     fn take_question(&mut self, text: &str) -> Result<bool, ReadFault>
-        ensures { LeadsTo (take_behind (around text.now self.old) (tree_of text.now self.old.parts.items) Question)
+        ensures { LeadsTo (take_behind (around text.now self.old) (tree_of text.now self.old.parts) Question)
             result (state_of text.now self.new) }
     {
         self.settle(text, WEAKEST_OPERATOR)?;
@@ -217,8 +219,8 @@ impl Parser {
     #[inline(always)]
     fn settle(&mut self, text: &str, weakest: u8) -> Result<(), ReadFault>
         requires { weakest ≤ 13 }
-        ensures { SettlesTo (settle weakest (around text.now self.old) (tree_of text.now self.old.parts.items)) result
-            (around text.now self.new) (tree_of text.now self.new.parts.items) }
+        ensures { SettlesTo (settle weakest (around text.now self.old) (tree_of text.now self.old.parts)) result
+            (around text.now self.new) (tree_of text.now self.new.parts) }
     {
         while let Some(frame) = self.pop_ending(weakest) {
             self.parts.push(frame.part())?;
@@ -227,6 +229,7 @@ impl Parser {
     }
 
     /// Begins a construct, in which an operand is due.
+    #[inline(always)]
     fn push(&mut self, frame: Frame) -> Result<(), ReadFault>
         ensures frame { PushesTo frame self.old.frames.items result self.new.frames.items }
         ensures parts { self.new.parts ≡ self.old.parts }
@@ -287,7 +290,7 @@ impl Parser {
 
     /// Takes `:` behind the middle of a conditional.
     fn take_colon(&mut self, text: &str) -> Result<bool, ReadFault>
-        ensures { LeadsTo (take_colon (around text.now self.old) (tree_of text.now self.old.parts.items)) result
+        ensures { LeadsTo (take_colon (around text.now self.old) (tree_of text.now self.old.parts)) result
             (state_of text.now self.new) }
     {
         if !self.pop_condition() {
@@ -299,7 +302,7 @@ impl Parser {
 
     /// Takes `)` behind what stands in parentheses.
     fn take_close(&mut self, text: &str) -> Result<bool, ReadFault>
-        ensures { LeadsTo (take_close (around text.now self.old) (tree_of text.now self.old.parts.items)) result
+        ensures { LeadsTo (take_close (around text.now self.old) (tree_of text.now self.old.parts)) result
             (state_of text.now self.new) }
     {
         if !self.pop_open() {
@@ -311,7 +314,7 @@ impl Parser {
 
     /// Takes an operator that assigns, behind a name.
     fn take_assign(&mut self, text: &str, operator: AssignmentOperator) -> Result<bool, ReadFault>
-        ensures { LeadsTo (take_assign operator (around text.now self.old) (tree_of text.now self.old.parts.items))
+        ensures { LeadsTo (take_assign operator (around text.now self.old) (tree_of text.now self.old.parts))
             result (state_of text.now self.new) }
     {
         if !self.ends_with_name(text) || !self.takes_assignment() {
@@ -323,12 +326,9 @@ impl Parser {
 
     /// Whether what was read last is a name.
     fn ends_with_name(&self, text: &str) -> bool
-        ensures { IsNameOf (tree_of text.now self.now.parts.items) result }
+        ensures { IsNameOf (tree_of text.now self.now.parts) result }
     {
-        match self.parts.last() {
-            Some(part) => part.is_variable(),
-            None => false,
-        }
+        self.parts.are_a_name()
     }
 
     /// Whether an assignment fits into the innermost construct.
@@ -350,7 +350,7 @@ impl Parser {
 
     /// Ends a statement, or says that what was read is none.
     fn finish(&mut self, text: &str) -> Result<bool, ReadFault>
-        ensures { ClosesTo (close (state_of text.now self.old)) result (tree_of text.now self.new.parts.items) }
+        ensures { ClosesTo (close (state_of text.now self.old)) result (tree_of text.now self.new.parts) }
     {
         if !self.held {
             return Ok(false);
@@ -363,7 +363,7 @@ impl Parser {
     fn read(&mut self, text: &str, tokens: &[Placed], end: u64) -> Result<(), ReadFault>
         requires start { state_of text.now self.old ≡ start }
         requires named { All (IsNamed text.now) tokens.now }
-        ensures { Parses (record { tokens = tokens.now; end = end }) (tree_of text.now self.new.parts.items) result }
+        ensures { Parses (record { tokens = tokens.now; end = end }) (tree_of text.now self.new.parts) result }
     {
         for placed in tokens {
             if !self.take(text, placed)? {
@@ -412,7 +412,7 @@ pub(crate) fn parse(
     text: &str,
     tokens: &[Placed],
     end: u64,
-) -> Result<Vec<Part>, ReadFault>
+) -> Result<Parts, ReadFault>
     requires { All (IsNamed text.now) tokens.now }
     ensures { IsParsed (record { tokens = tokens.now; end = end }) text.now result }
 {

@@ -1,8 +1,8 @@
 //! The parts of a tree.
 
-ghost use Rattle.std.specs.Prelude.{◌≡◌, ◌≤◌, ℕ, List, length};
+ghost use Rattle.std.specs.Prelude.{◌≡◌, ◌≢◌, ◌≤◌, ℕ, List, length, MatchOption};
+ghost use Rattle.arith_syntax.specs.declared.part.Part.TheVariants.{Variable};
 ghost use Rattle.arith_syntax.specs.Grammar.{Tree};
-ghost use Rattle.arith_syntax.specs.Machine.{IsNameOf};
 ghost use Rattle.arith_syntax.specs.Parts.{before, grown, last, name_of, operand_count, tree_of, trees_in};
 
 use crate::lexer::word_at;
@@ -28,21 +28,6 @@ pub enum Part {
 }
 
 impl Part {
-    /// Whether the tree that ends with this part is a name.
-    pub(crate) fn is_variable(self) -> bool
-        ensures { (text : List ℕ) (trees : List Tree) → IsNameOf (last (grown text self trees)) result }
-    {
-        match self {
-            Part::Variable(_) => true,
-            Part::Constant(_)
-            | Part::Group
-            | Part::Unary(_)
-            | Part::Binary(_)
-            | Part::Conditional
-            | Part::Assignment(_) => false,
-        }
-    }
-
     /// The name that the tree is which ends with this part, and else the empty text.
     fn name(self, text: &str) -> &str
         ensures { (trees : List Tree) → result.now ≡ name_of (last (grown text.now self trees)) }
@@ -55,6 +40,22 @@ impl Part {
             | Part::Binary(_)
             | Part::Conditional
             | Part::Assignment(_) => "",
+        }
+    }
+
+    /// The place of a variable's name; none of another part.
+    #[inline(always)]
+    pub(crate) fn variable(self) -> Option<u64>
+        ensures { MatchOption result ((place : ℕ) → self ≢ Variable place) (λ place. self ≡ Variable place) }
+    {
+        match self {
+            Part::Variable(place) => Some(place),
+            Part::Constant(_)
+            | Part::Group
+            | Part::Unary(_)
+            | Part::Binary(_)
+            | Part::Conditional
+            | Part::Assignment(_) => None,
         }
     }
 

@@ -13,7 +13,7 @@ use crate::cutting::{cut_sentence, skip};
 use crate::fault::ReadFault;
 use crate::lexer::{tokens, white_size};
 use crate::parser::parse;
-use crate::part::Part;
+use crate::parts::Parts;
 use crate::token::Placed;
 use crate::trees::Trees;
 use std::alloc::Global;
@@ -82,8 +82,8 @@ fn first_fault(alloc: Global, text: &str, behind: Option<usize>, fault: ReadFaul
 /// # Errors
 ///
 /// As of [`read_cell`]; a text without a token is `Syntax` at its end.
-pub fn read_statement(alloc: Global, text: &str) -> Result<Vec<Part>, ReadFault>
-    ensures { MatchResult result (λ parts. StatementMeans (chars text.now) (Ok (tree_of text.now parts.items)))
+pub fn read_statement(alloc: Global, text: &str) -> Result<Parts, ReadFault>
+    ensures { MatchResult result (λ parts. StatementMeans (chars text.now) (Ok (tree_of text.now parts)))
         (OrMemory (λ fault. StatementMeans (chars text.now) (Err fault))) }
 {
     let placed = tokens(alloc, text)?;
@@ -107,15 +107,15 @@ fn add(
     if tokens.is_empty() {
         return Ok(());
     }
-    let tree = statement(alloc, text, tokens, end)?;
-    trees.push(tree)?;
+    let parts = statement(alloc, text, tokens, end)?;
+    trees.push(&parts)?;
     Ok(())
 }
 
 /// The tree of a statement's tokens.
-fn statement(alloc: Global, text: &str, tokens: &[Placed], end: u64) -> Result<Vec<Part>, ReadFault>
+fn statement(alloc: Global, text: &str, tokens: &[Placed], end: u64) -> Result<Parts, ReadFault>
     requires { All (IsNamed text.now) tokens.now }
-    ensures { MatchResult result (λ parts. Means (sentence_of tokens.now end) (Ok (tree_of text.now parts.items)))
+    ensures { MatchResult result (λ parts. Means (sentence_of tokens.now end) (Ok (tree_of text.now parts)))
         (OrMemory (λ fault. Means (sentence_of tokens.now end) (Err fault))) }
 {
     if operator_count(tokens) > MOST_OPERATORS {

@@ -1,7 +1,7 @@
 //! The sign that a text begins with.
 
-ghost use Rattle.std.specs.Prelude.{[], ◌∷◌, ◌≢◌};
-ghost use Rattle.arith_syntax.specs.Lexed.{SpellsSign, BeginsWithSign};
+ghost use Rattle.std.specs.Prelude.{◌≡◌, [], ◌∷◌, ◌≢◌, true, Some, None, MatchOption};
+ghost use Rattle.arith_syntax.specs.Lexed.{SpellsSign, StandsAlone, BeginsWithSign};
 
 use crate::octet::octet_at;
 use crate::operator::{AssignmentOperator, BinaryOperator};
@@ -16,12 +16,32 @@ pub(crate) fn sign(text: &[u8]) -> Option<Spelled>
     let first = octet_at(text, 0);
     let second = octet_at(text, 1);
     let third = octet_at(text, 2);
+    if stands_alone(first, second) {
+        return short(first);
+    }
     if let Some(token) = three(first, second, third) {
         return Some(Spelled { token, size: 3 });
     }
     if let Some(token) = two(first, second) {
         return Some(Spelled { token, size: 2 });
     }
+    short(first)
+}
+
+/// Whether no sign of two or three characters begins with these two, as is so of most. A false answer says nothing.
+#[inline(always)]
+fn stands_alone(first: u8, second: u8) -> bool
+    ensures { result ≡ true → StandsAlone first second }
+{
+    second != b'=' && second != first
+}
+
+/// The sign of one character, with its size.
+#[inline(always)]
+fn short(first: u8) -> Option<Spelled>
+    ensures { MatchOption result (SpellsSign (first ∷ []) None)
+        (λ spelled. (spelled.size ≡ 1) × SpellsSign (first ∷ []) (Some spelled.token)) }
+{
     match one(first) {
         Some(token) => Some(Spelled { token, size: 1 }),
         None => None,

@@ -11,11 +11,11 @@ use Rattle.arith_value.specs.Variables.{Bindings}
 abbrev pub HasValue : Bindings → Tree → ℤ → Type 0
 HasValue variables tree number = value tree variables ≡ give (Ok number) variables
 
--- the last of some trees have these values, that of the last one first
-abbrev pub HaveValues : Bindings → List Tree → List ℤ → Type 0
-HaveValues variables trees [] = ⊤
-HaveValues variables trees (number ∷ numbers) =
-    HasValue variables (last trees) number × HaveValues variables (before trees) numbers
+-- the last of some trees have these values, that of the last one first; the trees before them are the base
+abbrev pub HaveValues : Bindings → List Tree → List Tree → List ℤ → Type 0
+HaveValues variables base trees [] = trees ≡ base
+HaveValues variables base trees (number ∷ numbers) =
+    HasValue variables (last trees) number × HaveValues variables base (before trees) numbers
 
 -- the first of some numbers, taken off
 abbrev pub Takes : List ℤ → Option ℤ → List ℤ → Type 0
@@ -31,5 +31,5 @@ Puts old (Err fault) true new = ⊥
 -- from the values of trees to those after one part more
 abbrev pub Steps : Bindings → List ℕ → Part → List ℤ → Bool → List ℤ → Type 0
 Steps variables text part old false new = ⊤
-Steps variables text part old true new = (trees : List Tree) → HaveValues variables trees old
-    → HaveValues variables (grown text part trees) new
+Steps variables text part old true new = (base trees : List Tree) → HaveValues variables base trees old
+    → HaveValues variables base (grown text part trees) new

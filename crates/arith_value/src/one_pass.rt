@@ -1,44 +1,50 @@
 //! The value of an expression that assigns nothing, in one pass over its parts.
 
-ghost use Rattle.std.specs.Prelude.{◌≡◌, ℕ, List, IfSome, if◌then◌else◌, reverse};
-ghost use Rattle.arith_syntax.specs.Parts.{tree_of};
+ghost use Rattle.std.specs.Prelude.{◌≡◌, ℕ, List, [], ◌∷◌, IfSome, if◌then◌else◌, reverse};
+ghost use Rattle.arith_syntax.specs.Grammar.{Tree};
+ghost use Rattle.arith_syntax.specs.Packed.{parts_of};
+ghost use Rattle.arith_syntax.specs.Parts.{assembled};
 ghost use Rattle.arith_syntax.specs.declared.part.Part.TheVariants.{Group, Unary, Binary, Conditional};
-ghost use Rattle.arith_value.specs.OnePass.{HasValue, Puts, Steps, Takes};
+ghost use Rattle.arith_value.specs.OnePass.{HaveValues, Puts, Steps, Takes};
 ghost use Rattle.arith_value.specs.Operators.{is_true};
 ghost use Rattle.arith_value.specs.Variables.{Bindings};
 
 use crate::fault::ValueFault;
 use crate::operators::{apply, constant, is_true, unary};
 use crate::variables::Variables;
-use arith_syntax::{BinaryOperator, Part, UnaryOperator, word_at};
+use arith_syntax::{BinaryOperator, Part, PartsRef, UnaryOperator, word_at};
 use std::alloc::Global;
 
 /// For how many values there is room at first.
 const ROOM: usize = 16;
 
-/// The value of the tree that some parts of a text are, where one pass from the first part to the last finds it: each
-/// part takes the values that it is made of off, and puts its own there. It finds none at an assignment, a fault, or
-/// where no memory was left.
+/// The value of the tree that some parts of a text are, if one pass from the first part to the last finds it: each part
+/// takes the values that it is made of off, and puts its own there. It finds none at an assignment, a fault or want of
+/// memory, or if not just one value is there at the end.
 pub(crate) fn value_in_one_pass(
     alloc: Global,
     text: &str,
-    parts: &[Part],
+    parts: PartsRef<'_>,
     variables: &Variables,
 ) -> Option<i64>
-    ensures { IfSome result (λ number. HasValue variables.now (tree_of text.now parts.now) number) }
+    ensures { IfSome result (λ number. (base : List Tree)
+        → HaveValues variables.now base (assembled text.now base (parts_of parts.entry)) (number ∷ [])) }
 {
-    if let Some(Part::Assignment(_)) = parts.last() {
-        return None;
-    }
     let Ok(mut waiting) = Vec::with_capacity(alloc, ROOM) else {
         return None;
     };
-    for part in parts {
-        if !step(text, *part, variables, &mut waiting) {
+    let mut left = parts;
+    while let Some(part) = left.next() {
+        if !step(text, part, variables, &mut waiting) {
             return None;
         }
     }
-    take(&mut waiting)
+    let value = take(&mut waiting)?;
+    if waiting.is_empty() {
+        Some(value)
+    } else {
+        None
+    }
 }
 
 /// Goes on by a part, or tells that it can't.

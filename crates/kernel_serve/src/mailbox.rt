@@ -32,10 +32,14 @@ struct Holding {
     is_signed: bool,
     /// How many connections of the peer are heard still, be it what they said before they broke.
     heard: usize,
+    /// Whether a reply is just being written on the connection that has the mailbox.
+    is_writing: bool,
 }
 
 impl Holding {
-    /// Gives the mailbox to another connection that isn't closed, if it may have it: the one before is closed.
+    /// Gives the mailbox to another connection that isn't closed, if it may have it. The connection before is closed if
+    /// a reply is just being written on it, for which others would wait, or if the other's peer has signed something.
+    /// Else it stays: what was asked on it may not have been read yet.
     fn pass(&mut self, number: u64, socket: &Socket, claim: Claim) -> bool {
         if socket.is_shut() || !takes_over(self.holder, claim) {
             return false;
@@ -43,9 +47,11 @@ impl Holding {
         let Ok(kept) = socket.try_clone() else {
             return false;
         };
-        if let Some(before) = self.socket.replace(kept) {
-            before.shut();
+        match self.socket.replace(kept) {
+            Some(before) if self.is_writing || claim == Claim::Signs => before.shut(),
+            Some(_) | None => {}
         }
+        self.is_writing = false;
         self.number = number;
         self.holder = Holder::Unsigned;
         self.since = None;
@@ -112,6 +118,7 @@ impl Mailbox {
                 since: None,
                 is_signed: false,
                 heard: 0,
+                is_writing: false,
             }),
             due: Mutex::new(Due {
                 unsent: None,
@@ -170,6 +177,7 @@ impl Mailbox {
             holding.holder = Holder::Gone;
             holding.number = 0;
             holding.socket = None;
+            holding.is_writing = false;
         }
     }
 
@@ -182,6 +190,17 @@ impl Mailbox {
     /// Whether the connection of this number has it.
     fn is_of<R: Wait>(&self, rt: &R, number: u64) -> bool {
         self.holding.lock(rt).number == number
+    }
+
+    /// Says whether a reply is being written on the connection of this number, if it has the mailbox; answers whether it
+    /// has.
+    fn note_writing<R: Wait>(&self, rt: &R, number: u64, is_writing: bool) -> bool {
+        let mut holding = self.holding.lock(rt);
+        if holding.number != number {
+            return false;
+        }
+        holding.is_writing = is_writing;
+        true
     }
 
     /// Writes the next reply to the peer of a connection, if that has the mailbox. What can't be written waits on.
@@ -207,11 +226,13 @@ impl Mailbox {
         next: (&mut Due, ReplyMessage),
     ) -> Look {
         let (due, reply) = next;
-        if !self.is_of(rt, peer.number) || peer.has_left() {
+        if peer.has_left() || !self.note_writing(rt, peer.number, true) {
             due.put_back(reply);
             return Look::Nothing;
         }
-        if peer.writer.message(rt, alloc, reply.frames.as_slice()) {
+        let is_written = peer.writer.message(rt, alloc, reply.frames.as_slice());
+        self.note_writing(rt, peer.number, false);
+        if is_written {
             drop(reply);
             return Look::Written;
         }

@@ -28,7 +28,7 @@ fn word_of(alloc: Global, placed: &Placed) -> Result<String, AllocError> {
 /// The tree of a statement as its parts in a row, or its fault.
 pub(crate) fn tree(alloc: Global, statement: &str) -> Result<String, AllocError> {
     match read_statement(alloc, statement) {
-        Ok(parts) => format!(in alloc; "{parts:?}"),
+        Ok(parts) => format!(in alloc; "{:?}", parts.lend().unpacked(alloc)?),
         Err(fault) => format!(in alloc; "{fault}"),
     }
 }

@@ -1,6 +1,6 @@
 //! The values of expressions, and the variables after them.
 
-use arith_syntax::{AssignmentOperator, BinaryOperator, Part, UnaryOperator};
+use arith_syntax::{AssignmentOperator, BinaryOperator, Part, Parts, UnaryOperator};
 use arith_value::{ValueFault, Variables, evaluate};
 use std::alloc::Global;
 use std::test::Fail;
@@ -21,7 +21,11 @@ const ASSIGN: Part = Part::Assignment(AssignmentOperator::Assign);
 fn given(alloc: Global, parts: &[Part]) -> Result<(Result<i64, ValueFault>, Option<i64>), Fail> {
     let mut variables = Variables::new(alloc);
     variables.set(alloc, "x", 1)?;
-    let answer = evaluate(alloc, NAMES, parts, &mut variables);
+    let mut kept = Parts::new(alloc);
+    for part in parts {
+        kept.push(*part)?;
+    }
+    let answer = evaluate(alloc, NAMES, kept.lend(), &mut variables);
     Ok((answer, variables.get("x")))
 }
 

@@ -7,7 +7,7 @@ use std::test::Fail;
 /// The parts of a statement's tree, or its fault.
 fn said(alloc: Global, statement: &str) -> Result<String, Fail> {
     Ok(match read_statement(alloc, statement) {
-        Ok(tree) => format!(in alloc; "{tree:?}")?,
+        Ok(tree) => format!(in alloc; "{:?}", tree.lend().unpacked(alloc)?)?,
         Err(fault) => format!(in alloc; "{fault}")?,
     })
 }

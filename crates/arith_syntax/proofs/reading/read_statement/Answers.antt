@@ -1,6 +1,4 @@
 use Rattle.std.specs.List.{All}
-use Rattle.std.specs.Global.{Vec}
-use Rattle.arith_syntax.specs.declared.part.Part.{Part}
 use Rattle.arith_syntax.specs.Parts.{IsNamed, tree_of}
 use Rattle.arith_syntax.proofs.NamedLemmas.{named_tokens}
 use Rattle.arith_syntax.proofs.TextLemmas.{statement_means}
@@ -14,5 +12,5 @@ statement-requires c =
 
 pub returns : goal.returns
 returns c =
-    statement_means (λ (parts : Vec Part). tree_of c.args.text.now parts.items) _ _ _ c.utf8.text
-    c.as_slice.ensures.value c.in_ok-placed.ensures _ c.statement.ensures
+    statement_means (tree_of c.args.text.now) _ _ _ c.utf8.text c.as_slice.ensures.value c.in_ok-placed.ensures _
+    c.statement.ensures

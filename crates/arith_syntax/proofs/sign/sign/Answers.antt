@@ -1,4 +1,4 @@
-use Rattle.arith_syntax.proofs.SignLemmas.{IsFront, three_is_longest, two_is_longest, one_is_longest}
+use Rattle.arith_syntax.proofs.SignLemmas.{IsFront, three_is_longest, two_is_longest}
 use Rattle.arith_syntax.proofs.sign.sign.Goals as goal
 
 pub returns-in-Some : goal.returns-in-Some
@@ -14,10 +14,3 @@ returns-in-Some-two c =
     record { first = c.octet_at-first.ensures; second = c.octet_at-second.ensures; third = c.octet_at-third.ensures } in
     two_is_longest c.args.text.now c.octet_at-first.result c.octet_at-second.result c.octet_at-third.result front
     c.in_default.ensures c.in-Some-two.token c.in-Some-two.ensures
-
-pub returns-in-Some-one : goal.returns-in-Some-one
-returns-in-Some-one c =
-    let front : IsFront c.args.text.now c.octet_at-first.result c.octet_at-second.result c.octet_at-third.result =
-    record { first = c.octet_at-first.ensures; second = c.octet_at-second.ensures; third = c.octet_at-third.ensures } in
-    one_is_longest c.args.text.now c.octet_at-first.result c.octet_at-second.result c.octet_at-third.result front
-    c.in_default.ensures c.in_default-two.ensures c.in-Some-one.token c.in-Some-one.ensures

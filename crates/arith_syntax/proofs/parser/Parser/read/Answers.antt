@@ -28,7 +28,7 @@ loop-placed-preserved c =
 pub returns-then-branch : goal.returns-then-branch
 returns-then-branch c =
     let state = state_of c.args.text.now c.loop-placed.self in
-    let tree = tree_of c.args.text.now c.finish.new.self.parts.items in
+    let tree = tree_of c.args.text.now c.finish.new.self.parts in
     closed_is_statement _ state tree
     (all_taken c.args.tokens.now c.loop-placed.placed-index state c.loop-placed-test.false c.loop-placed.invariant)
     (closes_leads c.in_ok-finish.field-0 (close state) tree c.in_ok-finish.ensures c.if-branch.true)
@@ -36,7 +36,7 @@ returns-then-branch c =
 pub returns-else-branch : goal.returns-else-branch
 returns-else-branch c =
     let state = state_of c.args.text.now c.loop-placed.self in
-    let tree = tree_of c.args.text.now c.finish.new.self.parts.items in
+    let tree = tree_of c.args.text.now c.finish.new.self.parts in
     inr (unclosed_fails (record { tokens = c.args.tokens.now; end = c.args.end }) state
     (all_taken c.args.tokens.now c.loop-placed.placed-index state c.loop-placed-test.false c.loop-placed.invariant)
     (unclosed_leads c.in_ok-finish.field-0 (close state) tree c.in_ok-finish.ensures c.if-branch.false))

@@ -1,17 +1,20 @@
-use Rattle.arith_syntax.specs.Packed.{rows_of}
-use Rattle.arith_syntax.proofs.PackedLemmas.{pushed}
+use Rattle.std.proofs.Common.{refl}
+use Rattle.arith_syntax.specs.Packed.{size_of}
+use Rattle.arith_syntax.proofs.PackedLemmas.{tree_put}
 use Rattle.arith_syntax.proofs.trees.Trees.push.Goals as goal
 
 pub invariant_of-self : goal.invariant_of-self
 invariant_of-self c =
-    (pushed c.self.inside.earlier c.add.new.earlier c.self.inside.last c.add.new.last c.self.inside.count
-    c.add.new.count c.args.parts.items c.self.invariant
-    (c.in-Ok.ensures.packed (rows_of c.self.inside.earlier) c.self.invariant.packed) c.in-Ok.ensures.last
-    c.in-Ok.ensures.count).0
+    rw (c.in-Ok.ensures.marks, c.in-Ok.ensures.narrow, c.in-Ok.ensures.wide)
+    (tree_put c.args.parts.now c.self.inside.sizes.items c.put.new.sizes.items c.self.inside.marks
+    c.lend-kept.result.marks.now c.self.inside.narrow c.lend-kept.result.narrow.now c.self.inside.wide
+    c.lend-kept.result.wide.now (size_of c.lend-kept.result) c.self.invariant c.lend-kept.ensures.kept
+    c.in-Ok.ensures.sizes refl).1
 
 pub returns-in-Ok : goal.returns-in-Ok
 returns-in-Ok c =
-    rw (← c.self.view_is) (pushed c.self.inside.earlier c.add.new.earlier c.self.inside.last c.add.new.last
-    c.self.inside.count c.add.new.count c.args.parts.items c.self.invariant
-    (c.in-Ok.ensures.packed (rows_of c.self.inside.earlier) c.self.invariant.packed) c.in-Ok.ensures.last
-    c.in-Ok.ensures.count).1
+    rw (← c.self.view_is, c.in-Ok.ensures.marks, c.in-Ok.ensures.narrow, c.in-Ok.ensures.wide)
+    (tree_put c.args.parts.now c.self.inside.sizes.items c.put.new.sizes.items c.self.inside.marks
+    c.lend-kept.result.marks.now c.self.inside.narrow c.lend-kept.result.narrow.now c.self.inside.wide
+    c.lend-kept.result.wide.now (size_of c.lend-kept.result) c.self.invariant c.lend-kept.ensures.kept
+    c.in-Ok.ensures.sizes refl).0
