@@ -59,16 +59,28 @@ fn owned(alloc: Global, text: &str) -> Result<Text, AllocError>
     Ok(Text::new(String::from_str(alloc, text)?))
 }
 
+/// Two texts that are owned.
+fn pair(alloc: Global, first: &str, second: &str) -> Result<(Text, Text), AllocError>
+    ensures { IfOk result (λ pair. (pair.0 ≡ first.now) × (pair.1 ≡ second.now)) }
+{
+    let first = owned(alloc, first)?;
+    let second = owned(alloc, second)?;
+    Ok((first, second))
+}
+
 /// What the language says of itself.
 fn info(alloc: Global) -> Result<Info, AllocError>
     ensures { IfOk result (λ info. info ≡ parrot_info) }
 {
+    let (name, banner) = pair(alloc, "parrot", "A parrot")?;
+    let (mimetype, file_extension) = pair(alloc, "text/plain", ".txt")?;
+    let version = owned(alloc, "1.0")?;
     Ok(Info {
-        banner: owned(alloc, "A parrot")?,
-        file_extension: owned(alloc, ".txt")?,
-        mimetype: owned(alloc, "text/plain")?,
-        name: owned(alloc, "parrot")?,
-        version: owned(alloc, "1.0")?,
+        banner,
+        file_extension,
+        mimetype,
+        name,
+        version,
     })
 }
 
