@@ -1,4 +1,2 @@
-pub mod Backlog
-pub mod Dates
 pub mod Serving
 pub mod Stamps

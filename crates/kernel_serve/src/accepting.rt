@@ -1,11 +1,7 @@
 //! Accepting the connections of a port, and serving each in a thread of its own.
 
-use crate::gate::Gate;
-use crate::guest::Guest;
-use crate::reader::Gauge;
-use crate::server::Server;
 use crate::service::Service;
-use crate::socket::Socket;
+use kernel_sockets::{Gate, Gauge, Guest, Server, Socket};
 use std::alloc::{AllocError, Global};
 use std::net::{TcpListener, TcpStream};
 use std::sync::{Arc, Wait};

@@ -2,17 +2,16 @@
 //! replies.
 
 use crate::asking::shows_key;
-use crate::guest::Guest;
 use crate::mailbox::{Mailbox, Replies};
 use crate::mailboxes::{Caller, Mailboxes, wake};
-use crate::reader::{Gauge, Reader};
-use crate::shared_writer::{SharedWriter, pong_to};
-use crate::socket::Socket;
 use crossbeam_channel::{SendError, Sender};
 use crossbeam_utils::sync::{Parker, Unparker};
 use jmsg_envelope::{Signer, check_signature};
-use kernel_limits::limits::{IDENTITY_OCTETS, READS};
+use kernel_limits::limits::READS;
 use kernel_limits::{Claim, may_read};
+use kernel_sockets::{
+    Gauge, Guest, Reader, SharedWriter, Socket, hear_out, is_named_well, octets_of, pong_to,
+};
 use kernel_workers::{Credit, Job, Note, ReplyMessage};
 use listed::Frames;
 use std::alloc::{AllocError, Global};
@@ -20,8 +19,8 @@ use std::sync::{Arc, Wait};
 use std::thread;
 use std::thread::Threads;
 use std::time::{Clock, Duration};
-use zmtp_connection::{Intake, OpenPeer, hear, shake};
-use zmtp_wire::{Counted, SocketType, Traffic, text_len};
+use zmtp_connection::{Intake, OpenPeer, shake};
+use zmtp_wire::{Counted, SocketType, Traffic};
 
 /// For how many milliseconds a reader waits for credit, before it looks whether the connection was closed.
 const CREDIT_LOOK: u64 = 100;
@@ -119,14 +118,6 @@ struct Member {
     writer: Unparker,
     /// Whether the peer has shown that it holds the key.
     is_signed: bool,
-}
-
-/// How many octets the shortest text of some traffic has, as far as that can be counted.
-pub(crate) fn octets_of(traffic: &Traffic) -> usize {
-    match traffic {
-        Traffic::Message(message) => text_len(message.as_slice()).unwrap_or(usize::MAX),
-        Traffic::Command(name, rest) => name.as_slice().len().saturating_add(rest.as_slice().len()),
-    }
 }
 
 impl<R: Wait + Clock> Requests<R> {
@@ -279,29 +270,6 @@ impl<R: Wait + Clock> Requests<R> {
             || self.socket.is_ended()
             || self.has_left()
     }
-}
-
-/// Hears a peer with whom hands were shaken, until its octets end or are refused, or the intake gives it up. A peer
-/// whose identity is too long isn't heard.
-pub(crate) fn hear_out<R, T>(
-    alloc: Global,
-    reader: &mut Counted<Reader<R>>,
-    mut peer: OpenPeer,
-    intake: &mut T,
-)
-where
-    R: Wait + Clock + Drop,
-    T: Intake,
-{
-    if is_named_well(&peer) {
-        drop(hear(alloc, reader, &mut peer, intake, READS));
-    }
-    drop(peer);
-}
-
-/// Whether a peer's identity isn't too long.
-fn is_named_well(peer: &OpenPeer) -> bool {
-    peer.identity().len() <= IDENTITY_OCTETS
 }
 
 /// Serves a peer of shell or control as a ROUTER. It shakes hands with it, and puts each message that it sends into the

@@ -2,11 +2,10 @@
 
 use crate::accepting::{Served, accept_all};
 use crate::fault::{Port, ServeFault};
-use crate::gate::Gate;
-use crate::server::Server;
 use crate::service::Service;
 use kernel_limits::grace_left;
 use kernel_limits::limits::{END_WRITE_MILLIS, WAKE_MILLIS};
+use kernel_sockets::{Gate, Server};
 use std::alloc::{AllocError, Global};
 use std::net::{Net, SocketAddr, TcpListener, TcpStream};
 use std::sync::{Arc, Wait};

@@ -1,11 +1,7 @@
 //! Connections of the heartbeat.
 
-use crate::connection::{hear_out, octets_of};
-use crate::guest::Guest;
-use crate::reader::{Gauge, Reader};
-use crate::shared_writer::{pong_to, write_whole};
-use crate::socket::Socket;
 use kernel_limits::limits::{HEARTBEAT_OCTETS, READS};
+use kernel_sockets::{Gauge, Guest, Reader, Socket, hear_out, octets_of, pong_to, write_whole};
 use std::alloc::{AllocError, Global};
 use std::sync::{Arc, Wait};
 use std::time::Clock;

@@ -3,28 +3,18 @@
 
 mod accepting;
 mod asking;
-mod backlog;
 mod connection;
 mod ending;
 mod fault;
-mod feed;
-mod gate;
-mod guest;
 mod heartbeat;
 mod mailbox;
 mod mailboxes;
 mod parent;
 mod ports;
-mod reader;
-mod server;
 mod service;
 mod serving;
-mod shared_writer;
-mod socket;
-mod stamp;
 mod subscriber;
 
 pub use fault::{Port, ServeFault};
 pub use parent::Until;
 pub use serving::{Interpreters, Served, serve};
-pub use stamp::{KernelStamp, can_be_read, is_utc_date};

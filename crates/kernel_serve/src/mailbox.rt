@@ -1,11 +1,10 @@
 //! The replies to a peer, and the connection on which they are written. They are a mailbox's, and not a connection's: a
 //! peer that gives itself an identity may connect again, and gets what wasn't written yet.
 
-use crate::shared_writer::SharedWriter;
-use crate::socket::Socket;
 use crossbeam_channel::{Receiver, RecvTimeoutError};
 use crossbeam_utils::sync::{Parker, Unparker};
 use kernel_limits::{Claim, Holder, is_awaited, takes_over};
+use kernel_sockets::{SharedWriter, Socket};
 use kernel_workers::{Account, ReplyMessage};
 use std::alloc::Global;
 use std::sync::{Arc, Mutex, Wait};

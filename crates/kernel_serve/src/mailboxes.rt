@@ -1,10 +1,10 @@
 //! The mailboxes of a channel, by the identities of their peers.
 
 use crate::mailbox::Mailbox;
-use crate::socket::Socket;
 use crossbeam_channel::{Sender, unbounded};
 use crossbeam_utils::sync::Unparker;
 use kernel_limits::Claim;
+use kernel_sockets::Socket;
 use kernel_workers::{Account, ReplyMessage};
 use listed::Frames;
 use std::alloc::{AllocError, Global};

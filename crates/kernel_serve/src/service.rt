@@ -1,9 +1,9 @@
 //! What the peers of a port are served with.
 
 use crate::connection::{Channel, serve_requests};
-use crate::guest::Guest;
 use crate::heartbeat::serve_heartbeat;
 use crate::subscriber::{SubscriptionsInbox, serve_subscriber};
+use kernel_sockets::Guest;
 use std::alloc::{AllocError, Global};
 use std::sync::Wait;
 use std::thread::Threads;

@@ -9,9 +9,7 @@ use crate::fault::{Port, ServeFault};
 use crate::mailboxes::Mailboxes;
 use crate::parent::{Until, start_watch};
 use crate::ports::{Ports, bind_ports};
-use crate::server::Server;
 use crate::service::Service;
-use crate::stamp::KernelStamp;
 use crate::subscriber::Writer;
 use conn_file::Connection;
 use crossbeam_channel::Sender;
@@ -19,6 +17,8 @@ use interp_core::Interpreter;
 use iopub_event::Event;
 use jmsg_envelope::Signer;
 use kernel_limits::limits::QUEUE;
+use kernel_sockets::Server;
+use kernel_stamp::KernelStamp;
 use kernel_workers::{Flags, Inbox, Job, KernelEnd, Note, Parts, run_kernel};
 use std::alloc::{AllocError, Global};
 use std::net::{Net, TcpListener, TcpStream};
@@ -342,14 +342,14 @@ fn shares_of<R: Clock>(
     Some((flags, signer, server))
 }
 
-/// Flags, and a server that sees them. None if no memory is left.
+/// Flags, and a server that sees the one of the end. None if no memory is left.
 fn server_of<R: Clock>(rt: &R, alloc: Global) -> Option<(Flags, Arc<Server, Global>)> {
     let flags = Flags::new(alloc).ok()?;
-    let Ok(seen) = flags.try_clone() else {
+    let Ok(ending) = flags.ending() else {
         drop(flags);
         return None;
     };
-    match Arc::new(alloc, Server::new(rt, alloc, seen)) {
+    match Arc::new(alloc, Server::new(rt, alloc, ending)) {
         Ok(server) => Some((flags, server)),
         Err(refused) => {
             drop(refused);

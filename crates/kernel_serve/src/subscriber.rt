@@ -1,17 +1,11 @@
 //! Connections of IOPub: subscribers, who are written to by the relay alone.
 
-use crate::backlog::Backlog;
-use crate::connection::{hear_out, octets_of};
-use crate::feed::Feed;
-use crate::guest::Guest;
-use crate::reader::{Gauge, Reader};
-use crate::server::Server;
-use crate::socket::Socket;
 use crossbeam_channel::{SendError, Sender};
 use iopub_event::Event;
 use iopub_relay::{Topics, door_event};
 use kernel_limits::limits::READS;
 use kernel_limits::{TopicCount, is_told, may_ask};
+use kernel_sockets::{Backlog, Feed, Gauge, Guest, Reader, Server, Socket, hear_out, octets_of};
 use kernel_workers::Note;
 use listed::Octets;
 use std::alloc::{AllocError, Global};

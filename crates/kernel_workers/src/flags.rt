@@ -64,6 +64,15 @@ impl Flags {
         }
     }
 
+    /// The flag of the end once more, by which others see that the kernel is to end.
+    ///
+    /// # Errors
+    ///
+    /// If the flag has too many owners.
+    pub fn ending(&self) -> Result<Arc<AtomicBool, Global>, AllocError> {
+        Arc::try_clone(&self.ending)
+    }
+
     /// Raises the flag of an interrupt, as a request asks for.
     pub(crate) fn interrupt(&self, asked: &Asked)
         requires { is_interrupt (order_of_request asked.now.does) ≡ true }
@@ -90,7 +99,7 @@ impl Flags {
     }
 
     /// Whether shell is to end, or ends: the whole kernel does then.
-    pub fn is_ending(&self) -> bool {
+    pub(crate) fn is_ending(&self) -> bool {
         self.ending.load(Ordering::SeqCst)
     }
 }

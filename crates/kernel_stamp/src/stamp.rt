@@ -2,8 +2,8 @@
 
 ghost use Rattle.std.specs.Prelude.{◌≡◌, ◌<◌, IfOk, string_bytes};
 ghost use Rattle.jmsg_envelope.specs.Stamp.{numbered, numbered-differ};
-ghost use Rattle.kernel_serve.specs.Dates.{days_of, digit, has_form, is_day, is_in_range, is_leap, is_time};
-ghost use Rattle.kernel_serve.specs.Dates.{is_utc_date, two_digits, zeroed};
+ghost use Rattle.kernel_stamp.specs.Dates.{days_of, digit, has_form, is_day, is_in_range, is_leap, is_time};
+ghost use Rattle.kernel_stamp.specs.Dates.{is_utc_date, two_digits, zeroed};
 
 use jiff::{Error, Timestamp};
 use jmsg_envelope::Stamp;

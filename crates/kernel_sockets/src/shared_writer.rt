@@ -9,17 +9,14 @@ use zmtp_wire::{
 
 /// What a peer is written to: by one thread the replies, and by the other the PONGs, one whole text after the other.
 #[derive(Drop)]
-pub(crate) struct SharedWriter {
+pub struct SharedWriter {
     /// The one that both have.
     writer: Arc<Mutex<Counted<Socket>>, Global>,
 }
 
 impl SharedWriter {
     /// What a peer is written to, for both threads. None if no memory is left.
-    pub(crate) fn twice(
-        alloc: Global,
-        writer: Counted<Socket>,
-    ) -> Option<(SharedWriter, SharedWriter)> {
+    pub fn twice(alloc: Global, writer: Counted<Socket>) -> Option<(SharedWriter, SharedWriter)> {
         let writer = Arc::new(alloc, Mutex::new(writer)).ok()?;
         match Arc::try_clone(&writer) {
             Ok(other) => Some((SharedWriter { writer }, SharedWriter { writer: other })),
@@ -31,25 +28,25 @@ impl SharedWriter {
     }
 
     /// Writes a message, and answers whether that went well.
-    pub(crate) fn message<R: Wait>(&self, rt: &R, alloc: Global, frames: &[Vec<u8>]) -> bool {
+    pub fn message<R: Wait>(&self, rt: &R, alloc: Global, frames: &[Vec<u8>]) -> bool {
         let mut writer = self.writer.lock(rt);
         write_whole(alloc, &mut writer, frames)
     }
 
     /// Writes a PONG, and answers whether that went well.
-    pub(crate) fn pong<R: Wait>(&self, rt: &R, pong: &Head) -> bool {
+    pub fn pong<R: Wait>(&self, rt: &R, pong: &Head) -> bool {
         let mut writer = self.writer.lock(rt);
         write_all(&mut *writer, pong.octets()).is_ok()
     }
 }
 
 /// The PONG that answers traffic, if that is a PING.
-pub(crate) fn pong_to(traffic: &Traffic) -> Option<Head> {
+pub fn pong_to(traffic: &Traffic) -> Option<Head> {
     Some(pong_text(read_ping(traffic)?))
 }
 
 /// Writes a message in as few writes as memory allows, and answers whether that went well.
-pub(crate) fn write_whole(alloc: Global, writer: &mut Counted<Socket>, frames: &[Vec<u8>]) -> bool {
+pub fn write_whole(alloc: Global, writer: &mut Counted<Socket>, frames: &[Vec<u8>]) -> bool {
     if frames.is_empty() {
         return true;
     }

@@ -8,7 +8,7 @@ use std::sync::{Mutex, Wait};
 
 /// How far a connection is.
 #[derive(Clone, Copy, Debug, PartialEq, Eq)]
-pub(crate) enum Standing {
+pub enum Standing {
     /// It shakes hands.
     Shaking,
     /// It is served.
@@ -32,7 +32,7 @@ struct Open {
 
 /// What the threads round a port share.
 #[derive(Drop)]
-pub(crate) struct Gate {
+pub struct Gate {
     /// Whether the port is to end.
     ending: AtomicBool,
     /// Whether no further connection is accepted.
@@ -43,7 +43,7 @@ pub(crate) struct Gate {
 
 impl Gate {
     /// The gate of a port that has no connection yet.
-    pub(crate) fn new(alloc: Global) -> Gate {
+    pub fn new(alloc: Global) -> Gate {
         Gate {
             ending: AtomicBool::new(false),
             closed: AtomicBool::new(false),
@@ -52,22 +52,22 @@ impl Gate {
     }
 
     /// Says that the port is to end.
-    pub(crate) fn end(&self) {
+    pub fn end(&self) {
         self.ending.store(true, Ordering::SeqCst);
     }
 
     /// Whether the port is to end.
-    pub(crate) fn is_ending(&self) -> bool {
+    pub fn is_ending(&self) -> bool {
         self.ending.load(Ordering::SeqCst)
     }
 
     /// Says that no further connection is accepted.
-    pub(crate) fn close(&self) {
+    pub fn close(&self) {
         self.closed.store(true, Ordering::SeqCst);
     }
 
     /// Whether no further connection is accepted.
-    pub(crate) fn is_closed(&self) -> bool {
+    pub fn is_closed(&self) -> bool {
         self.closed.load(Ordering::SeqCst)
     }
 
@@ -77,12 +77,7 @@ impl Gate {
     /// # Errors
     ///
     /// If memory is refused. The connection is not among them.
-    pub(crate) fn enter<R: Wait>(
-        &self,
-        rt: &R,
-        id: u64,
-        socket: Socket,
-    ) -> Result<bool, AllocError> {
+    pub fn enter<R: Wait>(&self, rt: &R, id: u64, socket: Socket) -> Result<bool, AllocError> {
         let mut open = self.open.lock(rt);
         let place = place_among(open.as_slice());
         if place == Place::Taken {
@@ -101,7 +96,7 @@ impl Gate {
     }
 
     /// Says how far a connection is, unless a newcomer has its place.
-    pub(crate) fn stand<R: Wait>(&self, rt: &R, id: u64, standing: Standing) {
+    pub fn stand<R: Wait>(&self, rt: &R, id: u64, standing: Standing) {
         let mut open = self.open.lock(rt);
         if let Some(connection) = open.iter_mut().find(|connection| connection.id == id) {
             if connection.standing != Standing::Replaced {
@@ -111,12 +106,12 @@ impl Gate {
     }
 
     /// Takes a connection out, whose thread ends.
-    pub(crate) fn leave<R: Wait>(&self, rt: &R, id: u64) {
+    pub fn leave<R: Wait>(&self, rt: &R, id: u64) {
         self.open.lock(rt).retain(|connection| connection.id != id);
     }
 
     /// Whether a connection's thread hasn't ended.
-    pub(crate) fn holds<R: Wait>(&self, rt: &R, id: u64) -> bool {
+    pub fn holds<R: Wait>(&self, rt: &R, id: u64) -> bool {
         self.open
             .lock(rt)
             .binary_search_by_key(&id, |connection| connection.id)
@@ -124,19 +119,19 @@ impl Gate {
     }
 
     /// Whether no connection has a thread any more.
-    pub(crate) fn is_empty<R: Wait>(&self, rt: &R) -> bool {
+    pub fn is_empty<R: Wait>(&self, rt: &R) -> bool {
         self.open.lock(rt).is_empty()
     }
 
     /// Ends what the connections that are open read: each read that waits finds no octet any more.
-    pub(crate) fn end_reads<R: Wait>(&self, rt: &R) {
+    pub fn end_reads<R: Wait>(&self, rt: &R) {
         for connection in self.open.lock(rt).iter() {
             connection.socket.end_reads();
         }
     }
 
     /// Closes the connections that are open: what is due to their peers is lost.
-    pub(crate) fn shut_all<R: Wait>(&self, rt: &R) {
+    pub fn shut_all<R: Wait>(&self, rt: &R) {
         for connection in self.open.lock(rt).iter() {
             connection.socket.shut();
         }

@@ -4,10 +4,9 @@
 use crate::socket::Socket;
 use kernel_limits::limits::FREED_MILLIS;
 use kernel_limits::{Part, Waste, is_overfull, may_hold, share_excess};
-use kernel_workers::Flags;
 use std::alloc::Global;
-use std::sync::atomic::{AtomicU64, AtomicUsize, Ordering};
-use std::sync::{Condvar, Mutex, Wait};
+use std::sync::atomic::{AtomicBool, AtomicU64, AtomicUsize, Ordering};
+use std::sync::{Arc, Condvar, Mutex, Wait};
 use std::time::{Clock, Duration, Instant};
 
 /// For how many milliseconds it is waited at a time until closed connections let go of what they hold.
@@ -96,11 +95,11 @@ impl Unfinished {
 
 /// What all threads of a server share.
 #[derive(Drop)]
-pub(crate) struct Server {
+pub struct Server {
     /// When the server began, if the clock could be read.
     began: Option<Instant>,
-    /// By which it is seen that the kernel is to end.
-    flags: Flags,
+    /// Whether the kernel is to end.
+    is_ending: Arc<AtomicBool, Global>,
     /// When that was seen first, in milliseconds and one more; 0 if it wasn't.
     ending: AtomicU64,
     /// How many numbers were given to connections.
@@ -118,11 +117,11 @@ pub(crate) struct Server {
 }
 
 impl Server {
-    /// A server that begins now, of a kernel with these flags.
-    pub(crate) fn new<R: Clock>(rt: &R, alloc: Global, flags: Flags) -> Server {
+    /// A server that begins now, of a kernel with a flag that is raised once it is to end.
+    pub fn new<R: Clock>(rt: &R, alloc: Global, is_ending: Arc<AtomicBool, Global>) -> Server {
         Server {
             began: Instant::now(rt).ok(),
-            flags,
+            is_ending,
             ending: AtomicU64::new(0),
             numbers: AtomicU64::new(0),
             beyond: AtomicUsize::new(0),
@@ -138,7 +137,7 @@ impl Server {
     }
 
     /// How many milliseconds have passed since the server began: none as long as the clock can't be read.
-    pub(crate) fn millis<R: Clock>(&self, rt: &R) -> u64 {
+    pub fn millis<R: Clock>(&self, rt: &R) -> u64 {
         let Some(began) = self.began else {
             return 0;
         };
@@ -156,7 +155,7 @@ impl Server {
 
     /// Since when the kernel is to end, as far as it was looked at. None as long as it isn't to.
     pub(crate) fn ending_since<R: Clock>(&self, rt: &R) -> Option<u64> {
-        if !self.flags.is_ending() {
+        if !self.is_ending.load(Ordering::SeqCst) {
             return None;
         }
         let now = self.millis(rt);
@@ -192,7 +191,7 @@ impl Server {
 
     /// Counts topics that take so many octets more, and answers whether there is room for them. They aren't counted
     /// otherwise.
-    pub(crate) fn hold_topics<R: Wait>(&self, rt: &R, more: usize) -> bool {
+    pub fn hold_topics<R: Wait>(&self, rt: &R, more: usize) -> bool {
         let mut all = self.topics.lock(rt);
         let is_room = may_hold(*all, more);
         if is_room {
@@ -202,7 +201,7 @@ impl Server {
     }
 
     /// Counts topics that take so many octets less.
-    pub(crate) fn free_topics<R: Wait>(&self, rt: &R, less: usize) {
+    pub fn free_topics<R: Wait>(&self, rt: &R, less: usize) {
         let mut all = self.topics.lock(rt);
         *all = all.saturating_sub(less);
     }

@@ -7,7 +7,7 @@ use std::sync::{Arc, Wait};
 use std::time::Clock;
 
 /// What the relay writes to for a subscriber. What is left of the backlog once it is dropped is still written.
-pub(crate) struct Feed<R: Wait + Clock + Drop> {
+pub struct Feed<R: Wait + Clock + Drop> {
     /// The handle to wait by.
     rt: R,
     /// What the subscriber has yet to be written.
@@ -16,7 +16,7 @@ pub(crate) struct Feed<R: Wait + Clock + Drop> {
 
 impl<R: Wait + Clock + Drop> Feed<R> {
     /// The feed of a subscriber with this backlog.
-    pub(crate) fn new(rt: R, backlog: Arc<Backlog, Global>) -> Feed<R> {
+    pub fn new(rt: R, backlog: Arc<Backlog, Global>) -> Feed<R> {
         Feed { rt, backlog }
     }
 }

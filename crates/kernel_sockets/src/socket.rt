@@ -35,7 +35,7 @@ struct Shared {
 
 /// The socket of a connection. All that are cloned of one share its file descriptor, which is closed with the last.
 #[derive(Drop)]
-pub(crate) struct Socket {
+pub struct Socket {
     /// What they share.
     shared: Arc<Shared, Global>,
 }
@@ -46,7 +46,7 @@ impl Socket {
     /// # Errors
     ///
     /// If it refuses what is set, or memory is refused. The connection is closed then.
-    pub(crate) fn new(alloc: Global, stream: TcpStream) -> io::Result<Socket> {
+    pub fn new(alloc: Global, stream: TcpStream) -> io::Result<Socket> {
         stream.set_nodelay(true)?;
         stream.set_write_timeout(Some(Duration::from_millis(PAUSE)))?;
         set_options(&stream);
@@ -65,7 +65,7 @@ impl Socket {
     /// # Errors
     ///
     /// If it has too many owners.
-    pub(crate) fn try_clone(&self) -> Result<Socket, AllocError> {
+    pub fn try_clone(&self) -> Result<Socket, AllocError> {
         Ok(Socket {
             shared: Arc::try_clone(&self.shared)?,
         })
@@ -117,17 +117,17 @@ impl Socket {
     }
 
     /// Whether nothing is read any more.
-    pub(crate) fn is_ended(&self) -> bool {
+    pub fn is_ended(&self) -> bool {
         self.shared.is_ended.load(Ordering::SeqCst)
     }
 
     /// Whether the socket was shut down.
-    pub(crate) fn is_shut(&self) -> bool {
+    pub fn is_shut(&self) -> bool {
         self.shared.is_shut.load(Ordering::SeqCst)
     }
 
     /// Whether the peer has closed its side, or the connection broke, though something may still be to be read.
-    pub(crate) fn has_hung_up(&self) -> bool {
+    pub fn has_hung_up(&self) -> bool {
         let mut looked = [pollfd {
             fd: self.shared.stream.as_raw_fd(),
             events: net::POLLRDHUP,
@@ -139,7 +139,7 @@ impl Socket {
     }
 
     /// Ends what is read: a read that waits, and each one after it, finds no octet any more.
-    pub(crate) fn end_reads(&self) {
+    pub fn end_reads(&self) {
         // The system still hands out what comes once it has shut a socket down for reads.
         self.shared.is_ended.store(true, Ordering::SeqCst);
         // One that its peer has shut down already is fine, here and below.
@@ -147,7 +147,7 @@ impl Socket {
     }
 
     /// Shuts the socket down, for reads too.
-    pub(crate) fn shut(&self) {
+    pub fn shut(&self) {
         self.shared.is_ended.store(true, Ordering::SeqCst);
         self.shared.is_shut.store(true, Ordering::SeqCst);
         let _ = self.shared.stream.shutdown(Shutdown::Both);

@@ -17,7 +17,7 @@ const MEMORY_LOOK: u64 = 50;
 
 /// What a connection's reader and those who look at what it read share.
 #[derive(Drop)]
-pub(crate) struct Gauge {
+pub struct Gauge {
     /// The connection's number.
     number: u64,
     /// What it has unfinished.
@@ -28,7 +28,7 @@ pub(crate) struct Gauge {
 
 impl Gauge {
     /// The gauge of a connection that begins to shake hands now.
-    pub(crate) fn new<R: Clock>(rt: &R, server: Arc<Server, Global>) -> Gauge {
+    pub fn new<R: Clock>(rt: &R, server: Arc<Server, Global>) -> Gauge {
         let meter = Meter::shake(server.millis(rt));
         Gauge {
             number: server.next_number(),
@@ -38,17 +38,17 @@ impl Gauge {
     }
 
     /// The time, in milliseconds since the server began.
-    pub(crate) fn now<R: Clock>(&self, rt: &R) -> u64 {
+    pub fn now<R: Clock>(&self, rt: &R) -> u64 {
         self.server.millis(rt)
     }
 
     /// Hands were shaken: from now on each message may have so many octets.
-    pub(crate) fn open<R: Wait>(&self, rt: &R, most: usize) {
+    pub fn open<R: Wait>(&self, rt: &R, most: usize) {
         self.meter.lock(rt).open(most);
     }
 
     /// A message became whole, whose shortest text has so many octets.
-    pub(crate) fn finish<R: Wait + Clock>(&self, rt: &R, octets: usize) {
+    pub fn finish<R: Wait + Clock>(&self, rt: &R, octets: usize) {
         let now = self.server.millis(rt);
         let mut meter = self.meter.lock(rt);
         let was_much = meter.excess() > 0;
@@ -61,7 +61,7 @@ impl Gauge {
     }
 
     /// The connection's reader goes on, which didn't read for a while.
-    pub(crate) fn resume<R: Wait + Clock>(&self, rt: &R) {
+    pub fn resume<R: Wait + Clock>(&self, rt: &R) {
         let now = self.server.millis(rt);
         self.meter.lock(rt).resume(now);
     }
@@ -97,7 +97,7 @@ impl Gauge {
 
 /// What is read of a connection. If a handshake or a message has more octets than it may, or takes longer, the
 /// connection is closed. Without memory no message is begun, so that what a peer sends waits and isn't lost.
-pub(crate) struct Reader<R: Wait + Clock + Drop> {
+pub struct Reader<R: Wait + Clock + Drop> {
     /// The handle to wait by.
     rt: R,
     /// Where memory comes from.
@@ -112,12 +112,7 @@ pub(crate) struct Reader<R: Wait + Clock + Drop> {
 
 impl<R: Wait + Clock + Drop> Reader<R> {
     /// What is read of this socket.
-    pub(crate) fn new(
-        rt: R,
-        alloc: Global,
-        gauge: Arc<Gauge, Global>,
-        socket: Socket,
-    ) -> Reader<R> {
+    pub fn new(rt: R, alloc: Global, gauge: Arc<Gauge, Global>, socket: Socket) -> Reader<R> {
         Reader {
             rt,
             alloc,

@@ -11,17 +11,17 @@ use zmtp_wire::Counted;
 
 /// A connection, as those see it who serve it.
 #[derive(Drop)]
-pub(crate) struct Guest {
+pub struct Guest {
     /// Its number on its port.
-    pub(crate) id: u64,
+    pub id: u64,
     /// What the threads round the port share.
-    pub(crate) gate: Arc<Gate, Global>,
+    pub gate: Arc<Gate, Global>,
     /// What all share.
-    pub(crate) server: Arc<Server, Global>,
+    pub server: Arc<Server, Global>,
     /// What it has unfinished.
-    pub(crate) gauge: Arc<Gauge, Global>,
+    pub gauge: Arc<Gauge, Global>,
     /// Its socket.
-    pub(crate) socket: Socket,
+    pub socket: Socket,
 }
 
 impl Guest {
@@ -30,7 +30,7 @@ impl Guest {
     /// # Errors
     ///
     /// If something has too many owners.
-    pub(crate) fn halves<R>(
+    pub fn halves<R>(
         &self,
         rt: R,
         alloc: Global,
@@ -57,13 +57,13 @@ impl Guest {
     }
 
     /// Hands were shaken with its peer, each of whose messages may have so many octets.
-    pub(crate) fn open<R: Wait>(&self, rt: &R, most: usize) {
+    pub fn open<R: Wait>(&self, rt: &R, most: usize) {
         self.gauge.open(rt, most);
         self.gate.stand(rt, self.id, Standing::Served);
     }
 
     /// Its peer has closed its side, or isn't heard any more.
-    pub(crate) fn peer_left<R: Wait>(&self, rt: &R) {
+    pub fn peer_left<R: Wait>(&self, rt: &R) {
         self.gate.stand(rt, self.id, Standing::Left);
     }
 }

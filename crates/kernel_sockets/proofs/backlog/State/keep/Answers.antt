@@ -1,4 +1,4 @@
-use Rattle.kernel_serve.proofs.backlog.State.keep.Goals as goal
+use Rattle.kernel_sockets.proofs.backlog.State.keep.Goals as goal
 
 pub returns-in-Err : goal.returns-in-Err
 returns-in-Err c = c.wait_or_fail.ensures _

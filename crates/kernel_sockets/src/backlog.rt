@@ -3,7 +3,7 @@
 
 ghost use Rattle.std.specs.Prelude.{ℕ, ◌<◌, ◌≤◌, length, IfSome};
 ghost use Rattle.std.specs.Io.{WritesAtMost};
-ghost use Rattle.kernel_serve.specs.Backlog.{IsTried};
+ghost use Rattle.kernel_sockets.specs.Backlog.{IsTried};
 
 use crate::server::Server;
 use crate::socket::Socket;
@@ -105,7 +105,7 @@ enum Tried {
 
 /// What a subscriber has yet to be written.
 #[derive(Drop)]
-pub(crate) struct Backlog {
+pub struct Backlog {
     /// Where octets take their memory.
     alloc: Global,
     /// What all share.
@@ -118,7 +118,7 @@ pub(crate) struct Backlog {
 
 impl Backlog {
     /// The backlog of a subscriber for whom nothing has come yet.
-    pub(crate) fn new(alloc: Global, server: Arc<Server, Global>) -> Backlog {
+    pub fn new(alloc: Global, server: Arc<Server, Global>) -> Backlog {
         Backlog {
             alloc,
             server,
@@ -193,7 +193,7 @@ impl Backlog {
 
     /// Writes what comes, until nothing comes any more and all is written, or a write failed, or the subscriber was too
     /// slow. Then it shuts the socket down.
-    pub(crate) fn write_all<R: Wait + Clock>(&self, rt: &R, socket: &Socket) {
+    pub fn write_all<R: Wait + Clock>(&self, rt: &R, socket: &Socket) {
         for _ in rt.forever() {
             let Some(chunk) = self.take(rt) else {
                 break;
@@ -284,7 +284,7 @@ impl Backlog {
 
     /// Waits until the socket is shut down: all was written, or the subscriber was given up, be it because a newcomer
     /// has its place. What is kept still is dropped.
-    pub(crate) fn wait_until_shut<R: Wait + Clock>(&self, rt: &R, socket: &Socket) {
+    pub fn wait_until_shut<R: Wait + Clock>(&self, rt: &R, socket: &Socket) {
         for _ in rt.forever() {
             if socket.is_shut() {
                 break;
