@@ -43,7 +43,7 @@ impl<R: Wait + Clock + Drop> Echo<R> {
     fn write_back(&mut self, traffic: &Traffic) -> bool {
         match traffic {
             Traffic::Message(message) => {
-                write_whole(self.alloc, &mut self.writer, message.as_slice())
+                write_whole(self.alloc, &mut self.writer, message.as_slice()).is_ok()
             }
             Traffic::Command(..) => match pong_to(traffic) {
                 Some(pong) => write_all(&mut self.writer, pong.octets()).is_ok(),

@@ -1,5 +1,8 @@
 //! What connections of every port have in common as they hear a peer.
 
+ghost use Rattle.std.specs.Prelude.{◌≡◌, min};
+ghost use Rattle.kernel_sockets.specs.Hearing.{is_named_well, octets_of};
+
 use crate::reader::Reader;
 use kernel_limits::limits::{IDENTITY_OCTETS, READS};
 use std::alloc::Global;
@@ -8,8 +11,11 @@ use std::time::Clock;
 use zmtp_connection::{Intake, OpenPeer, hear};
 use zmtp_wire::{Counted, Traffic, text_len};
 
-/// How many octets the shortest text of some traffic has, as far as that can be counted.
-pub fn octets_of(traffic: &Traffic) -> usize {
+/// How many octets some traffic counts for, or as many as can be counted: a message for its shortest text, a command
+/// for its name and what follows that.
+pub fn octets_of(traffic: &Traffic) -> usize
+    ensures { result ≡ min (octets_of traffic.now) usize.MAX }
+{
     match traffic {
         Traffic::Message(message) => text_len(message.as_slice()).unwrap_or(usize::MAX),
         Traffic::Command(name, rest) => name.as_slice().len().saturating_add(rest.as_slice().len()),
@@ -35,6 +41,8 @@ where
 }
 
 /// Whether a peer's identity isn't too long.
-pub fn is_named_well(peer: &OpenPeer) -> bool {
+pub fn is_named_well(peer: &OpenPeer) -> bool
+    ensures { result ≡ is_named_well peer.now.identity }
+{
     peer.identity().len() <= IDENTITY_OCTETS
 }

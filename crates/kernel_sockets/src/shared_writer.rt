@@ -1,10 +1,17 @@
 //! What a peer of shell or control is written to, which the two threads of its connection share.
 
+ghost use Rattle.std.specs.Prelude.{◌≡◌};
+ghost use Rattle.kernel_sockets.specs.Hearing.{pong_of};
+ghost use Rattle.listed.specs.Bodies.{bodies};
+ghost use Rattle.zmtp_wire.specs.Device.{AddsAll};
+ghost use Rattle.zmtp_wire.specs.Frame.{text};
+
 use crate::socket::Socket;
 use std::alloc::{AllocError, Global};
 use std::sync::{Arc, Mutex, Wait};
 use zmtp_wire::{
-    Counted, Head, Traffic, pong_text, read_ping, write_all, write_frames, write_message,
+    Counted, Head, Outlet, Traffic, WriteFailed, pong_text, read_ping, write_all, write_frames,
+    write_message,
 };
 
 /// What a peer is written to: by one thread the replies, and by the other the PONGs, one whole text after the other.
@@ -30,7 +37,7 @@ impl SharedWriter {
     /// Writes a message, and answers whether that went well.
     pub fn message<R: Wait>(&self, rt: &R, alloc: Global, frames: &[Vec<u8>]) -> bool {
         let mut writer = self.writer.lock(rt);
-        write_whole(alloc, &mut writer, frames)
+        write_whole(alloc, &mut *writer, frames).is_ok()
     }
 
     /// Writes a PONG, and answers whether that went well.
@@ -41,19 +48,31 @@ impl SharedWriter {
 }
 
 /// The PONG that answers traffic, if that is a PING.
-pub fn pong_to(traffic: &Traffic) -> Option<Head> {
+pub fn pong_to(traffic: &Traffic) -> Option<Head>
+    ensures { result ≡ pong_of traffic.now }
+{
     Some(pong_text(read_ping(traffic)?))
 }
 
-/// Writes a message in as few writes as memory allows, and answers whether that went well.
-pub fn write_whole(alloc: Global, writer: &mut Counted<Socket>, frames: &[Vec<u8>]) -> bool {
+/// Writes a message in as few writes as memory allows: its text, or nothing if it has no frames.
+///
+/// # Errors
+///
+/// At the first write that fails or takes nothing. A beginning of the text was added.
+pub fn write_whole<W: Outlet>(
+    alloc: Global,
+    writer: &mut W,
+    frames: &[Vec<u8>],
+) -> Result<(), WriteFailed>
+    ensures { AddsAll (W.outflow writer.old) (W.outflow writer.new) result (text (bodies frames.now)) }
+{
     if frames.is_empty() {
-        return true;
+        return write_frames(writer, frames);
     }
     let mut text = Vec::new(alloc);
     match write_message(alloc, frames, &mut text) {
-        Ok(()) => write_all(writer, &text).is_ok(),
+        Ok(()) => write_all(writer, &text),
         // A text takes memory, and its frames take none.
-        Err(_) => write_frames(writer, frames).is_ok(),
+        Err(_) => write_frames(writer, frames),
     }
 }
