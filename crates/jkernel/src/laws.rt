@@ -4,14 +4,15 @@ ghost use Rattle.std.specs.Prelude.{◌≡◌, ℕ, List, Option, Some};
 ghost use Rattle.arith_shell.specs.ShellArithmetic.{shell_meaning};
 ghost use Rattle.conn_file.specs.Kernelspec.{kernel_words, started_by};
 ghost use Rattle.kernel_program.specs.Program.{DoesOrder, GivenWords, RefusesToBegin};
-ghost use Rattle.kernel_program.specs.Session.{LinesHaveOneValue};
+ghost use Rattle.kernel_replay.specs.Session.{LinesHaveOneValue};
 ghost use Rattle.jkernel.specs.Arithmetic.{arithmetic, kernelspec, program_name};
 ghost use Rattle.jkernel.specs.Unraised.{NeverRaises};
 
 use crate::arithmetic::Arithmetic;
 use arith_shell::ShellArith;
 use interp_core::Interpreter;
-use kernel_program::{Language, law_one_text, law_program_is_started};
+use kernel_program::{Language, law_program_is_started};
+use kernel_replay::law_one_text;
 
 /// The kernel of this program is one of shell arithmetic, which begins with no variable assigned.
 pub fn law_kernel_is_of_arithmetic(language: &Arithmetic)

@@ -9,9 +9,6 @@ use arithmetic::Arithmetic;
 use kernel_program::start;
 use std::process::ExitCode;
 
-#[cfg(test)]
-mod tests;
-
 /// Starts the program of shell arithmetic.
 fn main(rt: HostRuntime) -> ExitCode {
     laws::law_kernel_is_of_arithmetic(&Arithmetic);

@@ -2,22 +2,23 @@
 use Rattle.std.proofs.Common.{◌≡◌, ◌⊎◌, inl, inr, ℕ, List, Option, Some, None, refl, subst}
 use Rattle.std.specs.Prelude.{IfSome, []}
 use Rattle.interp_core.specs.Interpreter.{Meaning}
-use Rattle.kernel_program.specs.declared.input.HexFault.{HexFault}
-use Rattle.kernel_program.specs.declared.input.HexFault.TheVariants as unread
+use Rattle.kernel_replay.specs.declared.input.HexFault.{HexFault}
+use Rattle.kernel_replay.specs.declared.input.HexFault.TheVariants as unread
 use Rattle.kernel_program.specs.declared.language.BeginFault.{BeginFault}
 use Rattle.kernel_program.specs.declared.language.BeginFault.TheVariants as unbegun
 use Rattle.kernel_program.specs.declared.status.Status.{Status}
 use Rattle.kernel_program.specs.declared.status.Status.TheVariants.{Done, Failed, WordsRefused, WordsUnreadable}
 use Rattle.kernel_program.specs.declared.status.Status.TheVariants.{FileUnreadable, FileRefused, CannotBind}
 use Rattle.kernel_program.specs.declared.status.Status.TheVariants.{Incomplete, InputRefused, BeginRefused}
-use Rattle.kernel_program.specs.declared.words.Order.{Order}
-use Rattle.kernel_program.specs.declared.words.Order.TheVariants.{Replay, Serve}
-use Rattle.kernel_program.specs.Lines.{hex_octets}
+use Rattle.kernel_words.specs.declared.words.Order.{Order}
+use Rattle.kernel_words.specs.declared.words.Order.TheVariants.{Replay, Serve}
+use Rattle.kernel_replay.specs.Lines.{hex_octets}
 use Rattle.kernel_program.specs.Profile.{IsRefusal, Profile}
 use Rattle.kernel_program.specs.Program.{EndsPrint, EndsReplay, EndsServe, EndsServing, IsCarriedOut, PrintsNothing}
 use Rattle.kernel_program.specs.Program.{IsUnbegun, JudgesFile}
 use Rattle.kernel_program.specs.Program.{Obeys}
-use Rattle.kernel_program.specs.Replay.{EndsAnswer, IsNotHex, IsReplayed, Replays}
+use Rattle.kernel_replay.specs.Replay.{IsNotHex, IsReplayed}
+use Rattle.kernel_program.specs.Replay.{EndsAnswer, Replays}
 use Rattle.kernel_program.specs.Status.{begin_status, unread_status}
 
 -- what is served ends as if any reason to refuse an interpreter were allowed

@@ -7,11 +7,11 @@ use Rattle.kernel_program.specs.declared.status.Status.{Status}
 use Rattle.kernel_program.specs.declared.status.Status.TheVariants.{Done, Failed, WordsRefused, WordsUnreadable}
 use Rattle.kernel_program.specs.declared.status.Status.TheVariants.{FileUnreadable, FileRefused, CannotBind}
 use Rattle.kernel_program.specs.declared.status.Status.TheVariants.{Incomplete, InputRefused, BeginRefused}
-use Rattle.kernel_program.specs.declared.words.Order.{Order}
-use Rattle.kernel_program.specs.declared.words.Order.TheVariants.{Replay, Serve, KernelSpec, Help}
+use Rattle.kernel_words.specs.declared.words.Order.{Order}
+use Rattle.kernel_words.specs.declared.words.Order.TheVariants.{Replay, Serve, KernelSpec, Help}
 use Rattle.kernel_program.specs.Profile.{Profile}
 use Rattle.kernel_program.specs.Program.{ProgramEnds, IsReplay, IsServe, Obeys}
-use Rattle.kernel_program.specs.Words.{IsOrder, IsOrdered}
+use Rattle.kernel_words.specs.Words.{IsOrder, IsOrdered}
 
 -- words order that a file be served, if what they order is to serve
 serve_ordered : (name : Text) (words : List Text) (order : Order) → IsOrdered name words order → IsServe order

@@ -1,9 +1,5 @@
-pub mod Lines
 pub mod Profile
 pub mod Program
 pub mod Replay
-pub mod Session
-pub mod Stamp
 pub mod Status
 pub mod Told
-pub mod Words

@@ -10,15 +10,15 @@ use Rattle.std.specs.declared.io.ErrorKind.TheVariants.{InvalidData}
 use Rattle.clap.specs.Words.{Text}
 use Rattle.conn_file.specs.Connection.{connection_of}
 use Rattle.interp_core.specs.Interpreter.{Meaning}
-use Rattle.kernel_program.specs.declared.words.Order.{Order}
-use Rattle.kernel_program.specs.declared.words.Order.TheVariants.{Replay, Serve, KernelSpec, Help}
+use Rattle.kernel_words.specs.declared.words.Order.{Order}
+use Rattle.kernel_words.specs.declared.words.Order.TheVariants.{Replay, Serve, KernelSpec, Help}
 use Rattle.kernel_program.specs.declared.status.Status.{Status}
 use Rattle.kernel_program.specs.declared.status.Status.TheVariants.{Done, Failed, WordsRefused, WordsUnreadable}
 use Rattle.kernel_program.specs.declared.status.Status.TheVariants.{FileUnreadable, FileRefused, CannotBind}
 use Rattle.kernel_program.specs.declared.status.Status.TheVariants.{Incomplete, InputRefused, BeginRefused}
 use Rattle.kernel_program.specs.Profile.{Profile}
-use Rattle.kernel_program.specs.Replay.{IsNotHex, IsReplayed}
-use Rattle.kernel_program.specs.Words.{AreWrong, IsOrder, IsOrdered, order_of_words}
+use Rattle.kernel_replay.specs.Replay.{IsNotHex, IsReplayed}
+use Rattle.kernel_words.specs.Words.{AreWrong, IsOrder, IsOrdered, order_of_words}
 
 -- the order is a replay
 abbrev pub IsReplay : Order → Type 0

@@ -4,8 +4,8 @@ use Rattle.kernel_program.specs.declared.status.Status.{Status}
 use Rattle.kernel_program.specs.declared.status.Status.TheVariants.{Done, Failed, WordsRefused, WordsUnreadable}
 use Rattle.kernel_program.specs.declared.status.Status.TheVariants.{FileUnreadable, FileRefused, CannotBind}
 use Rattle.kernel_program.specs.declared.status.Status.TheVariants.{Incomplete, InputRefused, BeginRefused}
-use Rattle.kernel_program.specs.declared.input.HexFault.{HexFault}
-use Rattle.kernel_program.specs.declared.input.HexFault.TheVariants as refused
+use Rattle.kernel_replay.specs.declared.input.HexFault.{HexFault}
+use Rattle.kernel_replay.specs.declared.input.HexFault.TheVariants as refused
 use Rattle.kernel_program.specs.declared.language.BeginFault.{BeginFault}
 use Rattle.kernel_program.specs.declared.language.BeginFault.TheVariants as faults
 

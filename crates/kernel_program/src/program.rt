@@ -1,6 +1,6 @@
 //! The whole program of a language: what its command words order.
 
-ghost use Rattle.std.specs.Prelude.{◌≡◌, ◌++◌, ◌⊎◌, [], ◌∷◌, Ok};
+ghost use Rattle.std.specs.Prelude.{◌≡◌, ◌++◌, ◌⊎◌, [], ◌∷◌, Ok, IfOk, IfErr, map, string_bytes};
 ghost use Rattle.std.specs.Io.KnownBytes.{Appends};
 ghost use Rattle.std.specs.declared.io.ErrorKind.TheVariants.{InvalidData};
 ghost use Rattle.kernel_program.specs.Program.{DoesOrder, ProgramEnds, EndsPrint, EndsReplay, IsReplay, PrintsNothing};
@@ -8,15 +8,16 @@ ghost use Rattle.kernel_program.specs.Program.{IsUnbegun};
 ghost use Rattle.kernel_program.specs.Program.{Obeys, OrdersReplay, OrdersServe, RefusesInput, RefusesToBegin};
 ghost use Rattle.kernel_program.specs.Program.{RefusesWords};
 ghost use Rattle.kernel_program.specs.Status.{begin_status, status_code};
+ghost use Rattle.kernel_words.specs.Words.{IsOrdered, IsRefusedBy};
 
 use crate::language::{BeginFault, Language};
-use crate::lines::write_out;
 use crate::replay::replay;
 use crate::serving::serve;
 use crate::status::{Status, tell_status};
-use crate::words::{Order, WordsFault, read_words};
 use interp_core::Interpreter;
+use kernel_replay::write_out;
 use kernel_serve::Until;
+use kernel_words::{HelpText, Order, WordsFault, read_words};
 use listed::Text;
 use std::alloc::Global;
 use std::fs::Files;
@@ -179,11 +180,27 @@ where
     ensures unread { IsUnbegun result → reader.new ≡ reader.old }
     ensures reader { OrdersReplay (L.profile language.now).name (Ok words.now) ⊎ (reader.new ≡ reader.old) }
 {
-    match read_words(alloc, language, words) {
+    match words_of(alloc, language, words) {
         Ok(order) => obey(rt, alloc, language, order, until, reader, writer, faults),
         Err(WordsFault::Refused(said)) => Status::WordsRefused(said),
         Err(WordsFault::OutOfMemory) => Status::Failed,
     }
+}
+
+/// Reads the words after the name of a language's program.
+///
+/// # Errors
+///
+/// `Refused` with what is wrong with them, or `OutOfMemory`.
+fn words_of<L: Language>(alloc: Global, language: &L, words: &[String]) -> Result<Order, WordsFault>
+    ensures ordered { IfOk result (IsOrdered (L.profile language.now).name (map string_bytes words.now)) }
+    ensures refused { IfErr result (IsRefusedBy (L.profile language.now).name (map string_bytes words.now)) }
+{
+    let help = HelpText {
+        about: language.about(),
+        example: language.example(),
+    };
+    read_words(alloc, language.name(), help, words)
 }
 
 /// Does what is ordered: how the program ends.

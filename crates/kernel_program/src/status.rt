@@ -6,8 +6,8 @@ ghost use Rattle.kernel_serve.specs.Serving.{port_name};
 ghost use Rattle.kernel_program.specs.Status.{ended_status, status_code};
 ghost use Rattle.kernel_program.specs.Told.{line, told_of_status};
 
-use crate::lines::write_out;
 use conn_file::ConnFault;
+use kernel_replay::write_out;
 use kernel_serve::Port;
 use listed::Text;
 use std::io::{self, Write};

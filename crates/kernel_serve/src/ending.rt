@@ -1,10 +1,9 @@
 //! The thread that accepts a port's connections: starting it, and ending it.
 
-use crate::accepting::{Served, accept_all};
 use crate::fault::{Port, ServeFault};
-use crate::service::Service;
 use kernel_limits::grace_left;
 use kernel_limits::limits::{END_WRITE_MILLIS, WAKE_MILLIS};
+use kernel_peers::{ServedPort, Service, accept_all};
 use kernel_sockets::{Gate, Server};
 use std::alloc::{AllocError, Global};
 use std::net::{Net, SocketAddr, TcpListener, TcpStream};
@@ -52,7 +51,7 @@ where
             return Err(fault);
         }
     };
-    let port = Served {
+    let port = ServedPort {
         service,
         gate: shared,
         server,

@@ -2,7 +2,7 @@
 
 use crate::fault::ServeFault;
 use crossbeam_channel::{Receiver, RecvTimeoutError, Sender, unbounded};
-use kernel_workers::{Job, Note};
+use kernel_jobs::{Job, Note};
 use std::alloc::Global;
 use std::os::unix::process::parent_id;
 use std::rt::Process;

@@ -3,23 +3,21 @@
 ghost use Rattle.std.specs.Prelude.{◌≡◌, ◌∷◌, ◌++◌, IfOk, IfSome, true, string_bytes};
 ghost use Rattle.kernel_serve.specs.Stamps.{AreApart};
 
-use crate::connection::Channel;
 use crate::ending::{Acceptor, end_all, start};
 use crate::fault::{Port, ServeFault};
-use crate::mailboxes::Mailboxes;
 use crate::parent::{Until, start_watch};
 use crate::ports::{Ports, bind_ports};
-use crate::service::Service;
-use crate::subscriber::Writer;
 use conn_file::Connection;
 use crossbeam_channel::Sender;
 use interp_core::Interpreter;
 use iopub_event::Event;
 use jmsg_envelope::Signer;
+use kernel_jobs::{Inbox, Job, Note};
 use kernel_limits::limits::QUEUE;
+use kernel_peers::{Channel, Service, SubscriptionsInbox, Writer};
 use kernel_sockets::Server;
 use kernel_stamp::KernelStamp;
-use kernel_workers::{Flags, Inbox, Job, KernelEnd, Note, Parts, run_kernel};
+use kernel_workers::{Flags, KernelEnd, Parts, run_kernel};
 use std::alloc::{AllocError, Global};
 use std::net::{Net, TcpListener, TcpStream};
 use std::random::RandomSource;
@@ -199,16 +197,38 @@ where
         server,
     } = stage;
     drop(signer);
-    let served = match accepts {
+    let served = run_accepted(rt, alloc, parts, until, accepts);
+    end_all(&rt, acceptors, &server);
+    drop(server);
+    served
+}
+
+/// Runs the kernel if its ports accept connections.
+///
+/// # Errors
+///
+/// Why they don't; `NoThread` and `OutOfMemory`.
+fn run_accepted<I, R>(
+    rt: R,
+    alloc: Global,
+    parts: KernelParts<I, R>,
+    until: Until,
+    accepts: Result<(), ServeFault>,
+) -> Result<Served, ServeFault>
+where
+    I: Interpreter + Drop + Send + 'static,
+    I::Cell: Drop + Send + 'static,
+    R: Threads + Wait + Clock + Copy + Send + Sync + Drop + 'static,
+    ensures complete { IfOk result (λ served. served.complete ≡ true) }
+    ensures key { IfOk result (λ served. served.key.value.items ≡ parts.key.items) }
+{
+    match accepts {
         Ok(()) => run_until(rt, alloc, parts, until),
         Err(fault) => {
             drop(parts);
             Err(fault)
         }
-    };
-    end_all(&rt, acceptors, &server);
-    drop(server);
-    served
+    }
 }
 
 /// Runs the kernel, and looks after the parent meanwhile, if that is asked for.
@@ -492,7 +512,7 @@ struct Round<'s, R: Wait + Clock + Drop> {
     /// The requests on control.
     control: &'s Sender<Note<Job>>,
     /// What subscribers come, ask for and leave by.
-    subscriptions: &'s Sender<Note<Event<Writer<R>>>>,
+    subscriptions: &'s SubscriptionsInbox<R>,
     /// What requests are signed with.
     signer: &'s Arc<Signer, Global>,
     /// What all share.
@@ -576,37 +596,10 @@ where
     /// If memory is refused, or something has too many owners.
     fn service_of(&self, alloc: Global, port: Port) -> Result<Service<R>, AllocError> {
         match port {
-            Port::Shell => Ok(Service::Requests(channel_of(alloc, self.shell, self.signer)?)),
+            Port::Shell => Ok(Service::Requests(Channel::new(alloc, self.shell, self.signer)?)),
             Port::Iopub => Ok(Service::Subscriptions(self.subscriptions.clone()?)),
-            Port::Control => Ok(Service::Requests(channel_of(alloc, self.control, self.signer)?)),
+            Port::Control => Ok(Service::Requests(Channel::new(alloc, self.control, self.signer)?)),
             Port::Heartbeat => Ok(Service::Heartbeat),
-        }
-    }
-}
-
-/// The worker of this inbox, as its connections see it.
-///
-/// # Errors
-///
-/// If memory is refused, or something has too many owners.
-fn channel_of(
-    alloc: Global,
-    inbox: &Sender<Note<Job>>,
-    signer: &Arc<Signer, Global>,
-) -> Result<Channel, AllocError> {
-    let inbox = inbox.clone()?;
-    match (
-        Arc::try_clone(signer),
-        Arc::new(alloc, Mailboxes::new(alloc)),
-    ) {
-        (Ok(signer), Ok(mailboxes)) => Ok(Channel {
-            inbox,
-            signer,
-            mailboxes,
-        }),
-        _ => {
-            drop(inbox);
-            Err(AllocError)
         }
     }
 }

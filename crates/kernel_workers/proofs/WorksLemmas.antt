@@ -19,7 +19,7 @@ use Rattle.kernel_engine.specs.declared.fault.EngineFault.TheVariants.{OwedIdle,
 use Rattle.kernel_workers.specs.declared.ended.Cause.{Cause}
 use Rattle.kernel_workers.specs.declared.ended.Cause.TheVariants as causes
 use Rattle.kernel_workers.specs.declared.ended.Ended.{Ended}
-use Rattle.kernel_workers.specs.declared.job.Job.{Job}
+use Rattle.kernel_jobs.specs.declared.job.Job.{Job}
 use Rattle.kernel_workers.specs.declared.outcomes.Answer.{Answer}
 use Rattle.kernel_workers.specs.declared.outcomes.Outcome.{Outcome}
 use Rattle.kernel_workers.specs.declared.outcomes.Outcomes.{Outcomes}

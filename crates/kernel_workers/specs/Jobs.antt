@@ -16,7 +16,7 @@ use Rattle.kernel_engine.specs.World.{World}
 use Rattle.kernel_workers.specs.declared.ended.Asking.{Asking}
 use Rattle.kernel_workers.specs.declared.ended.Cause.{Cause}
 use Rattle.kernel_workers.specs.declared.ended.Cause.TheVariants as causes
-use Rattle.kernel_workers.specs.declared.job.Job.{Job}
+use Rattle.kernel_jobs.specs.declared.job.Job.{Job}
 use Rattle.kernel_workers.specs.declared.work.Work.{Work}
 use Rattle.kernel_workers.specs.Causes.{cause_of}
 use Rattle.kernel_workers.specs.declared.outcomes.Answer.{Answer}

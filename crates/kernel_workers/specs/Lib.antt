@@ -1,6 +1,5 @@
 pub mod Causes
 pub mod Ending
-pub mod First
 pub mod Jobs
 pub mod Outcomes
 pub mod Running

@@ -26,7 +26,7 @@ use Rattle.kernel_workers.specs.declared.outcomes.Outcome.{Outcome}
 use Rattle.kernel_workers.specs.declared.outcomes.Outcome.TheVariants.{Refused}
 use Rattle.kernel_workers.specs.declared.outcomes.Outcomes.{Outcomes}
 use Rattle.kernel_workers.specs.declared.parts.Parts.{Parts}
-use Rattle.kernel_workers.specs.declared.job.Job.{Job}
+use Rattle.kernel_jobs.specs.declared.job.Job.{Job}
 use Rattle.kernel_workers.specs.declared.kernel_end.KernelEnd.{KernelEnd}
 use Rattle.kernel_workers.specs.declared.kernel_end.KernelWork.{KernelWork}
 use Rattle.kernel_workers.specs.declared.kernel_end.WorkDone.{WorkDone}

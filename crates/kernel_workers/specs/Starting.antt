@@ -8,7 +8,7 @@ use Rattle.kernel_engine.specs.declared.parts.Parts.{Parts as Engine}
 use Rattle.kernel_engine.specs.declared.side.Side.{Side}
 use Rattle.kernel_engine.specs.declared.side.Side.TheVariants.{Shell, Control}
 use Rattle.kernel_workers.specs.declared.control.ControlWorker.{ControlWorker}
-use Rattle.kernel_workers.specs.declared.job.Job.{Job}
+use Rattle.kernel_jobs.specs.declared.job.Job.{Job}
 use Rattle.kernel_workers.specs.declared.parts.Parts.{Parts}
 use Rattle.kernel_workers.specs.declared.promises.ClosesSilent.{ClosesSilent}
 use Rattle.kernel_workers.specs.declared.promises.LeavesWork.{LeavesWork}

@@ -12,7 +12,7 @@ use Rattle.kernel_engine.specs.declared.side.Side.TheVariants.{Shell, Control}
 use Rattle.kernel_engine.specs.Starts.{SaysNothing, SaysStarting, StartsNot}
 use Rattle.kernel_engine.specs.World.{world_of}
 use Rattle.kernel_workers.specs.declared.ended.Ended.{Ended}
-use Rattle.kernel_workers.specs.declared.job.Job.{Job}
+use Rattle.kernel_jobs.specs.declared.job.Job.{Job}
 use Rattle.kernel_workers.specs.Jobs.{TakesTurns, doing_of}
 
 module _ {I S W Cell : Type 0} (m : Meaning I Cell) (stamps : Stamping S) where

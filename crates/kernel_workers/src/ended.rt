@@ -3,10 +3,10 @@
 ghost use Rattle.std.specs.Prelude.{◌≡◌};
 ghost use Rattle.kernel_workers.specs.Causes.{restart_of};
 
-use crate::job::ReplyTo;
 use crate::work::Work;
 use interp_core::Interpreter;
 use jmsg_envelope::{Envelope, Stamp};
+use kernel_jobs::ReplyTo;
 use std::sync::Wait;
 
 /// What a worker of shell or control leaves.

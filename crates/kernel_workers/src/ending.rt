@@ -12,8 +12,6 @@ ghost use Rattle.kernel_workers.specs.Starting.{AreOfOne};
 
 use crate::ended::{Asking, Cause};
 use crate::fault::KernelFault;
-use crate::inbox::{Note, is_gone, tell};
-use crate::job::ReplyTo;
 use crate::kernel_end::{KernelEnd, KernelWork};
 use crate::outcomes::Outcome;
 use crate::promises::{ClosesSilent, ServesOn};
@@ -28,6 +26,7 @@ use iopub_queue::{Closed, OpenFault};
 use iopub_relay::{Pumped, Relay};
 use jmsg_envelope::{Envelope, Stamp};
 use kernel_engine::{Engine, EngineFault};
+use kernel_jobs::{Note, ReplyTo, is_gone, tell};
 use listed::Frames;
 use std::alloc::Global;
 use std::snapshot::Snapshot;

@@ -1,9 +1,8 @@
 //! How a kernel ended, and what its workers did.
 
-use crate::arrivals::Arrivals;
-use crate::job::Job;
 use crate::outcomes::Outcomes;
 use iopub_relay::Relay;
+use kernel_jobs::{Arrivals, Job};
 use std::snapshot::Snapshot;
 use zmtp_wire::Outlet;
 

@@ -3,16 +3,12 @@
 //! also after a join. So the kernel's end can say what was published, and what each subscriber got.
 #![tactic(auto)]
 
-mod arrivals;
 mod control;
-mod credit;
 mod draining;
 mod ended;
 mod ending;
 mod fault;
 mod flags;
-mod inbox;
-mod job;
 mod kernel_end;
 mod outcomes;
 mod parts;
@@ -27,14 +23,10 @@ mod waking;
 mod work;
 mod working;
 
-pub use arrivals::Arrivals;
 pub use control::{ControlWorker, ShellEnd};
-pub use credit::{Account, Credit};
 pub use ended::{Asking, Cause, Ended};
 pub use fault::KernelFault;
 pub use flags::Flags;
-pub use inbox::{Inbox, Note};
-pub use job::{Job, ReplyMessage, ReplyTo};
 pub use kernel_end::{KernelEnd, KernelWork, WorkDone};
 pub use outcomes::{Answer, Answers, Outcome, Outcomes};
 pub use parts::Parts;

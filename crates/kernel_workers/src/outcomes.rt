@@ -3,8 +3,8 @@
 ghost use Rattle.std.specs.Prelude.{◌≡◌, [], ◌∷◌, ◌++◌};
 ghost use Rattle.kernel_workers.specs.Outcomes.{Records, is_undone, replied_by};
 
-use crate::job::ReplyTo;
 use ghost_log::Log;
+use kernel_jobs::ReplyTo;
 use listed::Frames;
 use std::marker::Model;
 use std::sync::Wait;

@@ -1,9 +1,8 @@
 //! What a kernel runs on.
 
 use crate::flags::Flags;
-use crate::inbox::Inbox;
-use crate::job::Job;
 use iopub_event::Event;
+use kernel_jobs::{Inbox, Job};
 
 /// What a kernel runs on: interpreters `I`, stamps `S` for ids and dates, and writers `W` of subscribers.
 #[derive(Drop)]

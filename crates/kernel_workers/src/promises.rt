@@ -1,8 +1,6 @@
 //! The promises of the workers, which hold after a join.
 
-use crate::arrivals::Arrivals;
 use crate::ended::Ended;
-use crate::job::Job;
 use crate::waking::Waking;
 use interp_core::Interpreter;
 use iopub_event::Event;
@@ -10,6 +8,7 @@ use iopub_queue::Closed;
 use iopub_relay::Relay;
 use jmsg_envelope::Stamp;
 use kernel_engine::{Engine, Side};
+use kernel_jobs::{Arrivals, Job};
 use std::snapshot::Snapshot;
 use std::sync::Wait;
 use std::thread::Promise;

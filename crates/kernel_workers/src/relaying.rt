@@ -2,13 +2,13 @@
 
 ghost use Rattle.std.specs.Prelude.{◌≡◌, IfOk, IfSome};
 
-use crate::inbox::{Note, tell};
 use crate::promises::ServesOn;
 use crossbeam_channel::Sender;
 use crossbeam_utils::Backoff;
 use crossbeam_utils::sync::{Parker, Unparker};
 use iopub_event::Event;
 use iopub_relay::{Pumped, Relay};
+use kernel_jobs::{Note, tell};
 use std::alloc::{AllocError, Global};
 use std::snapshot::Snapshot;
 use std::sync::atomic::{AtomicBool, Ordering};

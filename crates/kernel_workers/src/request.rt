@@ -7,7 +7,6 @@ ghost use Rattle.kernel_workers.specs.Ending.{EndsBlocked, closed_list};
 ghost use Rattle.kernel_workers.specs.Outcomes.{Records, outcome_of};
 
 use crate::ended::Cause;
-use crate::job::ReplyTo;
 use crate::outcomes::{Outcome, Outcomes};
 use crate::waking::Waking;
 use interp_core::Interpreter;
@@ -15,6 +14,7 @@ use iopub_event::Event;
 use iopub_queue::Closed;
 use jmsg_envelope::Stamp;
 use kernel_engine::{Done, Engine, EngineFault, Order, Response};
+use kernel_jobs::ReplyTo;
 use std::sync::Wait;
 
 /// Answers a message that was taken by what became of it, and says whether that ends the worker.

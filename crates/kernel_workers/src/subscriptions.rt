@@ -3,11 +3,11 @@
 ghost use Rattle.std.specs.Prelude.{◌≡◌, [], All, IfSome};
 ghost use Rattle.kernel_workers.specs.Ending.{EndsSilent, IsNoMessage};
 
-use crate::arrivals::Arrivals;
 use crate::promises::ClosesSilent;
 use crate::waking::Waking;
 use iopub_event::Event;
 use iopub_queue::{Closed, Publish};
+use kernel_jobs::Arrivals;
 use std::snapshot::Snapshot;
 use std::sync::Wait;
 use std::thread;

@@ -1,13 +1,12 @@
 //! What a worker of shell or control has at hand.
 
-use crate::arrivals::Arrivals;
-use crate::job::Job;
 use crate::outcomes::Outcomes;
 use crate::waking::Waking;
 use interp_core::Interpreter;
 use iopub_event::Event;
 use jmsg_envelope::Stamp;
 use kernel_engine::Engine;
+use kernel_jobs::{Arrivals, Job};
 use std::sync::Wait;
 
 /// What a worker of shell or control has at hand, and leaves.

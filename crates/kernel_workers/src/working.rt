@@ -7,10 +7,10 @@ ghost use Rattle.kernel_workers.specs.Jobs.{DoesJob, Doing, TakesTurn, TakesTurn
 ghost use Rattle.kernel_workers.specs.Staying.{IsSameEngine};
 
 use crate::ended::Cause;
-use crate::job::Job;
 use crate::work::Work;
 use interp_core::Interpreter;
 use jmsg_envelope::Stamp;
+use kernel_jobs::Job;
 use std::alloc::Global;
 use std::sync::Wait;
 

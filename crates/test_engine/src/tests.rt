@@ -1,4 +1,6 @@
-//! What no case tells: the numbers and words of faults, and the end of numbers.
+//! What no case tells: numbers and words of faults, the end of numbers, and devices that fail or give little at a time.
 
 mod fault;
+mod pieces;
 mod worn;
+mod written;

@@ -11,6 +11,7 @@
 //! - `open FRAME..`, `seal PREFIX HEADER PARENT METADATA CONTENT BUFFER`, both under the key `Jefe`, and
 //!   `header SESSION ID DATE TYPE`;
 //! - `reply NAME` and `publication NAME`: a content as JSON, and as it is sent; `words NUMBER`: how a fault is told;
+//! - `replay READ TEXT`: a replay of a text of which this read fails, or none if it is 0;
 //! - `connection FILE`; `door FRAME`, and `door NAME REST` of a command;
 //! - `core EVENT..`: of two publishers `0a` publishes `a`, `0` closes the first, and nothing takes; `queue`: one after
 //!   another all that publishers and a taker do;
@@ -19,11 +20,13 @@
 //!   topic, `!1topic` gives it up, `@1context` asks for a PONG, and `=first,second` is a message.
 #![tactic(auto)]
 
+mod clock;
 mod contents;
 mod envelopes;
 mod marks;
 mod queue;
 mod relay;
+mod replay;
 mod spared;
 mod steps;
 mod wire;
@@ -108,6 +111,7 @@ fn answer_alone<R: Print + AllocGlobal + Wait + Copy + Drop>(
         "header" => envelopes::header(rt, words),
         "connection" => contents::connection(rt, words),
         "queue" => queue::exchange(rt),
+        "replay" => replay::replay(rt, words),
         _ => {}
     }
 }

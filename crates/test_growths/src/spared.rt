@@ -1,5 +1,6 @@
 //! Calls that need no memory, so none of what they ask for can be refused.
 
+use crate::clock::clock;
 use crate::marks::{begin, end, say, say_frames, say_number, say_octets, text_at};
 use crate::steps::Shelf;
 use arith_shell::ShellArith;
@@ -54,6 +55,7 @@ fn plain<R: Print + AllocGlobal>(rt: &R, name: &str, words: &[Vec<u8>]) {
         "numbers" => numbers(rt),
         "arithmetic" => arithmetic(rt),
         "statuses" => statuses(rt),
+        "clock" => clock(rt),
         _ => {}
     }
 }

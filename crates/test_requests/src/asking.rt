@@ -1,7 +1,7 @@
 //! Requests that are put into inboxes.
 
 use crossbeam_channel::Sender;
-use kernel_workers::{Job, Note, ReplyMessage};
+use kernel_jobs::{Job, Note, ReplyMessage};
 use listed::Frames;
 use std::alloc::Global;
 use std::sync::Wait;

@@ -3,7 +3,7 @@
 
 use super::*;
 use crate::tests::control::{Lines, pair_of};
-use kernel_workers::{Account, Credit};
+use kernel_jobs::{Account, Credit};
 use std::sync::Arc;
 use std::thread;
 use test_requests::{ASKED, SHUTDOWN};

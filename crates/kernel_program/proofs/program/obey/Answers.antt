@@ -1,5 +1,5 @@
 use Rattle.std.proofs.Common.{subst, sym}
-use Rattle.kernel_program.specs.declared.words.Order.TheVariants.{Help, KernelSpec}
+use Rattle.kernel_words.specs.declared.words.Order.TheVariants.{Help, KernelSpec}
 use Rattle.kernel_program.specs.Program.{Obeys}
 use Rattle.kernel_program.proofs.EndLemmas.{obeys_print, obeys_replay, obeys_serve, print_is_not_silent}
 use Rattle.kernel_program.proofs.program.obey.Goals as goal

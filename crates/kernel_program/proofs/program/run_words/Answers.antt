@@ -1,5 +1,5 @@
 use Rattle.std.proofs.Common.{rules, subst, List, String, Global, map, string_bytes}
-use Rattle.kernel_program.specs.Words.{IsOrdered}
+use Rattle.kernel_words.specs.Words.{IsOrdered}
 use Rattle.kernel_program.proofs.OrderLemmas.{ends_by_order}
 use Rattle.kernel_program.proofs.program.run_words.Goals as goal
 

@@ -1,0 +1,349 @@
+//! The replies to a peer, and the connection on which they are written. They are a mailbox's, and not a connection's: a
+//! peer that gives itself an identity may connect again, and gets what wasn't written yet.
+
+use crossbeam_channel::{Receiver, RecvTimeoutError};
+use crossbeam_utils::sync::{Parker, Unparker};
+use kernel_jobs::{Account, ReplyMessage};
+use kernel_limits::{Claim, Holder, is_awaited, takes_over};
+use kernel_sockets::{SharedWriter, Socket};
+use std::alloc::Global;
+use std::sync::{Arc, Mutex, Wait};
+use std::time::{Clock, Duration};
+
+/// For how many milliseconds it is waited for a reply, before it is looked whether the connection was closed.
+const REPLY_LOOK: u64 = 1_000;
+
+/// For how many milliseconds a connection waits that doesn't have its peer's mailbox, before it asks for it again.
+const CLAIM_LOOK: u64 = 500;
+
+/// The connection that has a mailbox.
+#[derive(Drop)]
+struct Holding {
+    /// How far it is.
+    holder: Holder,
+    /// Its number on its port; 0 if there is none.
+    number: u64,
+    /// Its socket, to close it by.
+    socket: Option<Socket>,
+    /// Since when there is none and nothing of the peer is in work, in milliseconds, once that was seen.
+    since: Option<u64>,
+    /// Whether the peer has ever shown that it holds the key.
+    is_signed: bool,
+    /// How many connections of the peer are heard still, be it what they said before they broke.
+    heard: usize,
+    /// Whether a reply is just being written on the connection that has the mailbox.
+    is_writing: bool,
+}
+
+impl Holding {
+    /// Gives the mailbox to another connection that isn't closed, if it may have it. The connection before is closed if
+    /// a reply is just being written on it, for which others would wait, or if the other's peer has signed something.
+    /// Else it stays: what was asked on it may not have been read yet.
+    fn pass(&mut self, number: u64, socket: &Socket, claim: Claim) -> bool {
+        if socket.is_shut() || !takes_over(self.holder, claim) {
+            return false;
+        }
+        let Ok(kept) = socket.try_clone() else {
+            return false;
+        };
+        match self.socket.replace(kept) {
+            Some(before) if self.is_writing || claim == Claim::Signs => before.shut(),
+            Some(_) | None => {}
+        }
+        self.is_writing = false;
+        self.number = number;
+        self.holder = Holder::Unsigned;
+        self.since = None;
+        true
+    }
+
+    /// Whether replies still wait for a peer that left, and that has so many jobs in work.
+    fn is_awaited(&mut self, jobs: usize, now: u64) -> bool {
+        if jobs > 0 {
+            self.since = None;
+            return true;
+        }
+        match self.since {
+            Some(since) => is_awaited(since, now),
+            None => {
+                self.since = Some(now);
+                true
+            }
+        }
+    }
+}
+
+/// What is due to a peer.
+#[derive(Drop)]
+struct Due {
+    /// A reply that was taken out, and not written.
+    unsent: Option<ReplyMessage>,
+    /// Those after it.
+    replies: Receiver<ReplyMessage>,
+}
+
+/// A mailbox: the replies to a peer, and the connection that has it.
+#[derive(Drop)]
+pub(crate) struct Mailbox {
+    /// The connection.
+    holding: Mutex<Holding>,
+    /// The replies, for the thread that writes them.
+    due: Mutex<Due>,
+    /// What of the peer is in work.
+    account: Arc<Account, Global>,
+}
+
+/// What came of a look for the next reply.
+#[derive(Clone, Copy, Debug, PartialEq, Eq)]
+pub(crate) enum Look {
+    /// It was written.
+    Written,
+    /// There is none now, or another connection has the mailbox.
+    Nothing,
+    /// There comes none any more.
+    Last,
+    /// It couldn't be written.
+    Failed,
+}
+
+impl Mailbox {
+    /// A mailbox that no connection has.
+    pub(crate) fn new(replies: Receiver<ReplyMessage>, account: Arc<Account, Global>) -> Mailbox {
+        Mailbox {
+            holding: Mutex::new(Holding {
+                holder: Holder::Gone,
+                number: 0,
+                socket: None,
+                since: None,
+                is_signed: false,
+                heard: 0,
+                is_writing: false,
+            }),
+            due: Mutex::new(Due {
+                unsent: None,
+                replies,
+            }),
+            account,
+        }
+    }
+
+    /// What of the peer is in work.
+    pub(crate) fn account(&self) -> &Arc<Account, Global> {
+        &self.account
+    }
+
+    /// A connection of the peer is heard from now on.
+    pub(crate) fn enter<R: Wait>(&self, rt: &R) {
+        let mut holding = self.holding.lock(rt);
+        holding.heard = holding.heard.saturating_add(1);
+    }
+
+    /// The connection of this number isn't heard any more, and its peer has left.
+    pub(crate) fn exit<R: Wait>(&self, rt: &R, number: u64) {
+        self.leave(rt, number);
+        let mut holding = self.holding.lock(rt);
+        holding.heard = holding.heard.saturating_sub(1);
+    }
+
+    /// The peer has shown that it holds the key, on a connection that it has left.
+    pub(crate) fn sign<R: Wait>(&self, rt: &R) {
+        self.holding.lock(rt).is_signed = true;
+    }
+
+    /// Gives the mailbox to the connection of this number, if it may have it, and answers whether it has it now.
+    pub(crate) fn claim<R: Wait>(
+        &self,
+        rt: &R,
+        number: u64,
+        socket: &Socket,
+        claim: Claim,
+    ) -> bool {
+        let mut holding = self.holding.lock(rt);
+        if holding.number != number && !holding.pass(number, socket, claim) {
+            return false;
+        }
+        if claim == Claim::Signs {
+            holding.holder = Holder::Signed;
+            holding.is_signed = true;
+        }
+        true
+    }
+
+    /// The peer of the connection of this number has left. If it had the mailbox, the replies wait from now on.
+    pub(crate) fn leave<R: Wait>(&self, rt: &R, number: u64) {
+        let mut holding = self.holding.lock(rt);
+        if holding.number == number {
+            holding.holder = Holder::Gone;
+            holding.number = 0;
+            holding.socket = None;
+            holding.is_writing = false;
+        }
+    }
+
+    /// Whether a connection of the peer is heard, or it may still come again, and has shown that it holds the key.
+    pub(crate) fn is_kept<R: Wait>(&self, rt: &R, now: u64) -> bool {
+        let mut holding = self.holding.lock(rt);
+        holding.heard > 0 || (holding.is_signed && holding.is_awaited(self.account.jobs(), now))
+    }
+
+    /// Whether the connection of this number has it.
+    fn is_of<R: Wait>(&self, rt: &R, number: u64) -> bool {
+        self.holding.lock(rt).number == number
+    }
+
+    /// Says whether a reply is being written on the connection of this number, if it has the mailbox; answers whether it
+    /// has.
+    fn note_writing<R: Wait>(&self, rt: &R, number: u64, is_writing: bool) -> bool {
+        let mut holding = self.holding.lock(rt);
+        if holding.number != number {
+            return false;
+        }
+        holding.is_writing = is_writing;
+        true
+    }
+
+    /// Writes the next reply to the peer of a connection, if that has the mailbox. What can't be written waits on.
+    fn write_next<R: Wait + Clock>(&self, rt: &R, alloc: Global, peer: &Replies) -> Look {
+        let mut due = self.due.lock(rt);
+        if !self.is_of(rt, peer.number) {
+            return Look::Nothing;
+        }
+        match due.next(rt) {
+            Ok(reply) => self.write_out(rt, alloc, peer, (&mut due, reply)),
+            Err(RecvTimeoutError::Timeout) => Look::Nothing,
+            Err(RecvTimeoutError::Disconnected) => Look::Last,
+        }
+    }
+
+    /// Writes a reply that was taken out to the peer of a connection, if that still has the mailbox. If it can't be
+    /// written it is put back.
+    fn write_out<R: Wait>(
+        &self,
+        rt: &R,
+        alloc: Global,
+        peer: &Replies,
+        next: (&mut Due, ReplyMessage),
+    ) -> Look {
+        let (due, reply) = next;
+        if peer.has_left() || !self.note_writing(rt, peer.number, true) {
+            due.put_back(reply);
+            return Look::Nothing;
+        }
+        let is_written = peer.writer.message(rt, alloc, reply.frames.as_slice());
+        self.note_writing(rt, peer.number, false);
+        if is_written {
+            drop(reply);
+            return Look::Written;
+        }
+        due.put_back(reply);
+        Look::Failed
+    }
+}
+
+impl Due {
+    /// The next reply.
+    ///
+    /// # Errors
+    ///
+    /// `Timeout` if there is none for a while, `Disconnected` if nobody is left who could send one.
+    fn next<R: Wait + Clock>(&mut self, rt: &R) -> Result<ReplyMessage, RecvTimeoutError> {
+        match self.unsent.take() {
+            Some(reply) => Ok(reply),
+            None => self
+                .replies
+                .recv_timeout(rt, Duration::from_millis(REPLY_LOOK)),
+        }
+    }
+
+    /// Puts a reply back that wasn't written. One without frames is none.
+    fn put_back(&mut self, reply: ReplyMessage) {
+        if reply.frames.is_empty() {
+            drop(reply);
+        } else {
+            self.unsent = Some(reply);
+        }
+    }
+}
+
+/// The replies to a peer, as the thread of a connection sees them that writes them.
+#[derive(Drop)]
+pub(crate) struct Replies {
+    /// The connection's number on its port.
+    pub(crate) number: u64,
+    /// Whether the peer has an identity, and may connect again.
+    pub(crate) is_named: bool,
+    /// Where they come from.
+    pub(crate) mailbox: Arc<Mailbox, Global>,
+    /// What the thread waits by while another connection has the mailbox.
+    pub(crate) parker: Parker,
+    /// Wakes the connection's reader.
+    pub(crate) reader: Unparker,
+    /// What replies are written to.
+    pub(crate) writer: SharedWriter,
+    /// The connection's socket.
+    pub(crate) socket: Socket,
+}
+
+impl Replies {
+    /// Writes replies to the peer, until nobody is left who could send one, the connection is closed or a write fails.
+    /// Then the peer is to know that, and isn't heard any more.
+    pub(crate) fn write_all<R: Wait + Clock + Drop>(self, rt: R, alloc: Global) {
+        self.write_each(&rt, alloc);
+        self.reader.unpark();
+        drop(self);
+    }
+
+    /// Writes replies to the peer, until there comes none any more or one can't be written.
+    fn write_each<R: Wait + Clock>(&self, rt: &R, alloc: Global) {
+        for _ in rt.forever() {
+            match self.look(rt, alloc) {
+                Look::Written => self.reader.unpark(),
+                Look::Nothing => {}
+                Look::Last => return,
+                Look::Failed => {
+                    self.socket.shut();
+                    return;
+                }
+            }
+        }
+        unreachable!()
+    }
+
+    /// Whether the peer has left that may connect again: nothing more is written on this connection then.
+    fn has_left(&self) -> bool {
+        self.is_named && self.socket.has_hung_up()
+    }
+
+    /// Writes the next reply, if the connection has the mailbox and its peer hasn't left; else it asks for the mailbox,
+    /// or waits for a while.
+    fn look<R: Wait + Clock>(&self, rt: &R, alloc: Global) -> Look {
+        if self.socket.is_shut() {
+            return Look::Failed;
+        }
+        if self.has_left() {
+            // Its reader ends the connection, once it has read what came before that.
+            self.mailbox.leave(rt, self.number);
+            self.pause(rt);
+            return Look::Nothing;
+        }
+        if self.mailbox.is_of(rt, self.number) {
+            return self.mailbox.write_next(rt, alloc, self);
+        }
+        if self.socket.is_ended() {
+            return Look::Last;
+        }
+        if !self
+            .mailbox
+            .claim(rt, self.number, &self.socket, Claim::Waits)
+        {
+            self.pause(rt);
+        }
+        Look::Nothing
+    }
+
+    /// Waits for a while, or until the connection's reader has something to say.
+    fn pause<R: Wait + Clock>(&self, rt: &R) {
+        self.parker
+            .park_timeout(rt, Duration::from_millis(CLAIM_LOOK));
+    }
+}

@@ -1,6 +1,0 @@
-use Rattle.kernel_program.specs.declared.replay.Unstopped.{Unstopped}
-use Rattle.kernel_program.proofs.TextOnce.{lines_once}
-use Rattle.kernel_program.proofs.laws.law_one_text.Goals as goal
-
-pub returns : goal.returns
-returns g c = lines_once {T = Unstopped} g.I.Interpreter.meaning (record {}) c.law_one_session.ensures.once

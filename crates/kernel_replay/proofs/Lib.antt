@@ -1,0 +1,4 @@
+pub mod HexText
+pub mod KnownReads
+pub mod ReplayLemmas
+pub mod TextOnce
