@@ -302,7 +302,9 @@ def self_test(script, jobs):
             expect(f"of {name} it should say '{start}'", any(it.startswith(start) for it in lines), lines)
         lines = said_of(script, top, "--edits")
         for name in ("nowhere", "definition", "by_no_test"):
-            expect(f"of {name} it should say so at once, too", any(it.startswith(KINDS[name][1]) for it in lines), lines)
+            expect(
+                f"of {name} it should say so at once, too", any(it.startswith(KINDS[name][1]) for it in lines), lines
+            )
         expect("all others can be applied", f"{len(KINDS) - 3} passed, 3 failed" in lines, lines)
         put_edits(top, KEPT)
         lines = said_of(script, top, "--edits")
@@ -325,7 +327,11 @@ def self_test(script, jobs):
             runs = {it: pool.submit(after_change, script, room, it) for it in CHANGES}
             for name, run in runs.items():
                 again, lines = run.result()
-                expect(f"{name} changed: {sorted(CHANGES[name][3])} should be tried again", again == CHANGES[name][3], lines)
+                expect(
+                    f"{name} changed: {sorted(CHANGES[name][3])} should be tried again",
+                    again == CHANGES[name][3],
+                    lines,
+                )
                 expect(f"{name} changed: it should end well", f"{len(KEPT)} passed, 0 failed" in lines, lines)
                 is_proved = any(it.startswith("wrong_bodies: proves ") for it in lines)
                 expect(f"{name} changed: it is proved only if a text changed", is_proved == (name != "nothing"), lines)

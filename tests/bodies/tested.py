@@ -21,7 +21,9 @@ def has_test(crate, name):
     """Whether a crate has a test of this name."""
     if crate not in crates():
         return False
-    wanted = re.compile(rf"#\[test\]\n(?: *#\[.*\]\n)*(?:pub(?:\([a-z]+\))? )?fn {re.escape(name.rpartition('::')[2])}\b")
+    wanted = re.compile(
+        rf"#\[test\]\n(?: *#\[.*\]\n)*(?:pub(?:\([a-z]+\))? )?fn {re.escape(name.rpartition('::')[2])}\b"
+    )
     for path in files_of(crate):
         if path.endswith(".rt"):
             with open(path, encoding="utf-8") as file:
