@@ -1,34 +1,50 @@
 //! Texts cut into tokens, and read as trees.
 
-use arith_syntax::{Placed, Token, read_statement, tokens};
+use arith_syntax::{Parts, Placed, Token, read_statement, tokens};
 use std::alloc::{AllocError, Global};
 
-/// The tokens of a text as words, each behind its place, or its fault.
-pub(crate) fn cut(alloc: Global, text: &str) -> Result<String, AllocError> {
+/// Says the tokens of a text, each behind its place, or its fault.
+pub(crate) fn cut(alloc: Global, text: &str, said: &mut String) -> Result<(), AllocError> {
     match tokens(alloc, text) {
         Ok(found) => {
-            let mut words = String::new(alloc);
-            for placed in found.iter() {
-                words.push_str(word_of(alloc, placed)?.as_str())?;
-            }
-            Ok(words)
+            let added = add_tokens(&found, said);
+            drop(found);
+            added
         }
-        Err(fault) => format!(in alloc; "{fault}"),
+        Err(fault) => write!(said, "{fault}"),
     }
 }
 
-/// A token behind its place.
-fn word_of(alloc: Global, placed: &Placed) -> Result<String, AllocError> {
-    match &placed.token {
-        Token::Name(name) => format!(in alloc; "{} {}, ", placed.place, name.as_str()),
-        token => format!(in alloc; "{} {token:?}, ", placed.place),
+/// Adds tokens.
+fn add_tokens(found: &[Placed], said: &mut String) -> Result<(), AllocError> {
+    for placed in found {
+        add_token(placed.place, &placed.token, said)?;
+    }
+    Ok(())
+}
+
+/// Adds a token behind its place.
+fn add_token(place: u64, token: &Token, said: &mut String) -> Result<(), AllocError> {
+    match token {
+        Token::Name(name) => write!(said, "{place} {}, ", name.as_str()),
+        token => write!(said, "{place} {token:?}, "),
     }
 }
 
-/// The tree of a statement as its parts in a row, or its fault.
-pub(crate) fn tree(alloc: Global, statement: &str) -> Result<String, AllocError> {
+/// Says the tree of a statement as its parts in a row, or its fault.
+pub(crate) fn tree(alloc: Global, statement: &str, said: &mut String) -> Result<(), AllocError> {
     match read_statement(alloc, statement) {
-        Ok(parts) => format!(in alloc; "{:?}", parts.lend().unpacked(alloc)?),
-        Err(fault) => format!(in alloc; "{fault}"),
+        Ok(parts) => {
+            let added = add_parts(alloc, &parts, said);
+            drop(parts);
+            added
+        }
+        Err(fault) => write!(said, "{fault}"),
     }
+}
+
+/// Adds the parts of a tree.
+fn add_parts(alloc: Global, parts: &Parts, said: &mut String) -> Result<(), AllocError> {
+    let unpacked = parts.lend().unpacked(alloc)?;
+    write!(said, "{unpacked:?}")
 }

@@ -1,6 +1,6 @@
 //! What the requests of a block come to.
 
-use crate::message::{add_message, request};
+use crate::message::add_message;
 use crate::setup::{Language, Setup};
 use crate::wire::visited;
 use arith_shell::ShellArith;
@@ -10,7 +10,7 @@ use jmsg_envelope::{Envelope, Signer};
 use kernel_engine::{Engine, EngineEnd, EngineFault, Handled};
 use std::alloc::{AllocError, Global};
 use std::io;
-use test_examples::{After, Letters, Refusing, Scarce};
+use test_examples::{After, Letters, Refusing, Scarce, request};
 
 /// What the lines of a block come to, and what is published.
 ///

@@ -37,9 +37,6 @@ use engine::answers;
 use setup::Setup;
 use std::io;
 
-#[cfg(test)]
-mod tests;
-
 /// Prints each block with what it comes to.
 fn main(rt: HostRuntime) -> io::Result<()> {
     let mut requests = Vec::new(rt.alloc());

@@ -1,6 +1,5 @@
 //! Messages as texts.
 
-use jmsg_envelope::{Envelope, Signer, open_envelope};
 use listed::Frames;
 use percent_encoding::{AsciiSet, CONTROLS, ascii_set, percent_encode};
 use std::alloc::{AllocError, Global};
@@ -8,46 +7,6 @@ use std::io;
 
 /// The signs that don't stand for themselves where octets are told.
 pub(crate) const MARKS: AsciiSet = ascii_set!(CONTROLS.add(b'%').add(b'\''));
-
-/// A request of this id, type and content, under no key.
-pub(crate) fn request(alloc: Global, id: &str, kind: &str, content: &str) -> io::Result<Envelope> {
-    let header = format!(in alloc; "{{\"msg_id\":\"{id}\",\"msg_type\":\"{kind}\"}}")?;
-    let texts = ["<IDS|MSG>", "", header.as_str(), "{}", "{}", content];
-    let frames = frames_of(alloc, &texts);
-    drop(header);
-    let frames = frames?;
-    let signer = Signer::new(Vec::new(alloc));
-    let opened = open_envelope(alloc, &signer, frames);
-    drop(signer);
-    match opened {
-        Ok(envelope) => Ok(envelope),
-        Err(_) => Err(io::Error::other("no request")),
-    }
-}
-
-/// The frames that hold these texts.
-fn frames_of(alloc: Global, texts: &[&str]) -> Result<Vec<Vec<u8>>, AllocError> {
-    let mut frames = Vec::new(alloc);
-    for text in texts {
-        if let Err(AllocError) = add_frame(alloc, text, &mut frames) {
-            drop(frames);
-            return Err(AllocError);
-        }
-    }
-    Ok(frames)
-}
-
-/// Adds the frame that holds a text.
-fn add_frame(alloc: Global, text: &str, frames: &mut Vec<Vec<u8>>) -> Result<(), AllocError> {
-    let frame = Vec::from_slice(alloc, text.as_bytes())?;
-    match frames.push(frame) {
-        Ok(()) => Ok(()),
-        Err(refused) => {
-            drop(refused);
-            Err(AllocError)
-        }
-    }
-}
 
 /// The frames that stand behind the delimiter up to the content: the signature and four parts.
 const PARTS: usize = 5;

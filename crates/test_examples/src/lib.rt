@@ -4,11 +4,13 @@
 #![tactic(auto)]
 
 mod after;
+mod asking;
 mod letters;
 mod refusing;
 mod scarce;
 
 pub use after::After;
+pub use asking::request;
 pub use letters::{Letters, Waiting};
 pub use refusing::Refusing;
 pub use scarce::{DATE, Scarce};

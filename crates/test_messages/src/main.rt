@@ -1,97 +1,82 @@
-//! Contents of requests, read: each line of standard input is a case, and is printed with its answer behind it.
-//!
-//! A case is the type of a message, a colon and its content; in both `%` and two digits are an octet. An empty line and
+//! Messages as data: each line of standard input is a case, and is printed with its answer behind it. An empty line and
 //! one that begins with `#` are printed as they are.
+//!
+//! A case is a word and what it is given, each behind a space; the first lines of `stdin` say which words there are. A
+//! case without one of these words is the type of a message, a colon and its content, which is read. In cases `%` and
+//! two digits are an octet, and `''` is a word of none.
 #![tactic(auto)]
 
-use jmsg_types::{Request, read_request};
-use listed::{Row, Text};
-use percent_encoding::percent_decode;
-use std::alloc::{AllocError, Global};
-use std::{io, str};
+mod connections;
+mod contents;
+mod envelopes;
+mod publications;
+mod replies;
+mod requests;
+mod spelling;
 
-#[cfg(test)]
-mod tests;
+use jmsg_types::{law_each_type_is_found, law_replies_are_named_for_requests};
+use std::alloc::{AllocError, Global};
+use std::io;
 
 /// Reads standard input and prints each case with its answer.
 fn main(rt: HostRuntime) -> io::Result<()> {
+    // What the answers of types rest on.
+    law_each_type_is_found();
+    law_replies_are_named_for_requests();
     let input = io::read_to_string(rt.alloc(), rt.reader())?;
     for line in input.as_str().lines() {
-        match line.split_once(':') {
-            Some((msg_type, content)) if !line.starts_with('#') => {
-                let answer = answer(rt.alloc(), msg_type, content)?;
-                println!(rt; "{line} -> {answer}")?;
-            }
-            _ => println!(rt; "{line}")?,
-        }
+        print_answered(&rt, line)?;
     }
     Ok(())
 }
 
-/// What reading a content answers: the request, or the fault's number and words.
-fn answer(alloc: Global, msg_type: &str, content: &str) -> Result<String, AllocError> {
-    let msg_type = decoded(alloc, msg_type)?;
-    let content = decoded(alloc, content)?;
-    let Ok(msg_type) = str::from_utf8(&msg_type) else {
-        return String::from_str(alloc, "no type");
-    };
-    match read_request(alloc, msg_type, &content) {
-        Ok(request) => told(alloc, &request),
-        Err(fault) => format!(in alloc; "{} {fault}", fault.number()),
+/// Prints a line, and its answer behind it if it is a case.
+fn print_answered<R: Print + AllocGlobal>(rt: &R, line: &str) -> io::Result<()> {
+    if line.is_empty() || line.starts_with('#') {
+        return println!(rt; "{line}");
+    }
+    let answer = answer(rt.alloc(), line)?;
+    println!(rt; "{line} -> {answer}")
+}
+
+/// What a case comes to.
+fn answer(alloc: Global, line: &str) -> Result<String, AllocError> {
+    let (command, words) = line.split_once(' ').unwrap_or((line, ""));
+    match command {
+        "large" => requests::large(alloc, words),
+        "report" => requests::report(alloc, words),
+        "type" => requests::type_named(alloc, words),
+        "reply" => replies::reply(alloc, words),
+        "publication" => publications::publication(alloc, words),
+        "fault" => fault(alloc, words),
+        _ => answer_frames(alloc, command, words, line),
     }
 }
 
-/// The octets that a text stands for.
-fn decoded(alloc: Global, text: &str) -> Result<Vec<u8>, AllocError> {
-    let mut octets = Vec::new(alloc);
-    percent_decode(text.as_bytes()).append_to(&mut octets)?;
-    Ok(octets)
-}
-
-/// One line that tells a request with all its fields.
-fn told(alloc: Global, request: &Request) -> Result<String, AllocError> {
-    match request {
-        Request::KernelInfo => String::from_str(alloc, "kernel info"),
-        Request::Execute {
-            code,
-            silent,
-            store_history,
-            user_expressions,
-            allow_stdin,
-            stop_on_error,
-        } => {
-            let (code, expressions) = (code.as_str(), listing(alloc, user_expressions)?);
-            let flags = format!(in alloc; "{allow_stdin} {stop_on_error}")?;
-            format!(in alloc; "execute <{code}> {silent} {store_history} <{expressions}> {flags}")
-        }
-        Request::Complete { code, cursor_pos } => {
-            format!(in alloc; "complete <{}> {cursor_pos}", code.as_str())
-        }
-        Request::Inspect {
-            code,
-            cursor_pos,
-            detail_level,
-        } => format!(in alloc; "inspect <{}> {cursor_pos} {detail_level}", code.as_str()),
-        Request::IsComplete { code } => format!(in alloc; "is complete <{}>", code.as_str()),
-        Request::History => String::from_str(alloc, "history"),
-        Request::CommInfo => String::from_str(alloc, "comm info"),
-        Request::CommOpen { comm_id } => format!(in alloc; "comm open <{}>", comm_id.as_str()),
-        Request::CommMsg => String::from_str(alloc, "comm msg"),
-        Request::CommClose => String::from_str(alloc, "comm close"),
-        Request::Shutdown { restart } => format!(in alloc; "shutdown {restart}"),
-        Request::Interrupt => String::from_str(alloc, "interrupt"),
-        Request::Unknown => String::from_str(alloc, "unknown"),
+/// What a case of envelopes or of connection files comes to, or else one of a content.
+fn answer_frames(
+    alloc: Global,
+    command: &str,
+    words: &str,
+    line: &str,
+) -> Result<String, AllocError> {
+    match command {
+        "code" => envelopes::code(alloc, words),
+        "seal" => envelopes::seal(alloc, words),
+        "open" => envelopes::open(alloc, words),
+        "header" => envelopes::header(alloc, words),
+        "file" => connections::file(alloc, words),
+        "fields" => connections::fields(alloc, words),
+        _ => requests::read(alloc, line),
     }
 }
 
-/// Names and texts, each as `name=text;`.
-fn listing(alloc: Global, texts: &Row<(Text, Text)>) -> Result<String, AllocError> {
-    let mut line = String::new(alloc);
-    for (name, text) in texts.as_slice() {
-        line.push_str(name.as_str())?;
-        line.push_str("=")?;
-        line.push_str(text.as_str())?;
-        line.push_str(";")?;
+/// How the fault with a number is told, if no case comes to it: want of memory.
+fn fault(alloc: Global, number: &str) -> Result<String, AllocError> {
+    match number {
+        "24" => envelopes::told(alloc, jmsg_envelope::EnvelopeFault::OutOfMemory),
+        "33" => contents::told(alloc, jmsg_types::ContentFault::OutOfMemory),
+        "45" => connections::told(alloc, conn_file::ConnFault::OutOfMemory),
+        _ => String::from_str(alloc, "no such fault"),
     }
-    Ok(line)
 }

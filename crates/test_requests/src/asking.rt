@@ -1,11 +1,10 @@
 //! Requests that are put into inboxes.
 
 use crossbeam_channel::Sender;
-use kernel_jobs::{Job, Note, ReplyMessage};
+use kernel_jobs::{Credit, Job, Note, ReplyMessage, tell};
 use listed::Frames;
-use std::alloc::Global;
+use std::alloc::{AllocError, Global};
 use std::sync::Wait;
-use std::test::Fail;
 
 /// The type of a request that asks what the kernel is.
 pub const ASKED: &str = "kernel_info_request";
@@ -19,27 +18,61 @@ pub fn ask<R: Wait>(
     alloc: Global,
     inbox: &Sender<Note<Job>>,
     replies: &Sender<ReplyMessage>,
+    request: (&str, &str),
+) -> Result<(), AllocError> {
+    put(rt, inbox, replies, request_frames(alloc, request)?, None)
+}
+
+/// Puts a message into an inbox; its reply goes there. With a credit it is counted as its connection's.
+pub fn put<R: Wait>(
+    rt: &R,
+    inbox: &Sender<Note<Job>>,
+    replies: &Sender<ReplyMessage>,
+    frames: Frames,
+    credit: Option<Credit>,
+) -> Result<(), AllocError> {
+    match replies.clone() {
+        Ok(replies) => {
+            tell(rt, inbox, Note::Item(Job::new(frames, replies, credit)));
+            Ok(())
+        }
+        Err(AllocError) => {
+            drop(frames);
+            drop(credit);
+            Err(AllocError)
+        }
+    }
+}
+
+/// A request of this type and content, from a client without a name.
+pub fn request_frames(
+    alloc: Global,
     (msg_type, content): (&str, &str),
-) -> Result<(), Fail> {
+) -> Result<Frames, AllocError> {
     let text = format!(in alloc;
         "<IDS|MSG>\n\n{{\"msg_id\":\"q\",\"msg_type\":\"{msg_type}\"}}\n{{}}\n{{}}\n{content}"
     )?;
-    put(rt, alloc, inbox, replies, text.as_str())
+    let frames = frames_of(alloc, text.as_str());
+    drop(text);
+    frames
 }
 
-/// Puts a message whose frames are the lines of a text into an inbox; its reply goes there.
-pub fn put<R: Wait>(
-    rt: &R,
-    alloc: Global,
-    inbox: &Sender<Note<Job>>,
-    replies: &Sender<ReplyMessage>,
-    text: &str,
-) -> Result<(), Fail> {
+/// A message whose frames are the lines of a text.
+pub fn frames_of(alloc: Global, text: &str) -> Result<Frames, AllocError> {
     let mut frames = Vec::new(alloc);
+    match push_lines(alloc, &mut frames, text) {
+        Ok(()) => Ok(Frames::new(frames)),
+        Err(AllocError) => {
+            drop(frames);
+            Err(AllocError)
+        }
+    }
+}
+
+/// Adds the lines of a text to frames.
+fn push_lines(alloc: Global, frames: &mut Vec<Vec<u8>>, text: &str) -> Result<(), AllocError> {
     for line in text.split('\n') {
         frames.push(Vec::from_slice(alloc, line.as_bytes())?)?;
     }
-    let job = Job::new(Frames::new(frames), replies.clone()?, None);
-    inbox.send(rt, Note::Item(job))?;
     Ok(())
 }

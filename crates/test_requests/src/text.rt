@@ -1,9 +1,10 @@
 //! Messages as texts, each frame on a line of its own.
 
+use crate::pair::both;
 use crate::stamp::DATE;
 use listed::Frames;
-use std::alloc::Global;
-use std::test::Fail;
+use std::alloc::{AllocError, Global};
+use std::process::Abort;
 
 /// What a kernel of shell arithmetic says of itself.
 pub const INFO: &str = concat!(
@@ -20,15 +21,50 @@ pub const INTERRUPTED: &str = concat!(
 );
 
 /// The frames of a message, each on a line of its own.
-pub fn frames_text(alloc: Global, frames: &Frames) -> Result<String, Fail> {
+pub fn frames_text(alloc: Global, frames: &Frames) -> Result<String, AllocError> {
     let mut octets = Vec::new(alloc);
+    match push_frames(&mut octets, frames) {
+        Ok(()) => text_of(alloc, octets),
+        Err(AllocError) => {
+            drop(octets);
+            Err(AllocError)
+        }
+    }
+}
+
+/// Adds the frames of a message to octets, with an end of line between two.
+fn push_frames(octets: &mut Vec<u8>, frames: &Frames) -> Result<(), AllocError> {
     for (place, frame) in frames.as_slice().iter().enumerate() {
         if place > 0 {
             octets.push(b'\n')?;
         }
         octets.extend_from_slice(frame.as_slice())?;
     }
-    Ok(String::from_utf8(octets)?)
+    Ok(())
+}
+
+/// The text that octets are.
+fn text_of(alloc: Global, octets: Vec<u8>) -> Result<String, AllocError> {
+    match String::from_utf8(octets) {
+        Ok(text) => Ok(text),
+        Err(refused) => {
+            drop(refused);
+            String::from_str(alloc, "no UTF-8")
+        }
+    }
+}
+
+/// That a text is the one that is due.
+pub fn expect_same(
+    rt: &impl Abort,
+    text: Result<String, AllocError>,
+    due: Result<String, AllocError>,
+) -> Result<(), AllocError> {
+    let (text, due) = both(text, due)?;
+    assert_eq!(rt; text.as_str(), due.as_str());
+    drop(text);
+    drop(due);
+    Ok(())
 }
 
 /// A message after what stands before its delimiter: its type, the number of its id, and its content, with a request
@@ -38,9 +74,11 @@ pub fn due_text(
     front: &str,
     due: (&str, u64, &str),
     parent_type: &str,
-) -> Result<String, Fail> {
+) -> Result<String, AllocError> {
     let parent = format!(in alloc; "{{\"msg_id\":\"q\",\"msg_type\":\"{parent_type}\"}}")?;
-    due_message(alloc, front, due, parent.as_str())
+    let text = due_message(alloc, front, due, parent.as_str());
+    drop(parent);
+    text
 }
 
 /// A message after what stands before its delimiter: its type, the number of its id, and its content, with this header
@@ -50,9 +88,9 @@ pub fn due_message(
     front: &str,
     (msg_type, number, content): (&str, u64, &str),
     parent: &str,
-) -> Result<String, Fail> {
-    Ok(format!(in alloc;
+) -> Result<String, AllocError> {
+    format!(in alloc;
         "{front}<IDS|MSG>\n\n{{\"date\":\"{DATE}\",\"msg_id\":\"s{number}\",\"msg_type\":\"{msg_type}\",\
         \"session\":\"s\",\"username\":\"kernel\",\"version\":\"5.3\"}}\n{parent}\n{{}}\n{content}"
-    )?)
+    )
 }

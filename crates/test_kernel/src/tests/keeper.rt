@@ -25,6 +25,13 @@ impl Keeper {
             has_output,
         }
     }
+
+    /// What it was given.
+    pub(crate) fn into_octets(self) -> Vec<u8> {
+        let Keeper { octets, has_output } = self;
+        drop(has_output);
+        octets
+    }
 }
 
 impl Outlet for Keeper {

@@ -6,17 +6,20 @@ use arith_shell::ShellArith;
 use crossbeam_channel::{Receiver, Sender, unbounded};
 use interp_core::Interpreter;
 use iopub_event::Event;
-use kernel_jobs::{Inbox, Job, Note, ReplyMessage};
-use kernel_workers::{Flags, KernelFault, Parts, run_kernel};
+use kernel_jobs::{Inbox, Job, Note, ReplyMessage, tell};
+use kernel_workers::{Flags, KernelEnd, KernelFault, Parts, run_kernel};
 use listed::Octets;
-use std::alloc::Global;
+use std::alloc::{AllocError, Global};
 use std::process::Abort;
 use std::sync::atomic::{AtomicBool, Ordering};
 use std::sync::{Arc, Wait};
 use std::test::Fail;
 use std::thread;
-use std::thread::Threads;
-use test_requests::{ASKED, INFO, INTERRUPTED, OneDate, SHUTDOWN, due_message, frames_text, put};
+use std::thread::{JoinHandle, Threads};
+use test_requests::{
+    ASKED, INFO, INTERRUPTED, OneDate, SHUTDOWN, both, due_message, expect_same, frames_of,
+    frames_text, put,
+};
 
 /// How often a wait looks before its test fails.
 const TURNS: usize = 10_000_000;
@@ -30,61 +33,131 @@ const ON_SHELL: u64 = 100;
 /// The requests on control.
 const ON_CONTROL: u64 = 8;
 
+/// A client's side of a channel.
+#[derive(Drop)]
+struct Line {
+    /// Where requests are put.
+    to: Sender<Note<Job>>,
+    /// Where their replies go.
+    replies: Sender<ReplyMessage>,
+    /// Where these come out.
+    from: Receiver<ReplyMessage>,
+}
+
 /// By whom a kernel is spoken to, and what is heard of it.
 #[derive(Drop)]
 struct Client {
-    /// Where requests to shell are put.
-    to_shell: Sender<Note<Job>>,
-    /// Where requests to control are put.
-    to_control: Sender<Note<Job>>,
-    /// Where replies to requests on shell go.
-    shell_replies: Sender<ReplyMessage>,
-    /// Where they come out.
-    from_shell: Receiver<ReplyMessage>,
-    /// Where replies to requests on control go.
-    control_replies: Sender<ReplyMessage>,
-    /// Where they come out.
-    from_control: Receiver<ReplyMessage>,
+    /// Its side of shell.
+    shell: Line,
+    /// Its side of control.
+    control: Line,
     /// Whether the subscriber had an output.
     has_output: Arc<AtomicBool, Global>,
 }
 
+/// A kernel's inboxes and flags, and its client.
+#[derive(Drop)]
+struct Opened {
+    /// The inbox of shell.
+    shell_in: Inbox<Job>,
+    /// The inbox of control.
+    control_in: Inbox<Job>,
+    /// The inbox of subscriptions, in which subscriber 1 asks for everything.
+    subscriptions_in: Inbox<Event<Keeper>>,
+    /// The flags of shell.
+    flags: Flags,
+    /// The client.
+    client: Client,
+}
+
+/// An inbox, and its client's side.
+fn channel_of(alloc: Global) -> Result<(Inbox<Job>, Line), AllocError> {
+    let (inbox, to) = inbox_of(alloc)?;
+    match unbounded(alloc) {
+        Ok((replies, from)) => Ok((inbox, Line { to, replies, from })),
+        Err(_) => {
+            drop(inbox);
+            drop(to);
+            Err(AllocError)
+        }
+    }
+}
+
 /// The two ends of an inbox, and its first end once more.
-fn inbox_of<T: Drop>(alloc: Global) -> Result<(Inbox<T>, Sender<Note<T>>), Fail> {
+fn inbox_of(alloc: Global) -> Result<(Inbox<Job>, Sender<Note<Job>>), AllocError> {
     let inbox = Inbox::new(alloc)?;
-    let other = inbox.to.clone()?;
-    Ok((inbox, other))
+    match inbox.to.clone() {
+        Ok(to) => Ok((inbox, to)),
+        Err(AllocError) => {
+            drop(inbox);
+            Err(AllocError)
+        }
+    }
 }
 
-/// Has subscriber 1 come, and ask for everything.
-fn subscribe<R: Wait>(
+/// A flag that is down, twice.
+fn flag_twice(
+    alloc: Global,
+) -> Result<(Arc<AtomicBool, Global>, Arc<AtomicBool, Global>), AllocError> {
+    let Ok(flag) = Arc::new(alloc, AtomicBool::new(false)) else {
+        return Err(AllocError);
+    };
+    match Arc::try_clone(&flag) {
+        Ok(other) => Ok((flag, other)),
+        Err(AllocError) => {
+            drop(flag);
+            Err(AllocError)
+        }
+    }
+}
+
+/// An inbox in which subscriber 1 comes and asks for everything, and a flag that tells whether it had an output.
+fn subscribed<R: Wait>(
     rt: &R,
     alloc: Global,
-    to_subscriptions: &Sender<Note<Event<Keeper>>>,
-    keeper: Keeper,
-) -> Result<(), Fail> {
-    to_subscriptions.send(rt, Note::Item(Event::Attach(1, keeper)))?;
+) -> Result<(Inbox<Event<Keeper>>, Arc<AtomicBool, Global>), AllocError> {
+    let (inbox, (of_keeper, has_output)) = both(Inbox::new(alloc), flag_twice(alloc))?;
+    let keeper = Keeper::new(alloc, of_keeper);
+    tell(rt, &inbox.to, Note::Item(Event::Attach(1, keeper)));
     let everything = Octets::new(Vec::new(alloc));
-    to_subscriptions.send(rt, Note::Item(Event::Subscribe(1, everything)))?;
-    Ok(())
+    tell(rt, &inbox.to, Note::Item(Event::Subscribe(1, everything)));
+    Ok((inbox, has_output))
 }
 
-/// A kernel of these interpreters of shell and control, with a queue of so many places, at which subscriber 1 asks
-/// for everything, and its client.
-fn kernel_of<I: Drop, R: Wait>(
-    rt: &R,
+/// What a kernel is spoken to by.
+fn open<R: Wait>(rt: &R, alloc: Global) -> Result<Opened, AllocError> {
+    let channels = both(channel_of(alloc), channel_of(alloc));
+    let rest = both(subscribed(rt, alloc), Flags::new(alloc));
+    let (channels, rest) = both(channels, rest)?;
+    let ((shell_in, shell), (control_in, control)) = channels;
+    let ((subscriptions_in, has_output), flags) = rest;
+    Ok(Opened {
+        shell_in,
+        control_in,
+        subscriptions_in,
+        flags,
+        client: Client {
+            shell,
+            control,
+            has_output,
+        },
+    })
+}
+
+/// A kernel of these interpreters of shell and control, with a queue of so many places, and its client.
+fn kernel_of<I: Drop>(
     alloc: Global,
+    opened: Opened,
     capacity: usize,
     (shell, control): (I, I),
-) -> Result<(Parts<I, OneDate, Keeper>, Client), Fail> {
-    let has_output = Arc::new(alloc, AtomicBool::new(false))?;
-    let (shell_in, to_shell) = inbox_of(alloc)?;
-    let (control_in, to_control) = inbox_of(alloc)?;
-    let (subscriptions_in, to_subscriptions) = inbox_of(alloc)?;
-    let (shell_replies, from_shell) = unbounded(alloc)?;
-    let (control_replies, from_control) = unbounded(alloc)?;
-    let keeper = Keeper::new(alloc, Arc::try_clone(&has_output)?);
-    subscribe(rt, alloc, &to_subscriptions, keeper)?;
+) -> (Parts<I, OneDate, Keeper>, Client) {
+    let Opened {
+        shell_in,
+        control_in,
+        subscriptions_in,
+        flags,
+        client,
+    } = opened;
     let parts = Parts {
         shell: (shell, OneDate),
         control: (control, OneDate),
@@ -92,19 +165,10 @@ fn kernel_of<I: Drop, R: Wait>(
         capacity,
         shell_in,
         control_in,
-        flags: Flags::new(alloc)?,
+        flags,
         subscriptions_in,
     };
-    let client = Client {
-        to_shell,
-        to_control,
-        shell_replies,
-        from_shell,
-        control_replies,
-        from_control,
-        has_output,
-    };
-    Ok((parts, client))
+    (parts, client)
 }
 
 /// Shell arithmetic twice, with no variables.
@@ -112,18 +176,43 @@ fn two_ariths(alloc: Global) -> (ShellArith, ShellArith) {
     (ShellArith::new(alloc), ShellArith::new(alloc))
 }
 
-/// Puts a request of this type and content into an inbox, from a client and with an id by its number.
+/// Puts a request of this type and content into a channel, from a client and with an id by its number.
 fn ask_numbered<R: Wait>(
     rt: &R,
     alloc: Global,
-    (inbox, replies): (&Sender<Note<Job>>, &Sender<ReplyMessage>),
+    line: &Line,
     request: u64,
     (msg_type, content): (&str, &str),
-) -> Result<(), Fail> {
+) -> Result<(), AllocError> {
     let text = format!(in alloc;
         "c{request}\n<IDS|MSG>\n\n{{\"msg_id\":\"q{request}\",\"msg_type\":\"{msg_type}\"}}\n{{}}\n{{}}\n{content}"
     )?;
-    put(rt, alloc, inbox, replies, text.as_str())
+    let frames = frames_of(alloc, text.as_str());
+    drop(text);
+    put(rt, &line.to, &line.replies, frames?, None)
+}
+
+/// The text of the next reply, which is there.
+fn next_reply<R: Wait + Abort>(rt: &R, alloc: Global, line: &Line) -> Result<String, AllocError> {
+    let reply = line.from.try_recv(rt).ok().expect(rt, "a reply");
+    let text = frames_text(alloc, &reply.frames);
+    drop(reply);
+    text
+}
+
+/// The reply of this type, number and content to the request of a number and type, which goes to its client.
+fn due_reply(
+    alloc: Global,
+    (request, parent_type): (u64, &str),
+    due: (&str, u64, &str),
+) -> Result<String, AllocError> {
+    let front = format!(in alloc; "c{request}\n");
+    let parent = format!(in alloc; "{{\"msg_id\":\"q{request}\",\"msg_type\":\"{parent_type}\"}}");
+    let (front, parent) = both(front, parent)?;
+    let text = due_message(alloc, front.as_str(), due, parent.as_str());
+    drop(front);
+    drop(parent);
+    text
 }
 
 /// That the next reply is there, goes to the client of a request by its number, has its header as the parent, and is of
@@ -131,17 +220,27 @@ fn ask_numbered<R: Wait>(
 fn expect_numbered<R: Wait + Abort>(
     rt: &R,
     alloc: Global,
-    replies: &Receiver<ReplyMessage>,
-    (request, parent_type): (u64, &str),
+    line: &Line,
+    request: (u64, &str),
     due: (&str, u64, &str),
-) -> Result<(), Fail> {
-    let reply = replies.try_recv(rt).ok().expect(rt, "a reply");
-    let text = frames_text(alloc, &reply.frames)?;
-    let front = format!(in alloc; "c{request}\n")?;
-    let parent = format!(in alloc; "{{\"msg_id\":\"q{request}\",\"msg_type\":\"{parent_type}\"}}")?;
-    let due = due_message(alloc, front.as_str(), due, parent.as_str())?;
-    assert_eq!(rt; text.as_str(), due.as_str());
-    Ok(())
+) -> Result<(), AllocError> {
+    expect_same(
+        rt,
+        next_reply(rt, alloc, line),
+        due_reply(alloc, request, due),
+    )
+}
+
+/// That no reply is there.
+fn expect_no_reply<R: Wait + Abort>(rt: &R, line: &Line) {
+    let is_there = match line.from.try_recv(rt) {
+        Ok(reply) => {
+            drop(reply);
+            true
+        }
+        Err(_) => false,
+    };
+    assert!(rt; !is_there, "one reply more");
 }
 
 /// How many messages these octets are, if they are whole ones (RFC 23, "Framing"): each frame has its flags, of
@@ -190,6 +289,30 @@ struct End {
     undone: (u64, u64),
 }
 
+/// What is looked at of a kernel's end.
+fn look_at<R: Drop>(ended: KernelEnd<Keeper, R>) -> End {
+    let KernelEnd {
+        complete,
+        restart,
+        subscribers,
+        no_room,
+        relay,
+        work,
+    } = ended;
+    let started = work.started;
+    let undone = (work.shell.outcomes.undone, work.control.outcomes.undone);
+    drop(relay);
+    drop(work);
+    End {
+        complete,
+        restart,
+        subscribers,
+        no_room,
+        started,
+        undone,
+    }
+}
+
 /// Runs a kernel, and gives what is looked at of its end.
 fn end_of<I, R>(rt: R, alloc: Global, parts: Parts<I, OneDate, Keeper>) -> Result<End, KernelFault>
 where
@@ -198,124 +321,162 @@ where
     R: Threads + Wait + Copy + Send + Sync + Drop + 'static,
 {
     match run_kernel(rt, alloc, parts) {
-        Ok(ended) => Ok(End {
-            complete: ended.complete,
-            restart: ended.restart,
-            subscribers: ended.subscribers,
-            no_room: ended.no_room,
-            started: ended.work.started,
-            undone: (
-                ended.work.shell.outcomes.undone,
-                ended.work.control.outcomes.undone,
-            ),
-        }),
+        Ok(ended) => Ok(look_at(ended)),
         Err(fault) => Err(fault),
+    }
+}
+
+/// Runs a kernel of these interpreters that was asked all that it is asked: its end, and the client.
+fn run_asked<I, R>(
+    rt: R,
+    alloc: Global,
+    asked: Result<(), AllocError>,
+    opened: Opened,
+    capacity: usize,
+    interpreters: (I, I),
+) -> Result<(End, Client), AllocError>
+where
+    I: Interpreter + Drop + Send + 'static,
+    I::Cell: Drop + Send + 'static,
+    R: Threads + Wait + Copy + Send + Sync + Drop + 'static,
+{
+    let Ok(()) = asked else {
+        drop(opened);
+        drop(interpreters);
+        return Err(AllocError);
+    };
+    let (parts, client) = kernel_of(alloc, opened, capacity, interpreters);
+    match end_of(rt, alloc, parts) {
+        Ok(ended) => Ok((ended, client)),
+        Err(fault) => {
+            drop(fault);
+            drop(client);
+            Err(AllocError)
+        }
     }
 }
 
 /// That a kernel ended with all taken, and subscriber 1 alone, who didn't fail and got at most so many messages, whole.
 fn expect_end(rt: &impl Abort, ended: &End, restart: bool, most: usize) {
-    assert!(rt; ended.complete);
-    assert_eq!(rt; ended.restart, restart);
-    assert_eq!(rt; ended.no_room, 0);
-    assert!(rt; ended.started);
+    assert_eq!(rt; (ended.complete, ended.restart), (true, restart));
+    assert_eq!(rt; (ended.no_room, ended.started), (0, true));
     let [(id, keeper, has_failed)] = ended.subscribers.as_slice() else {
         assert!(rt; false, "{} subscribers", ended.subscribers.len());
         return;
     };
-    assert_eq!(rt; *id, 1);
-    assert!(rt; !*has_failed);
+    assert_eq!(rt; (*id, *has_failed), (1, false));
     let count = count_messages(keeper.octets.as_slice()).expect(rt, "whole messages");
     assert!(rt; count <= most, "{count} messages");
 }
 
 /// Asks a hundred times on shell, and then for a shutdown, and eight times on control.
-fn ask_109<R: Wait>(rt: &R, alloc: Global, client: &Client) -> Result<(), Fail> {
-    let shell = (&client.to_shell, &client.shell_replies);
+fn ask_109<R: Wait>(rt: &R, alloc: Global, client: &Client) -> Result<(), AllocError> {
     for request in 0..ON_SHELL {
-        ask_numbered(rt, alloc, shell, request, (ASKED, "{}"))?;
+        ask_numbered(rt, alloc, &client.shell, request, (ASKED, "{}"))?;
     }
     let shutdown = (SHUTDOWN, r#"{"restart":false}"#);
-    ask_numbered(rt, alloc, shell, ON_SHELL, shutdown)?;
-    let control = (&client.to_control, &client.control_replies);
+    ask_numbered(rt, alloc, &client.shell, ON_SHELL, shutdown)?;
     for request in 0..ON_CONTROL {
-        ask_numbered(rt, alloc, control, request, (ASKED, "{}"))?;
+        ask_numbered(rt, alloc, &client.control, request, (ASKED, "{}"))?;
     }
     Ok(())
 }
 
 /// Expects one reply to each of them.
-fn expect_109<R: Wait + Abort>(rt: &R, alloc: Global, client: &Client) -> Result<(), Fail> {
-    let info = |number| ("kernel_info_reply", number, INFO);
+fn expect_109<R: Wait + Abort>(rt: &R, alloc: Global, client: &Client) -> Result<(), AllocError> {
     for request in 0..ON_SHELL {
-        let due = info(4 + 3 * request);
-        expect_numbered(rt, alloc, &client.from_shell, (request, ASKED), due)?;
+        let due = ("kernel_info_reply", 4 + 3 * request, INFO);
+        expect_numbered(rt, alloc, &client.shell, (request, ASKED), due)?;
     }
     let due = ("shutdown_reply", 304, r#"{"restart":false,"status":"ok"}"#);
-    expect_numbered(rt, alloc, &client.from_shell, (ON_SHELL, SHUTDOWN), due)?;
-    assert!(rt; client.from_shell.try_recv(rt).is_err());
+    expect_numbered(rt, alloc, &client.shell, (ON_SHELL, SHUTDOWN), due)?;
     for request in 0..ON_CONTROL {
-        let due = info(3 + 3 * request);
-        expect_numbered(rt, alloc, &client.from_control, (request, ASKED), due)?;
+        let due = ("kernel_info_reply", 3 + 3 * request, INFO);
+        expect_numbered(rt, alloc, &client.control, (request, ASKED), due)?;
     }
-    assert!(rt; client.from_control.try_recv(rt).is_err());
+    expect_no_reply(rt, &client.shell);
+    expect_no_reply(rt, &client.control);
     Ok(())
 }
 
 #[test]
 fn each_of_109_jobs_has_one_reply(rt: HostRuntime) -> Result<(), Fail> {
     let alloc = rt.alloc();
-    let (parts, client) = kernel_of(&rt, alloc, 16, two_ariths(alloc))?;
-    ask_109(&rt, alloc, &client)?;
-    let ended = end_of(rt, alloc, parts)?;
-    expect_109(&rt, alloc, &client)?;
+    let opened = open(&rt, alloc)?;
+    let asked = ask_109(&rt, alloc, &opened.client);
+    let (ended, client) = run_asked(rt, alloc, asked, opened, 16, two_ariths(alloc))?;
+    let replied = expect_109(&rt, alloc, &client);
+    drop(client);
     expect_end(&rt, &ended, false, 1 + 2 * 109);
-    assert_eq!(rt; ended.undone, (0, 0));
-    Ok(())
+    let undone = ended.undone;
+    drop(ended);
+    assert_eq!(rt; undone, (0, 0));
+    Ok(replied?)
 }
 
 #[test]
 fn control_ends_a_kernel_that_begins_anew(rt: HostRuntime) -> Result<(), Fail> {
     let alloc = rt.alloc();
-    let (parts, client) = kernel_of(&rt, alloc, 1, two_ariths(alloc))?;
-    let control = (&client.to_control, &client.control_replies);
-    ask_numbered(&rt, alloc, control, 0, (SHUTDOWN, r#"{"restart":true}"#))?;
-    let ended = end_of(rt, alloc, parts)?;
+    let opened = open(&rt, alloc)?;
+    let shutdown = (SHUTDOWN, r#"{"restart":true}"#);
+    let asked = ask_numbered(&rt, alloc, &opened.client.control, 0, shutdown);
+    let (ended, client) = run_asked(rt, alloc, asked, opened, 1, two_ariths(alloc))?;
     let due = ("shutdown_reply", 3, r#"{"restart":true,"status":"ok"}"#);
-    expect_numbered(&rt, alloc, &client.from_control, (0, SHUTDOWN), due)?;
-    assert!(rt; client.from_control.try_recv(&rt).is_err());
+    let replied = expect_numbered(&rt, alloc, &client.control, (0, SHUTDOWN), due);
+    expect_no_reply(&rt, &client.control);
+    drop(client);
     expect_end(&rt, &ended, true, 3);
-    Ok(())
+    drop(ended);
+    Ok(replied?)
+}
+
+/// Asks for a shutdown on shell, and for another on control.
+fn ask_both<R: Wait>(rt: &R, alloc: Global, client: &Client) -> Result<(), AllocError> {
+    let on_shell = (SHUTDOWN, r#"{"restart":true}"#);
+    ask_numbered(rt, alloc, &client.shell, 0, on_shell)?;
+    let on_control = (SHUTDOWN, r#"{"restart":false}"#);
+    ask_numbered(rt, alloc, &client.control, 1, on_control)
 }
 
 #[test]
 fn word_of_control_counts_if_both_are_asked_for_a_shutdown(rt: HostRuntime) -> Result<(), Fail> {
     let alloc = rt.alloc();
-    let (parts, client) = kernel_of(&rt, alloc, 1, two_ariths(alloc))?;
-    let shell = (&client.to_shell, &client.shell_replies);
-    ask_numbered(&rt, alloc, shell, 0, (SHUTDOWN, r#"{"restart":true}"#))?;
-    let control = (&client.to_control, &client.control_replies);
-    ask_numbered(&rt, alloc, control, 1, (SHUTDOWN, r#"{"restart":false}"#))?;
-    let ended = end_of(rt, alloc, parts)?;
+    let opened = open(&rt, alloc)?;
+    let asked = ask_both(&rt, alloc, &opened.client);
+    let (ended, client) = run_asked(rt, alloc, asked, opened, 1, two_ariths(alloc))?;
     let due = ("shutdown_reply", 3, r#"{"restart":false,"status":"ok"}"#);
-    expect_numbered(&rt, alloc, &client.from_control, (1, SHUTDOWN), due)?;
+    let replied = expect_numbered(&rt, alloc, &client.control, (1, SHUTDOWN), due);
+    drop(client);
     expect_end(&rt, &ended, false, 5);
-    Ok(())
+    drop(ended);
+    Ok(replied?)
 }
 
-/// The text of the next reply, for which it waits.
-fn await_reply<R: Wait + Abort>(
-    rt: &R,
-    alloc: Global,
-    replies: &Receiver<ReplyMessage>,
-) -> Result<String, Fail> {
+/// The next reply, for which it waits.
+fn await_reply<R: Wait + Abort>(rt: &R, line: &Line) -> ReplyMessage {
     for _ in 0..TURNS {
-        if let Ok(reply) = replies.try_recv(rt) {
-            return frames_text(alloc, &reply.frames);
+        if let Ok(reply) = line.from.try_recv(rt) {
+            return reply;
         }
         thread::yield_now();
     }
-    Ok(None.expect(rt, "a reply in time"))
+    None.expect(rt, "a reply in time")
+}
+
+/// That the next reply, for which it waits, ends in this.
+fn expect_in_time<R: Wait + Abort>(
+    rt: &R,
+    alloc: Global,
+    line: &Line,
+    due: &str,
+) -> Result<(), AllocError> {
+    let reply = await_reply(rt, line);
+    let text = frames_text(alloc, &reply.frames);
+    drop(reply);
+    let text = text?;
+    assert!(rt; text.ends_with(due), "{text}");
+    drop(text);
+    Ok(())
 }
 
 /// Waits for an output of the cell that runs.
@@ -330,38 +491,84 @@ fn await_output(rt: &impl Abort, has_output: &AtomicBool) {
 }
 
 /// Interrupts the cell that runs, and then asks for a shutdown.
-fn interrupt<R: Wait + Abort>(rt: &R, alloc: Global, client: &Client) -> Result<(), Fail> {
+fn interrupt<R: Wait + Abort>(rt: &R, alloc: Global, client: &Client) -> Result<(), AllocError> {
     await_output(rt, &client.has_output);
-    let control = (&client.to_control, &client.control_replies);
+    let control = &client.control;
     ask_numbered(rt, alloc, control, 1, ("interrupt_request", "{}"))?;
-    let text = await_reply(rt, alloc, &client.from_control)?;
-    assert!(rt; text.ends_with(r#"{"status":"ok"}"#), "{text}");
-    let text = await_reply(rt, alloc, &client.from_shell)?;
-    assert!(rt; text.ends_with(INTERRUPTED), "{text}");
+    expect_in_time(rt, alloc, control, r#"{"status":"ok"}"#)?;
+    expect_in_time(rt, alloc, &client.shell, INTERRUPTED)?;
     ask_numbered(rt, alloc, control, 2, (SHUTDOWN, r#"{"restart":false}"#))
+}
+
+/// Has a kernel of long cells run in a thread of its own, if it was asked: that thread, and the client.
+fn start_long<R>(
+    rt: R,
+    alloc: Global,
+    asked: Result<(), AllocError>,
+    opened: Opened,
+) -> Result<(JoinHandle<Result<End, KernelFault>>, Client), AllocError>
+where
+    R: Threads + Wait + Copy + Send + Sync + Drop + 'static,
+{
+    let Ok(()) = asked else {
+        drop(opened);
+        return Err(AllocError);
+    };
+    let (parts, client) = kernel_of(alloc, opened, 16, (Long, Long));
+    match thread::spawn(&rt, move || end_of(rt, alloc, parts)) {
+        Ok(kernel) => Ok((kernel, client)),
+        Err(refused) => {
+            drop(refused);
+            drop(client);
+            Err(AllocError)
+        }
+    }
 }
 
 #[test]
 fn a_cell_that_runs_is_interrupted(rt: HostRuntime) -> Result<(), Fail> {
     let alloc = rt.alloc();
-    let (parts, client) = kernel_of(&rt, alloc, 16, (Long, Long))?;
-    let shell = (&client.to_shell, &client.shell_replies);
-    ask_numbered(&rt, alloc, shell, 0, ("execute_request", r#"{"code":"x"}"#))?;
-    let kernel = thread::spawn(&rt, move || end_of(rt, alloc, parts))?;
-    interrupt(&rt, alloc, &client)?;
-    let ended = kernel.join(&rt)?;
+    let opened = open(&rt, alloc)?;
+    let cell = ("execute_request", r#"{"code":"x"}"#);
+    let asked = ask_numbered(&rt, alloc, &opened.client.shell, 0, cell);
+    let (kernel, client) = start_long(rt, alloc, asked, opened)?;
+    let interrupted = interrupt(&rt, alloc, &client);
+    let ended = kernel.join(&rt).ok().expect(&rt, "an end");
     let due = ("shutdown_reply", 6, r#"{"restart":false,"status":"ok"}"#);
-    expect_numbered(&rt, alloc, &client.from_control, (2, SHUTDOWN), due)?;
+    let replied = expect_numbered(&rt, alloc, &client.control, (2, SHUTDOWN), due);
+    drop(client);
     expect_end(&rt, &ended, false, LINES + 9);
-    Ok(())
+    drop(ended);
+    interrupted?;
+    Ok(replied?)
+}
+
+/// The number of the fault for which no kernel runs on a queue of so many places.
+fn refused_with<R>(rt: R, alloc: Global, capacity: usize) -> Result<Option<u8>, AllocError>
+where
+    R: Threads + Wait + Copy + Send + Sync + Drop + 'static,
+{
+    let opened = open(&rt, alloc)?;
+    let (parts, client) = kernel_of(alloc, opened, capacity, two_ariths(alloc));
+    drop(client);
+    match end_of(rt, alloc, parts) {
+        Ok(ended) => {
+            drop(ended);
+            Ok(None)
+        }
+        Err(fault) => {
+            let number = fault.number();
+            drop(fault);
+            Ok(Some(number))
+        }
+    }
 }
 
 #[test]
 fn no_kernel_runs_on_a_queue_of_no_place_or_too_many(rt: HostRuntime) -> Result<(), Fail> {
     for capacity in [0, 65_537] {
-        let (parts, _client) = kernel_of(&rt, rt.alloc(), capacity, two_ariths(rt.alloc()))?;
-        let fault = end_of(rt, rt.alloc(), parts).err().expect(&rt, "a fault");
-        assert_eq!(rt; fault.number(), 61, "{capacity} places");
+        let number = refused_with(rt, rt.alloc(), capacity)?;
+        assert_eq!(rt; number, Some(61), "{capacity} places");
     }
     Ok(())
 }

@@ -1,14 +1,15 @@
 //! A kernel that is shut down in order, its relay in a thread of its own.
 
-ghost use Rattle.std.specs.Prelude.{◌≡◌, ◌<◌, ◌≤◌, [], IfOk, length, vec_capacity};
+ghost use Rattle.std.specs.Prelude.{◌≡◌, ◌<◌, ◌≤◌, [], IfOk, IfSome, length, vec_capacity};
 ghost use Rattle.kernel_workers.specs.Starting.{IsOpened};
 ghost use Rattle.test_kernel.specs.Ready.{AreOfOne, IsLast};
 
 use crate::tests::keeper::Keeper;
 use arith_shell::ShellArith;
 use crossbeam_channel::unbounded;
+use crossbeam_utils::sync::Unparker;
 use iopub_event::Event;
-use iopub_queue::{Closed, OpenFault, Publish, Publisher, Taker, open_queue};
+use iopub_queue::{Closed, Publish, Taker};
 use iopub_relay::Relay;
 use jmsg_envelope::{Envelope, Signer, Stamp, open_envelope};
 use kernel_engine::{Done, Engine, EngineFault, Side, Stop};
@@ -20,7 +21,9 @@ use std::sync::atomic::AtomicBool;
 use std::sync::{Arc, Wait};
 use std::test::Fail;
 use std::thread::Threads;
-use test_requests::{DATE, SHUTDOWN, due_text, frames_text};
+use test_requests::{
+    DATE, SHUTDOWN, both, due_text, expect_same, frames_text, open_three, request_frames,
+};
 
 /// What handles the requests of a channel.
 type KeptEngine<R> = Engine<ShellArith, Waking<Event<Keeper>, R>, FewDates, Keeper>;
@@ -96,56 +99,53 @@ struct Ready<R> {
     relay_end: RelayEnd,
 }
 
-/// Three publishers and the taker of a queue of one place.
-fn open_three<T: Drop, R: Copy + Drop>(
-    rt: &R,
+/// The relay's worker over this taker, and by which it is told to end. None for want of memory.
+fn relay_of<R: Drop>(
     alloc: Global,
-) -> Result<
-    (
-        Publisher<T, R>,
-        Publisher<T, R>,
-        Publisher<T, R>,
-        Taker<T, R>,
-    ),
-    OpenFault,
->
-    ensures opened { IfOk result (λ opened. IsOpened opened.0 opened.1 opened.2 opened.3) }
+    taker: Taker<Event<Keeper>, R>,
+) -> Option<(RelayWorker<Keeper, R>, RelayEnd)>
+    requires { taker.taken ≡ [] }
+    ensures { IfSome result (λ made. made.0.relay.taker ≡ taker) }
 {
-    let (publishers, taker) = open_queue(rt, alloc, 3, 1)?;
-    let mut publishers = publishers.into_iter();
-    let shell = publishers.next().unwrap();
-    let control = publishers.next().unwrap();
-    let door = publishers.next().unwrap();
-    drop(publishers);
-    Ok((shell, control, door, taker))
+    let Ok((subscriptions, nobody)) = unbounded(alloc) else {
+        drop(taker);
+        return None;
+    };
+    drop(nobody);
+    RelayWorker::new(alloc, Relay::new(alloc, taker), subscriptions).ok()
+}
+
+/// What wakes the relay's worker, once for each publisher.
+fn unparkers_of<R: Drop>(
+    relay: &RelayWorker<Keeper, R>,
+) -> Result<(Unparker, Unparker, Unparker), AllocError> {
+    Ok((relay.unparker()?, relay.unparker()?, relay.unparker()?))
 }
 
 /// What a kernel of a queue of one place begins with.
-fn begin<R: Copy + Drop>(rt: &R, alloc: Global) -> Result<Ready<R>, Fail>
-    ensures { IfOk result (λ ready. IsOpened ready.shell ready.control ready.door ready.relay.relay.taker) }
+fn begin<R: Copy + Drop>(rt: &R, alloc: Global) -> Option<Ready<R>>
+    ensures { IfSome result (λ ready. IsOpened ready.shell ready.control ready.door ready.relay.relay.taker) }
 {
-    let (shell, control, door, taker) = open_three(rt, alloc)?;
-    let (subscriptions, _) = unbounded(alloc)?;
-    let (relay, relay_end) = RelayWorker::new(alloc, Relay::new(alloc, taker), subscriptions)?;
-    Ok(Ready {
-        shell: Waking::new(shell, relay.unparker()?),
-        control: Waking::new(control, relay.unparker()?),
-        door: Waking::new(door, relay.unparker()?),
-        relay,
-        relay_end,
-    })
-}
-
-/// The frames of a request of this type and content.
-fn frames_of(alloc: Global, msg_type: &str, content: &str) -> Result<Frames, Fail> {
-    let text = format!(in alloc;
-        "<IDS|MSG>\n\n{{\"msg_id\":\"q\",\"msg_type\":\"{msg_type}\"}}\n{{}}\n{{}}\n{content}"
-    )?;
-    let mut frames = Vec::new(alloc);
-    for line in text.as_str().split('\n') {
-        frames.push(Vec::from_slice(alloc, line.as_bytes())?)?;
+    let Ok((shell, control, door, taker)) = open_three(rt, alloc, 1) else {
+        return None;
+    };
+    let Some((relay, relay_end)) = relay_of(alloc, taker) else {
+        drop((shell, control, door));
+        return None;
+    };
+    match unparkers_of(&relay) {
+        Ok((for_shell, for_control, for_door)) => Some(Ready {
+            shell: Waking::new(shell, for_shell),
+            control: Waking::new(control, for_control),
+            door: Waking::new(door, for_door),
+            relay,
+            relay_end,
+        }),
+        Err(AllocError) => {
+            drop((shell, control, door, relay, relay_end));
+            None
+        }
     }
-    Ok(Frames::new(frames))
 }
 
 /// Has an engine execute a cell.
@@ -156,40 +156,61 @@ fn execute<R: Wait>(alloc: Global, engine: &mut KeptEngine<R>, frames: Frames) -
     engine.take(alloc, frames, &GoOn)
 }
 
-/// Has subscriber 1 come and ask for everything, and a cell of three statements run on shell, while the relay serves
-/// them in a thread of its own. The stamp of control has so many dates.
-fn serve_cell<R>(rt: R, alloc: Global, ready: Ready<R>, dates: u64) -> Result<Served<R>, Fail>
+/// Has subscriber 1, who writes to a keeper, come and ask for everything, and a cell run on shell, while the relay
+/// serves them in a thread of its own. The stamp of control has so many dates. None if there is no thread for the relay.
+fn serve_cell<R>(
+    rt: R,
+    alloc: Global,
+    ready: Ready<R>,
+    given: (Frames, Keeper),
+    dates: u64,
+) -> Option<Served<R>>
 where
     R: Threads + Wait + Copy + Send + Sync + Drop + 'static,
     requires { IsOpened ready.shell ready.control ready.door ready.relay.relay.taker }
-    ensures { IfOk result (λ served. AreOfOne served.shell.publishing.sink served.control.publishing.sink served.door
+    ensures { IfSome result (λ served. AreOfOne served.shell.publishing.sink served.control.publishing.sink served.door
         served.relay.taker) }
 {
+    let (cell, keeper) = given;
     let Ready {
         shell,
         control,
-        mut door,
+        door,
         relay,
         relay_end,
     } = ready;
-    let mut shell = kept_engine(alloc, Side::Shell, shell, FewDates(ENOUGH));
-    let control = kept_engine(alloc, Side::Control, control, FewDates(dates));
-    let keeper = Keeper::new(alloc, Arc::new(alloc, AtomicBool::new(false))?);
-    let frames = frames_of(alloc, "execute_request", r#"{"code":"1;2;3"}"#)?;
     let Some(thread) = relay.spawn(rt) else {
-        return Err(Fail::from("no thread"));
+        drop((shell, control, door, relay_end, cell, keeper));
+        return None;
     };
-    let _ = door.publish(Event::Attach(1, keeper));
-    let _ = door.publish(Event::Subscribe(1, Octets::new(Vec::new(alloc))));
-    let done = execute(alloc, &mut shell, frames);
+    let door = subscribe(alloc, door, keeper);
+    let mut engine = kept_engine(alloc, Side::Shell, shell, FewDates(ENOUGH));
+    let done = execute(alloc, &mut engine, cell);
     drop(done);
+    let control = kept_engine(alloc, Side::Control, control, FewDates(dates));
     relay_end.end();
-    Ok(Served {
-        shell,
+    let relay = thread.join(&rt);
+    Some(Served {
+        shell: engine,
         control,
         door,
-        relay: thread.join(&rt),
+        relay,
     })
+}
+
+/// Has subscriber 1 come and ask for everything.
+fn subscribe<R: Wait + Drop>(
+    alloc: Global,
+    mut door: Waking<Event<Keeper>, R>,
+    keeper: Keeper,
+) -> Waking<Event<Keeper>, R>
+    ensures queue { result.queue ≡ door.queue }
+    ensures number { result.number ≡ door.number }
+{
+    drop(door.publish(Event::Attach(1, keeper)));
+    let everything = Octets::new(Vec::new(alloc));
+    drop(door.publish(Event::Subscribe(1, everything)));
+    door
 }
 
 /// What there is before the shutdown.
@@ -289,75 +310,106 @@ where
     }
 }
 
+/// Where a text stands in octets: how often, and where first and last.
+#[derive(Clone, Copy, Debug)]
+struct Places {
+    /// How often.
+    count: usize,
+    /// Where first.
+    first: usize,
+    /// Where last.
+    last: usize,
+}
+
 /// Where a text stands in octets.
-fn places(alloc: Global, octets: &[u8], text: &[u8]) -> Result<Vec<usize>, Fail>
+fn places_of(octets: &[u8], text: &[u8]) -> Places
     requires { 0 < length text.now }
 {
-    let mut places = Vec::new(alloc);
+    let mut places = Places {
+        count: 0,
+        first: 0,
+        last: 0,
+    };
     for (place, window) in octets.windows(text.len()).enumerate() {
         if window == text {
-            places.push(place)?;
+            if places.count == 0 {
+                places.first = place;
+            }
+            places.last = place;
+            places.count = places.count.saturating_add(1);
         }
     }
-    Ok(places)
+    places
 }
 
 /// That a subscriber got the six messages of the cell, and behind them the two of the shutdown. That shell's close was
 /// taken before the last of them, too, no subscriber sees.
-fn expect_order(rt: &impl Abort, alloc: Global, octets: &[u8]) -> Result<(), Fail> {
-    let of_cell = places(alloc, octets, EXECUTED)?;
-    let of_shutdown = places(alloc, octets, SHUT_DOWN)?;
-    let idles = places(alloc, octets, IDLE)?;
-    assert_eq!(rt; (of_cell.len(), of_shutdown.len(), idles.len()), (6, 2, 2));
-    assert!(rt; of_cell.iter().all(|cell| *cell < of_shutdown[0]));
-    assert!(rt; of_cell.iter().all(|cell| *cell < idles[0]));
-    assert!(rt; of_shutdown.iter().all(|one| *one < idles[1]));
-    Ok(())
-}
-
-/// A request for a shutdown that begins the kernel anew.
-fn shutdown_request(alloc: Global) -> Result<Envelope, Fail> {
-    let frames = frames_of(alloc, SHUTDOWN, r#"{"restart":true}"#)?;
-    let unsigned = Signer::new(Vec::new(alloc));
-    Ok(open_envelope(alloc, &unsigned, frames.into_vec())?)
+fn expect_order(rt: &impl Abort, octets: &[u8]) {
+    let of_cell = places_of(octets, EXECUTED);
+    let of_shutdown = places_of(octets, SHUT_DOWN);
+    let idles = places_of(octets, IDLE);
+    assert_eq!(rt; (of_cell.count, of_shutdown.count, idles.count), (6, 2, 2));
+    assert!(rt; of_cell.last < of_shutdown.first);
+    assert!(rt; of_cell.last < idles.first);
+    assert!(rt; of_shutdown.last < idles.last);
 }
 
 /// That a subscriber got the six messages of the cell, and none of the shutdown.
-fn expect_cell_alone(rt: &impl Abort, alloc: Global, octets: &[u8]) -> Result<(), Fail> {
-    let of_cell = places(alloc, octets, EXECUTED)?;
-    let of_shutdown = places(alloc, octets, SHUT_DOWN)?;
-    assert_eq!(rt; (of_cell.len(), of_shutdown.len()), (6, 0));
-    Ok(())
+fn expect_cell_alone(rt: &impl Abort, octets: &[u8]) {
+    let of_cell = places_of(octets, EXECUTED);
+    let of_shutdown = places_of(octets, SHUT_DOWN);
+    assert_eq!(rt; (of_cell.count, of_shutdown.count), (6, 0));
 }
 
-/// How a kernel ends whose subscriber saw a cell run, and whose control has so many dates. None if there was no thread
-/// for the relay.
-fn end_of<R>(rt: R, alloc: Global, dates: u64) -> Result<Option<ShutdownEnd<Keeper, R>>, Fail>
+/// A request for a shutdown that begins the kernel anew.
+fn shutdown_request(alloc: Global) -> Result<Envelope, AllocError> {
+    let frames = request_frames(alloc, (SHUTDOWN, r#"{"restart":true}"#))?;
+    let unsigned = Signer::new(Vec::new(alloc));
+    let request = open_envelope(alloc, &unsigned, frames.into_vec());
+    drop(unsigned);
+    match request {
+        Ok(request) => Ok(request),
+        Err(fault) => {
+            drop(fault);
+            Err(AllocError)
+        }
+    }
+}
+
+/// A cell of three statements, and what writes to the subscriber.
+fn cell(alloc: Global) -> Result<(Frames, Keeper), AllocError> {
+    let cell = request_frames(alloc, ("execute_request", r#"{"code":"1;2;3"}"#))?;
+    match Arc::new(alloc, AtomicBool::new(false)) {
+        Ok(has_output) => Ok((cell, Keeper::new(alloc, has_output))),
+        Err(_) => {
+            drop(cell);
+            Err(AllocError)
+        }
+    }
+}
+
+/// How a kernel ends whose subscriber saw a cell run, and whose control has so many dates. None if there was no memory
+/// or no thread.
+fn end_of<R>(rt: R, alloc: Global, dates: u64) -> Option<ShutdownEnd<Keeper, R>>
 where
     R: Threads + Wait + Copy + Send + Sync + Drop + 'static,
 {
-    let tokens = room_for_three(alloc)?;
-    let request = match shutdown_request(alloc) {
-        Ok(request) => request,
-        Err(fail) => {
-            drop(tokens);
-            return Err(fail);
-        }
+    let Ok(tokens) = room_for_three(alloc) else {
+        return None;
     };
-    let ready = match begin(&rt, alloc) {
-        Ok(ready) => ready,
-        Err(fail) => {
-            drop(tokens);
-            drop(request);
-            return Err(fail);
-        }
+    let Ok((request, cell)) = both(shutdown_request(alloc), cell(alloc)) else {
+        drop(tokens);
+        return None;
     };
-    match serve_cell(rt, alloc, ready, dates) {
-        Ok(served) => Ok(shut_down(rt, alloc, served, request, tokens)),
-        Err(fail) => {
-            drop(tokens);
-            drop(request);
-            Err(fail)
+    let Some(ready) = begin(&rt, alloc) else {
+        drop((tokens, request, cell));
+        return None;
+    };
+    match serve_cell(rt, alloc, ready, cell, dates) {
+        Some(served) => shut_down(rt, alloc, served, request, tokens),
+        None => {
+            drop((tokens, request));
+            None
         }
     }
 }
@@ -367,63 +419,86 @@ fn expect_shutdown_reply(
     rt: &impl Abort,
     alloc: Global,
     reply: Option<Frames>,
-) -> Result<(), Fail> {
-    let text = frames_text(alloc, &reply.expect(rt, "a reply"))?;
+) -> Result<(), AllocError> {
+    let reply = reply.expect(rt, "a reply");
+    let text = frames_text(alloc, &reply);
+    drop(reply);
     let due = ("shutdown_reply", 3, r#"{"restart":true,"status":"ok"}"#);
-    assert_eq!(rt; text.as_str(), due_text(alloc, "", due, SHUTDOWN)?.as_str());
-    Ok(())
+    expect_same(rt, text, due_text(alloc, "", due, SHUTDOWN))
 }
 
-/// What subscriber 1 got, who alone is left of a relay, and didn't fail.
-fn expect_subscriber<R: Drop>(rt: &impl Abort, relay: Relay<Keeper, R>) -> Vec<u8> {
-    let mut subscribers = relay.finish().ok().expect(rt, "memory");
-    assert_eq!(rt; subscribers.len(), 1);
-    let (id, keeper, has_failed) = subscribers.pop().expect(rt, "a subscriber");
-    assert_eq!(rt; (id, has_failed), (1, false));
-    keeper.octets
+/// What subscriber 1 got, if it alone is left of a relay, and didn't fail.
+fn octets_of<R: Drop>(relay: Relay<Keeper, R>) -> Option<Vec<u8>> {
+    match relay.finish() {
+        Ok(subscribers) => octets_of_one(subscribers),
+        Err(relay) => {
+            drop(relay);
+            None
+        }
+    }
+}
+
+/// What subscriber 1 got, if it is the only one, and didn't fail.
+fn octets_of_one(mut subscribers: Vec<(u64, Keeper, bool)>) -> Option<Vec<u8>> {
+    let last = subscribers.pop();
+    let is_alone = subscribers.is_empty();
+    drop(subscribers);
+    let (id, keeper, has_failed) = last?;
+    let octets = keeper.into_octets();
+    if is_alone && id == 1 && !has_failed {
+        return Some(octets);
+    }
+    drop(octets);
+    None
+}
+
+/// Looks at what the subscriber got, who alone was there.
+fn look<R: Drop>(rt: &impl Abort, relay: Relay<Keeper, R>, has_shutdown: bool) {
+    let octets = octets_of(relay).expect(rt, "subscriber 1 alone, who didn't fail");
+    if has_shutdown {
+        expect_order(rt, octets.as_slice());
+    } else {
+        expect_cell_alone(rt, octets.as_slice());
+    }
+    drop(octets);
 }
 
 #[test]
 fn a_kernel_that_is_shut_down_serves_the_cell_before_the_shutdown(
     rt: HostRuntime,
 ) -> Result<(), Fail> {
+    let end = end_of(rt, rt.alloc(), ENOUGH).expect(&rt, "memory and a thread");
     let ShutdownEnd {
         relay,
         reply,
         restart,
         complete,
         fault,
-    } = end_of(rt, rt.alloc(), ENOUGH)?.expect(&rt, "a thread");
-    assert_eq!(rt; (complete, restart, fault.is_none()), (true, true, true));
+    } = end;
+    look(&rt, relay, true);
+    let is_refused = fault.is_some();
     drop(fault);
-    match expect_shutdown_reply(&rt, rt.alloc(), reply) {
-        Ok(()) => {
-            let octets = expect_subscriber(&rt, relay);
-            expect_order(&rt, rt.alloc(), octets.as_slice())
-        }
-        Err(fail) => {
-            drop(relay);
-            Err(fail)
-        }
-    }
+    let replied = expect_shutdown_reply(&rt, rt.alloc(), reply);
+    assert_eq!(rt; (complete, restart, is_refused), (true, true, false));
+    Ok(replied?)
 }
 
 #[test]
 fn a_shutdown_for_which_there_is_no_memory_ends_the_kernel(rt: HostRuntime) -> Result<(), Fail> {
+    let end = end_of(rt, rt.alloc(), 0).expect(&rt, "memory and a thread");
     let ShutdownEnd {
         relay,
         reply,
         restart,
         complete,
         fault,
-    } = end_of(rt, rt.alloc(), 0)?.expect(&rt, "a thread");
+    } = end;
+    look(&rt, relay, false);
     let number = fault.as_ref().map(EngineFault::number);
     drop(fault);
-    assert_eq!(rt;
-        (complete, restart, reply.is_none(), number),
-        (true, false, true, Some(71))
-    );
+    let is_replied = reply.is_some();
     drop(reply);
-    let octets = expect_subscriber(&rt, relay);
-    expect_cell_alone(&rt, rt.alloc(), octets.as_slice())
+    assert_eq!(rt; (complete, restart, is_replied), (true, false, false));
+    assert_eq!(rt; number, Some(71));
+    Ok(())
 }

@@ -4,10 +4,10 @@
 ghost use Rattle.std.specs.Prelude.{◌≡◌, IfSome, IsSomeAnd};
 ghost use Rattle.crossbeam_queue.specs.Passes.{view, IsPassOf};
 
-use crate::tests::workers::take_all;
+use crate::tests::workers::{Entries, take_all};
 use crossbeam_queue::protocol::{Outcome, Protocol, Split};
 use crossbeam_queue::{Pass, RuledArrayQueue};
-use iopub_queue::{Publisher, Taker, Word, open_queue};
+use iopub_queue::{Publisher, Word, open_queue};
 use std::alloc::{AllocError, Global};
 use std::process::Abort;
 use std::sync::Wait;
@@ -92,14 +92,10 @@ fn say<R: Wait>(publisher: &mut Publisher<Said, R>, name: Name, handed: Option<H
 {
     match handed {
         Some((word, heard)) => {
-            let Ok(()) = publisher.publish_after(word, (name, heard)) else {
-                unreachable!();
-            };
+            drop(publisher.publish_after(word, (name, heard)));
         }
         None => {
-            let Ok(()) = publisher.publish((name, None)) else {
-                unreachable!();
-            };
+            drop(publisher.publish((name, None)));
         }
     }
 }
@@ -120,12 +116,10 @@ where
         let handed = words.try_pop_as::<Hearing>(&mut pass);
         say(&mut publisher, name, handed);
         let word = publisher.tell();
-        let _ = words.try_push_as::<Handing>(&mut pass, (word, Some(name)));
+        drop(words.try_push_as::<Handing>(&mut pass, (word, Some(name))));
         thread::yield_now();
     }
-    let Ok(_) = publisher.close() else {
-        unreachable!();
-    };
+    drop(publisher.close());
 }
 
 /// Two publishers converse at the same time. False where no word could be handed over at first.
@@ -158,35 +152,57 @@ where
     Ok(true)
 }
 
-/// Takes until nothing comes any more, and gives what was taken.
-fn taken_by<R: Wait + Drop>(
-    rt: R,
-    alloc: Global,
-    mut taker: Taker<Said, R>,
-) -> Result<Vec<(usize, Option<Said>)>, AllocError> {
-    take_all(&rt, alloc, &mut taker)
+/// What is taken of two publishers that converse.
+fn taken_of_both<R>(rt: R, alloc: Global) -> Result<Entries<Said>, AllocError>
+where
+    R: Abort + Threads + Wait + Copy + Send + Sync + Drop + 'static,
+{
+    let Ok((mut publishers, taker)) = open_queue(&rt, alloc, 2, 3) else {
+        return Err(AllocError);
+    };
+    let (Some(one), Some(zero)) = (publishers.pop(), publishers.pop()) else {
+        unreachable!();
+    };
+    drop(publishers);
+    let (taken, conversed) = thread::join(
+        &rt,
+        move || take_all(&rt, alloc, taker),
+        move ||
+            requires { zero.queue ≡ one.queue }
+        { both_converse(rt, alloc, zero, one) },
+    );
+    if conversed? { taken } else { Err(AllocError) }
+}
+
+/// The last item that was taken of each publisher, if all were taken in the order that they were told of, and in each
+/// publisher's order.
+fn last_in_order(taken: &[(usize, Option<Said>)]) -> Option<[Option<u32>; 2]> {
+    let mut last = [None, None];
+    for entry in taken {
+        let Some((name, heard)) = entry.1 else {
+            continue;
+        };
+        if let Some((other, round)) = heard {
+            if last.get(other).is_none_or(|last| *last < Some(round)) {
+                return None;
+            }
+        }
+        if let Some(last) = last.get_mut(name.0) {
+            if *last >= Some(name.1) {
+                return None;
+            }
+            *last = Some(name.1);
+        }
+    }
+    Some(last)
 }
 
 #[test]
 fn what_is_heard_of_is_taken_first(rt: HostRuntime) -> Result<(), Fail> {
-    let (publishers, taker) = open_queue(&rt, rt.alloc(), 2, 3)?;
-    let mut publishers = publishers.into_iter();
-    let (Some(zero), Some(one)) = (publishers.next(), publishers.next()) else {
-        unreachable!();
-    };
-    let takes = thread::spawn(&rt, move || taken_by(rt, rt.alloc(), taker))?;
-    assert!(rt; both_converse(rt, rt.alloc(), zero, one)?);
-    let taken = takes.join(&rt)?;
-    assert_eq!(rt; taken.len(), 2 * ROUNDS as usize + 2);
-    let mut last = [None, None];
-    for (name, heard) in taken.iter().filter_map(|entry| entry.1) {
-        if let Some((other, round)) = heard {
-            assert!(rt; last.get(other).is_some_and(|last| *last >= Some(round)));
-        }
-        if let Some(last) = last.get_mut(name.0) {
-            *last = Some(name.1);
-        }
-    }
-    assert_eq!(rt; last, [Some(ROUNDS - 1), Some(ROUNDS - 1)]);
+    let taken = taken_of_both(rt, rt.alloc())?;
+    let (count, last) = (taken.len(), last_in_order(&taken));
+    drop(taken);
+    assert_eq!(rt; count, 2 * ROUNDS as usize + 2);
+    assert_eq!(rt; last, Some([Some(ROUNDS - 1), Some(ROUNDS - 1)]));
     Ok(())
 }

@@ -1,10 +1,10 @@
 //! The relay over lists of events: each subscriber's octets.
 
 use crate::tests::steps::{
-    ALL, EVERYTHING, Last, STREAMS, Step, Takes, WHOLE_TEXTS, are_left, event_of, events_of,
-    standard,
+    ALL, EVERYTHING, Last, Narrow, STREAMS, Step, Takes, add, are_left, events_of, standard,
+    writers_that_end,
 };
-use iopub_relay::feed_core;
+use iopub_relay::{Event, feed_core};
 use std::alloc::{AllocError, Global};
 use std::test::Fail;
 
@@ -147,11 +147,23 @@ fn leaves(alloc: Global, steps: &[Step<'_>], wanted: &[(u64, &[u8])]) -> Result<
     Ok(are_left(&left, wanted))
 }
 
+/// Which of these lists is the first that leaves something else, if there is one.
+fn first_wrong_list(
+    alloc: Global,
+    lists: &[(&[Step<'_>], &[(u64, &[u8])])],
+) -> Result<Option<usize>, AllocError> {
+    for place in 0..lists.len() {
+        let (steps, wanted) = lists[place];
+        if !leaves(alloc, steps, wanted)? {
+            return Ok(Some(place));
+        }
+    }
+    Ok(None)
+}
+
 #[test]
 fn each_subscriber_gets_what_it_asked_for(rt: HostRuntime) -> Result<(), Fail> {
-    for (steps, wanted) in LISTS {
-        assert!(rt; leaves(rt.alloc(), steps, wanted)?, "{steps:?}");
-    }
+    assert_eq!(rt; first_wrong_list(rt.alloc(), &LISTS)?, None);
     Ok(())
 }
 
@@ -169,32 +181,21 @@ fn standard_leaves(
     Ok(are_left(&left, &[(1, beginning), (2, STREAMS)]))
 }
 
-#[test]
-fn a_write_that_fails_at_every_place(rt: HostRuntime) -> Result<(), Fail> {
-    for last in [Last::Fails, Last::TakesNothing] {
-        for writes in 0usize..=66 {
-            let first = Takes {
-                width: 1,
-                writes,
-                last,
-            };
-            assert!(rt;
-                standard_leaves(rt.alloc(), first, ALL, writes.min(65))?,
-                "{first:?}"
-            );
-        }
-        for (writes, octets) in WHOLE_TEXTS {
-            let first = Takes {
-                width: usize::MAX,
-                writes,
-                last,
-            };
-            assert!(rt;
-                standard_leaves(rt.alloc(), first, ALL, octets)?,
-                "{first:?}"
-            );
+/// The first of these writers behind which something else is left, if there is one.
+fn first_wrong(alloc: Global, writers: &[(Takes, usize)]) -> Result<Option<Takes>, AllocError> {
+    for (first, octets) in writers {
+        if !standard_leaves(alloc, *first, ALL, *octets)? {
+            return Ok(Some(*first));
         }
     }
+    Ok(None)
+}
+
+#[test]
+fn a_write_that_fails_at_every_place(rt: HostRuntime) -> Result<(), Fail> {
+    let writers = writers_that_end(rt.alloc())?;
+    let wrong = first_wrong(rt.alloc(), &writers)?;
+    assert!(rt; wrong.is_none(), "{wrong:?}");
     Ok(())
 }
 
@@ -207,36 +208,9 @@ fn writers_that_take_one_octet_or_twenty_or_all(rt: HostRuntime) -> Result<(), F
     Ok(())
 }
 
-#[test]
-fn a_writer_of_one_that_comes_twice_fails_at_every_place(rt: HostRuntime) -> Result<(), Fail> {
-    let whole = b"\x00\x01a\x00\x01b";
-    for writes in 0usize..=6 {
-        let steps = [
-            Step::Attach(
-                1,
-                Takes {
-                    width: 1,
-                    writes,
-                    last: Last::Fails,
-                },
-            ),
-            Step::Subscribe(1, b""),
-            Step::Message(&[b"a"]),
-            Step::Attach(1, ALL),
-            Step::Message(&[b"b"]),
-        ];
-        assert!(rt;
-            leaves(rt.alloc(), &steps, &[(1, &whole[..writes])])?,
-            "{writes}"
-        );
-    }
-    Ok(())
-}
-
-#[test]
-fn long_topics_and_long_frames(rt: HostRuntime) -> Result<(), Fail> {
-    // A topic of sixteen mebibytes, held twice.
-    let long = vec![in rt.alloc(); b'a'; 16_777_216]?;
+/// Whether a subscriber gets what is left of its topics, of which one is sixteen mebibytes long and held twice.
+fn long_topic_is_held(alloc: Global) -> Result<bool, AllocError> {
+    let long = vec![in alloc; b'a'; 16_777_216]?;
     let steps = [
         Step::Attach(1, ALL),
         Step::Subscribe(1, &long),
@@ -247,47 +221,78 @@ fn long_topics_and_long_frames(rt: HostRuntime) -> Result<(), Fail> {
         Step::Cancel(1, b"aa"),
         Step::Message(&[b"aaa"]),
     ];
-    assert!(rt; leaves(rt.alloc(), &steps, &[(1, b"\x00\x03aaa")])?);
+    leaves(alloc, &steps, &[(1, b"\x00\x03aaa")])
+}
 
-    // A topic and frames of about 300 octets.
+/// Whether a message is matched by a topic of 300 octets, and sent, and one of 299 octets isn't.
+fn long_frame_is_sent(alloc: Global) -> Result<bool, AllocError> {
     let steps = [
         Step::Attach(1, ALL),
         Step::Subscribe(1, &[7; 300]),
         Step::Message(&[&[7; 299]]),
         Step::Message(&[&[7; 300], b"end"]),
     ];
-    let mut text = [0x03, 0, 0, 0, 0, 0, 0, 0x01, 0x2c].to_vec(rt.alloc())?;
-    text.extend_from_slice(&[7; 300])?;
-    text.extend_from_slice(b"\x00\x03end")?;
-    assert!(rt; leaves(rt.alloc(), &steps, &[(1, &text)])?);
+    let mut text = [7; 314];
+    text[..9].copy_from_slice(b"\x03\0\0\0\0\0\0\x01\x2c");
+    text[309..].copy_from_slice(b"\x00\x03end");
+    leaves(alloc, &steps, &[(1, &text)])
+}
+
+#[test]
+fn long_topics_and_long_frames(rt: HostRuntime) -> Result<(), Fail> {
+    assert!(rt; long_topic_is_held(rt.alloc())?);
+    assert!(rt; long_frame_is_sent(rt.alloc())?);
     Ok(())
+}
+
+/// A step of a topic that is asked for 100,000 times, and given up as often, with a message before the last time and
+/// one after it.
+fn step_of_topic(place: u32) -> Step<'static> {
+    match place {
+        0 => Step::Attach(1, ALL),
+        1..=100_000 => Step::Subscribe(1, b"t"),
+        200_000 => Step::Message(&[b"t1"]),
+        200_002 => Step::Message(&[b"t2"]),
+        _ => Step::Cancel(1, b"t"),
+    }
+}
+
+/// All these steps.
+fn steps_of_topic(alloc: Global) -> Result<Vec<Step<'static>>, AllocError> {
+    let mut steps = Vec::new(alloc);
+    for place in 0..=200_002 {
+        steps.push(step_of_topic(place))?;
+    }
+    Ok(steps)
 }
 
 #[test]
 fn a_topic_held_often_is_given_up_as_often(rt: HostRuntime) -> Result<(), Fail> {
-    let mut steps = vec![in rt.alloc(); Step::Attach(1, ALL)]?;
-    for place in 0u32..200_002 {
-        steps.push(match place {
-            0..100_000 => Step::Subscribe(1, b"t"),
-            199_999 => Step::Message(&[b"t1"]),
-            200_001 => Step::Message(&[b"t2"]),
-            _ => Step::Cancel(1, b"t"),
-        })?;
-    }
+    let steps = steps_of_topic(rt.alloc())?;
     assert!(rt; leaves(rt.alloc(), &steps, &[(1, b"\x00\x02t1")])?);
     Ok(())
 }
 
+/// Events of a subscriber that asks for ten thousand topics, of which the message before the last is one.
+fn many_topics(alloc: Global) -> Result<Vec<Event<Narrow>>, AllocError> {
+    let mut events = events_of(alloc, &[Step::Attach(1, ALL)])?;
+    for number in 0u16..10_000 {
+        add(
+            alloc,
+            &mut events,
+            Step::Subscribe(1, &number.to_be_bytes()),
+        )?;
+    }
+    add(alloc, &mut events, Step::Message(&[b"\x27\x0f"]))?;
+    add(alloc, &mut events, Step::Message(&[b"\x27\x10"]))?;
+    Ok(events)
+}
+
 #[test]
 fn ten_thousand_topics_of_one(rt: HostRuntime) -> Result<(), Fail> {
-    let mut events = events_of(rt.alloc(), &[Step::Attach(1, ALL)])?;
-    for number in 0u16..10_000 {
-        events.push(event_of(rt.alloc(), Step::Subscribe(1, &number.to_be_bytes()))?)?;
-    }
-    for number in [9_999u16, 10_000] {
-        events.push(event_of(rt.alloc(), Step::Message(&[&number.to_be_bytes()]))?)?;
-    }
-    let left = feed_core(rt.alloc(), events)?;
-    assert!(rt; are_left(&left, &[(1, b"\x00\x02\x27\x0f")]));
+    let left = feed_core(rt.alloc(), many_topics(rt.alloc())?)?;
+    let is_it = are_left(&left, &[(1, b"\x00\x02\x27\x0f")]);
+    drop(left);
+    assert!(rt; is_it);
     Ok(())
 }

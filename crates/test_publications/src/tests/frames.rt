@@ -1,7 +1,7 @@
 //! What is written of a message whose text wasn't built, for want of memory: it is written frame by frame, by
 //! `write_frames`, to the same writers as the texts of the other tests.
 
-use crate::tests::steps::{ALL, EVERYTHING, Last, Narrow, STREAMS, Takes};
+use crate::tests::steps::{ALL, EVERYTHING, Last, Narrow, STREAMS, Takes, frames_of};
 use std::alloc::{AllocError, Global};
 use std::test::Fail;
 use zmtp_wire::write_frames;
@@ -19,8 +19,8 @@ const MESSAGES: [(&[u8], &[u8], bool); 4] = [
 fn write_standard(alloc: Global, writer: &mut Narrow, all: bool) -> Result<bool, AllocError> {
     for (topic, body, both) in MESSAGES {
         if all || both {
-            let frames = Vec::from_array(alloc, [topic.to_vec(alloc)?, body.to_vec(alloc)?])?;
-            if write_frames(writer, &frames).is_err() {
+            let frames = frames_of(alloc, &[topic, body])?;
+            if write_frames(writer, frames.as_slice()).is_err() {
                 return Ok(false);
             }
         }
@@ -37,33 +37,43 @@ fn are_written(alloc: Global, takes: Takes, all: bool, octets: usize) -> Result<
     Ok(whole == (octets == wanted.len()) && Some(writer.octets.as_slice()) == wanted.get(..octets))
 }
 
+/// Whether both parts of the standard list are written to writers that take so many octets a write.
+fn both_are_written(alloc: Global, width: usize) -> Result<bool, AllocError> {
+    let takes = Takes { width, ..ALL };
+    Ok(
+        are_written(alloc, takes, true, EVERYTHING.len())?
+            && are_written(alloc, takes, false, STREAMS.len())?,
+    )
+}
+
 #[test]
 fn frames_to_writers_that_take_one_octet_or_twenty_or_all(rt: HostRuntime) -> Result<(), Fail> {
     for width in [1, 2, 13, 20, usize::MAX] {
-        let takes = Takes { width, ..ALL };
-        assert!(rt;
-            are_written(rt.alloc(), takes, true, EVERYTHING.len())?,
-            "{width}"
-        );
-        assert!(rt;
-            are_written(rt.alloc(), takes, false, STREAMS.len())?,
-            "{width}"
-        );
+        assert!(rt; both_are_written(rt.alloc(), width)?, "{width}");
     }
     Ok(())
+}
+
+/// Whether so many octets are written to each writer that takes one a write, and so many writes.
+fn each_octet_is_written(alloc: Global, last: Last) -> Result<bool, AllocError> {
+    let width = 1;
+    for writes in 0..=EVERYTHING.len() {
+        let takes = Takes {
+            width,
+            writes,
+            last,
+        };
+        if !are_written(alloc, takes, true, writes)? {
+            return Ok(false);
+        }
+    }
+    Ok(true)
 }
 
 #[test]
 fn a_write_of_a_frame_that_fails_at_every_place(rt: HostRuntime) -> Result<(), Fail> {
     for last in [Last::Fails, Last::TakesNothing] {
-        for writes in 0..=EVERYTHING.len() {
-            let takes = Takes {
-                width: 1,
-                writes,
-                last,
-            };
-            assert!(rt; are_written(rt.alloc(), takes, true, writes)?, "{takes:?}");
-        }
+        assert!(rt; each_octet_is_written(rt.alloc(), last)?, "{last:?}");
     }
     Ok(())
 }

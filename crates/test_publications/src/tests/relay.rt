@@ -1,12 +1,11 @@
-//! Relays over the queue: the standard list, published and pumped.
+//! Relays over the queue: the standard list, published and taken.
 
-ghost use Rattle.std.specs.Prelude.{◌≡◌};
+ghost use Rattle.std.specs.Prelude.{◌≡◌, IfOk};
 
-use crate::tests::steps::{
-    ALL, EVERYTHING, Last, Narrow, STREAMS, Step, Takes, WHOLE_TEXTS, events_of, standard,
-};
+use crate::tests::sinks::publish_each;
+use crate::tests::steps::{ALL, EVERYTHING, Narrow, STREAMS, Takes, standard, writers_that_end};
 use iopub_queue::{Closed, Publisher, open_queue};
-use iopub_relay::{Drain, Event, Pumped, Relay};
+use iopub_relay::{Drain, Event, Relay};
 use std::alloc::{AllocError, Global};
 use std::sync::Wait;
 use std::test::Fail;
@@ -14,26 +13,48 @@ use std::test::Fail;
 /// The entries of the standard list.
 const ENTRIES: u64 = 11;
 
-/// Publishes the standard list, with a first writer that takes so much.
-fn publish_standard<R: Wait>(
+/// The one publisher of a queue, and a relay over it.
+fn relay_of_one<R: Copy + Drop>(
+    rt: R,
     alloc: Global,
-    publisher: &mut Publisher<Event<Narrow>, R>,
-    first: Takes,
-) -> Result<(), AllocError>
-    ensures { (publisher.new.queue ≡ publisher.old.queue) × (publisher.new.number ≡ publisher.old.number) }
+) -> Result<(Publisher<Event<Narrow>, R>, Relay<Narrow, R>), AllocError>
+    ensures { IfOk result (λ both. both.0.queue ≡ both.1.taker.queue) }
 {
-    for event in standard(alloc, first, ALL)? {
-        let Ok(()) = publisher.publish(event) else {
-            unreachable!();
-        };
-    }
-    Ok(())
+    let Ok((publishers, taker)) = open_queue(&rt, alloc, 1, 1024) else {
+        return Err(AllocError);
+    };
+    let mut publishers = publishers.into_iter();
+    let Some(publisher) = publishers.next() else {
+        unreachable!();
+    };
+    drop(publishers);
+    Ok((publisher, Relay::new(alloc, taker)))
 }
 
-/// The closing token of a publisher.
-fn close<R: Wait + Drop>(publisher: Publisher<Event<Narrow>, R>) -> Closed<Event<Narrow>>
-    ensures { (result.queue ≡ publisher.queue) × (result.number ≡ publisher.number) }
+/// The publisher of the standard list, with a first writer that takes so much; and a relay that took nothing of it yet.
+fn relay_of_standard<R: Wait + Copy + Drop>(
+    rt: R,
+    alloc: Global,
+    first: Takes,
+) -> Result<(Publisher<Event<Narrow>, R>, Relay<Narrow, R>), AllocError>
+    ensures { IfOk result (λ both. both.0.queue ≡ both.1.taker.queue) }
 {
+    let events = standard(alloc, first, ALL)?;
+    let Ok((mut publisher, relay)) = relay_of_one(rt, alloc) else {
+        drop(events);
+        return Err(AllocError);
+    };
+    drop(publish_each(&mut publisher, events));
+    Ok((publisher, relay))
+}
+
+/// The token of a publisher that closes, or is abandoned.
+fn ended<T: Drop, R: Wait + Drop>(publisher: Publisher<T, R>, closes: bool) -> Closed<T>
+    ensures { result.queue ≡ publisher.queue }
+{
+    if !closes {
+        return publisher.abandon();
+    }
     let Ok(closed) = publisher.close() else {
         unreachable!();
     };
@@ -43,146 +64,74 @@ fn close<R: Wait + Drop>(publisher: Publisher<Event<Narrow>, R>) -> Closed<Event
 /// Whether these are the subscribers that are left: 1, with these octets, and whether it failed; and 2, which got all
 /// that it asked for.
 fn left_are(left: &[(u64, Narrow, bool)], octets: &[u8], fails: bool) -> bool {
-    for (one, wanted) in left.iter().zip([(1, octets, fails), (2, STREAMS, false)]) {
-        if (one.0, one.1.octets.as_slice(), one.2) != wanted {
-            return false;
+    let [one, two] = left else {
+        return false;
+    };
+    let got = (one.1.octets.as_slice(), two.1.octets.as_slice());
+    (one.0, two.0) == (1, 2) && (one.2, two.2) == (fails, false) && got == (octets, STREAMS)
+}
+
+/// Whether a relay leaves these subscribers in the end.
+fn leaves<R: Drop>(relay: Relay<Narrow, R>, octets: &[u8], fails: bool) -> bool {
+    match relay.finish() {
+        Ok(left) => left_are(&left, octets, fails),
+        Err(relay) => {
+            drop(relay);
+            false
         }
     }
-    left.len() == 2
 }
 
-/// Whether this is what a relay does, pumped as often.
-fn pumps<R: Wait>(relay: &mut Relay<Narrow, R>, wanted: &[Pumped]) -> bool {
-    for pumped in wanted {
-        if relay.pump() != *pumped {
-            return false;
-        }
-    }
-    true
-}
-
-#[test]
-fn the_standard_list_is_pumped(rt: HostRuntime) -> Result<(), Fail> {
-    let alloc = rt.alloc();
-    let (publishers, taker) = open_queue(&rt, alloc, 2, 1024)?;
-    let mut publishers = publishers.into_iter();
-    let (Some(zero), Some(mut one)) = (publishers.next(), publishers.next()) else {
-        unreachable!();
+/// Whether the closes of all publishers are taken at the end of a relay over the standard list, and whether its
+/// subscribers got all.
+fn concluded<R: Wait + Copy + Drop>(
+    rt: R,
+    alloc: Global,
+    closes: bool,
+) -> Result<(bool, bool), AllocError> {
+    let (publisher, mut relay) = relay_of_standard(rt, alloc, ALL)?;
+    let Ok(tokens) = Vec::from_array(alloc, [ended(publisher, closes)]) else {
+        drop(relay);
+        return Err(AllocError);
     };
-    let mut relay = Relay::new(alloc, taker);
-    assert!(rt; pumps(&mut relay, &[Pumped::Empty]));
-    publish_standard(alloc, &mut one, ALL)?;
-    assert!(rt; pumps(&mut relay, &[Pumped::Did; ENTRIES as usize]));
-    assert!(rt; pumps(&mut relay, &[Pumped::Empty]));
-    let (_, _) = (close(one), close(zero));
-    assert!(rt;
-        pumps(
-            &mut relay,
-            &[Pumped::Closed(1), Pumped::Closed(0), Pumped::Complete]
-        )
-    );
-    assert_eq!(rt;
-        (relay.failed(1), relay.failed(2), relay.failed(3)),
-        (false, false, false)
-    );
-    assert_eq!(rt; relay.no_room(), 0);
-    let left = relay.finish().ok().expect(&rt, "room for the subscribers");
-    assert!(rt; left_are(&left, EVERYTHING, false));
-    Ok(())
-}
-
-#[test]
-fn a_pong_is_pumped(rt: HostRuntime) -> Result<(), Fail> {
-    let alloc = rt.alloc();
-    let (publishers, taker) = open_queue(&rt, alloc, 1, 1024)?;
-    let Some(mut only) = publishers.into_iter().next() else {
-        unreachable!();
-    };
-    let mut relay = Relay::new(alloc, taker);
-    let steps = [
-        Step::Attach(1, ALL),
-        Step::Attach(2, ALL),
-        Step::Pong(2, b"hi"),
-        Step::Pong(3, b"hi"),
-    ];
-    for event in events_of(alloc, &steps)? {
-        let Ok(()) = only.publish(event) else {
-            unreachable!();
-        };
-    }
-    assert!(rt; pumps(&mut relay, &[Pumped::Did; 4]));
-    let left = relay.finish().ok().expect(&rt, "room for the subscribers");
-    let wanted: [(u64, &[u8], bool); 2] = [(1, b"", false), (2, b"\x04\x07\x04PONGhi", false)];
-    assert_eq!(rt; left.len(), wanted.len());
-    for (one, wanted) in left.iter().zip(wanted) {
-        assert!(rt; (one.0, one.1.octets.as_slice(), one.2) == wanted);
-    }
-    Ok(())
-}
-
-#[test]
-fn a_drain_takes_as_many_as_it_may(rt: HostRuntime) -> Result<(), Fail> {
-    let alloc = rt.alloc();
-    let (publishers, taker) = open_queue(&rt, alloc, 1, 1024)?;
-    let Some(mut only) = publishers.into_iter().next() else {
-        unreachable!();
-    };
-    let mut relay = Relay::new(alloc, taker);
-    publish_standard(alloc, &mut only, ALL)?;
-    let drained = (
-        relay.drain(0),
-        relay.drain(4),
-        relay.drain(ENTRIES - 4),
-        relay.drain(1),
-    );
-    assert_eq!(rt;
-        drained,
-        (Drain::More, Drain::More, Drain::More, Drain::Empty)
-    );
-    let closed = close(only);
-    assert_eq!(rt;
-        (relay.drain(1), relay.drain(1)),
-        (Drain::More, Drain::Complete)
-    );
-    let tokens = Vec::from_array(alloc, [closed])?;
-    assert!(rt; relay.settle_all(tokens));
-    Ok(())
+    let complete = relay.conclude(&rt, tokens);
+    Ok((complete, leaves(relay, EVERYTHING, false)))
 }
 
 #[test]
 fn an_abandoned_publisher_leaves_it_incomplete(rt: HostRuntime) -> Result<(), Fail> {
-    let alloc = rt.alloc();
-    let (publishers, taker) = open_queue(&rt, alloc, 2, 1024)?;
-    let mut publishers = publishers.into_iter();
-    let (Some(zero), Some(mut one)) = (publishers.next(), publishers.next()) else {
-        unreachable!();
-    };
-    let mut relay = Relay::new(alloc, taker);
-    publish_standard(alloc, &mut one, ALL)?;
-    let tokens = Vec::from_array(alloc, [close(zero), one.abandon()])?;
-    assert_eq!(rt;
-        (relay.conclude(&rt, tokens), relay.drain(1)),
-        (false, Drain::Empty)
-    );
-    let left = relay.finish().ok().expect(&rt, "room for the subscribers");
-    assert!(rt; left_are(&left, EVERYTHING, false));
+    assert_eq!(rt; concluded(rt, rt.alloc(), true)?, (true, true));
+    assert_eq!(rt; concluded(rt, rt.alloc(), false)?, (false, true));
     Ok(())
 }
 
+/// How drains of a relay over the standard list end, the last two behind its publisher's close.
+fn drained<R: Wait + Copy + Drop>(rt: R, alloc: Global) -> Result<[Drain; 6], AllocError> {
+    let (publisher, mut relay) = relay_of_standard(rt, alloc, ALL)?;
+    let open = [
+        relay.drain(0),
+        relay.drain(4),
+        relay.drain(ENTRIES - 4),
+        relay.drain(1),
+    ];
+    drop(ended(publisher, true));
+    let closed = (relay.drain(1), relay.drain(1));
+    Ok([open[0], open[1], open[2], open[3], closed.0, closed.1])
+}
+
 #[test]
-fn all_is_taken_in_the_end(rt: HostRuntime) -> Result<(), Fail> {
-    let alloc = rt.alloc();
-    let (publishers, taker) = open_queue(&rt, alloc, 2, 1024)?;
-    let mut publishers = publishers.into_iter();
-    let (Some(zero), Some(mut one)) = (publishers.next(), publishers.next()) else {
-        unreachable!();
-    };
-    let mut relay = Relay::new(alloc, taker);
-    publish_standard(alloc, &mut one, ALL)?;
-    let tokens = Vec::from_array(alloc, [close(one), close(zero)])?;
-    assert!(rt; relay.conclude(&rt, tokens));
-    let left = relay.finish().ok().expect(&rt, "room for the subscribers");
-    assert!(rt; left_are(&left, EVERYTHING, false));
+fn a_drain_takes_as_many_as_it_may(rt: HostRuntime) -> Result<(), Fail> {
+    assert_eq!(rt;
+        drained(rt, rt.alloc())?,
+        [
+            Drain::More,
+            Drain::More,
+            Drain::More,
+            Drain::Empty,
+            Drain::More,
+            Drain::Complete
+        ]
+    );
     Ok(())
 }
 
@@ -194,59 +143,36 @@ fn drained_leaves<R: Wait + Copy + Drop>(
     first: Takes,
     octets: usize,
 ) -> Result<bool, AllocError> {
-    let Ok((publishers, taker)) = open_queue(&rt, alloc, 1, 1024) else {
-        return Err(AllocError);
-    };
-    let (Some(mut only), Some(beginning)) = (
-        publishers.into_iter().next(),
-        EVERYTHING.get(..octets),
-    ) else {
+    let Some(beginning) = EVERYTHING.get(..octets) else {
         return Ok(false);
     };
-    let mut relay = Relay::new(alloc, taker);
-    publish_standard(alloc, &mut only, first)?;
+    let (publisher, mut relay) = relay_of_standard(rt, alloc, first)?;
     let _ = relay.drain(ENTRIES);
+    drop(publisher);
     let fails = octets < EVERYTHING.len();
-    if relay.failed(1) != fails || relay.failed(2) {
-        return Ok(false);
+    let failed = (relay.failed(1), relay.failed(2));
+    let are_left = leaves(relay, beginning, fails);
+    Ok(are_left && failed == (fails, false))
+}
+
+/// The first of these writers behind which something else is left, if there is one.
+fn first_wrong<R: Wait + Copy + Drop>(
+    rt: R,
+    alloc: Global,
+    writers: &[(Takes, usize)],
+) -> Result<Option<Takes>, AllocError> {
+    for (first, octets) in writers {
+        if !drained_leaves(rt, alloc, *first, *octets)? {
+            return Ok(Some(*first));
+        }
     }
-    let Ok(left) = relay.finish() else {
-        return Err(AllocError);
-    };
-    Ok(left_are(&left, beginning, fails))
+    Ok(None)
 }
 
 #[test]
 fn a_writer_that_ends_at_every_place_or_never(rt: HostRuntime) -> Result<(), Fail> {
-    for last in [Last::Fails, Last::TakesNothing] {
-        for octets in 0..=EVERYTHING.len() {
-            let writes = if octets < EVERYTHING.len() {
-                octets
-            } else {
-                usize::MAX
-            };
-            let first = Takes {
-                width: 1,
-                writes,
-                last,
-            };
-            assert!(rt; drained_leaves(rt, rt.alloc(), first, octets)?, "{first:?}");
-        }
-    }
-    Ok(())
-}
-
-#[test]
-fn a_writer_of_whole_texts_that_ends_at_every_one(rt: HostRuntime) -> Result<(), Fail> {
-    for last in [Last::Fails, Last::TakesNothing] {
-        for (writes, octets) in WHOLE_TEXTS {
-            let first = Takes {
-                width: usize::MAX,
-                writes,
-                last,
-            };
-            assert!(rt; drained_leaves(rt, rt.alloc(), first, octets)?, "{first:?}");
-        }
-    }
+    let writers = writers_that_end(rt.alloc())?;
+    let wrong = first_wrong(rt, rt.alloc(), &writers)?;
+    assert!(rt; wrong.is_none(), "{wrong:?}");
     Ok(())
 }

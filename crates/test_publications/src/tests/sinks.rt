@@ -3,11 +3,11 @@
 ghost use Rattle.std.specs.Prelude.{◌≡◌, ◌++◌, ◌∷◌, List, Some, IfErr, OnErr, OnOk, map};
 
 use iopub_queue::{ListSink, Publish, Refused};
-use std::alloc::Global;
+use std::alloc::{AllocError, Global};
 use std::test::Fail;
 
 /// A sink that holds so many items at most.
-#[derive(Debug, Drop)]
+#[derive(Drop)]
 struct Bounded<T> {
     /// How many items it holds at most.
     bound: usize,
@@ -56,7 +56,10 @@ impl<T> Publish for Bounded<T> {
 
 /// Publishes items one after the other, up to the first that is refused. What this promises follows from what
 /// every sink promises.
-fn publish_each<P: Publish>(sink: &mut P, items: Vec<P::Item>) -> Result<(), Refused<P::Item>>
+pub(crate) fn publish_each<P: Publish>(
+    sink: &mut P,
+    items: Vec<P::Item>,
+) -> Result<(), Refused<P::Item>>
 where
     P::Item: Drop,
     ensures published { OnOk result (P.sink.items sink.new ≡ P.sink.items sink.old ++ map Some items.items) }
@@ -72,63 +75,56 @@ where
     Ok(())
 }
 
+/// Whether a list sink keeps these items, published one after the other.
+fn are_kept(alloc: Global, items: &[u32]) -> Result<bool, AllocError> {
+    let given = items.to_vec(alloc)?;
+    let mut sink = ListSink::new(alloc);
+    let all = publish_each(&mut sink, given).is_ok();
+    let kept = sink.into_items();
+    Ok(all && kept.as_slice() == items)
+}
+
 #[test]
 fn list_sink_keeps_what_is_published(rt: HostRuntime) -> Result<(), Fail> {
-    let mut sink = ListSink::new(rt.alloc());
-    assert_eq!(rt; sink.items(), [].as_slice());
-    sink.publish(7u32)?;
-    assert_eq!(rt; sink.items(), [7].as_slice());
-    sink.publish(3)?;
-    sink.publish(7)?;
-    assert_eq!(rt; sink.items(), [7, 3, 7].as_slice());
-    assert_eq!(rt; sink.into_items().as_slice(), [7, 3, 7].as_slice());
-
-    let unused: ListSink<u32> = ListSink::new(rt.alloc());
-    assert_eq!(rt; unused.into_items().as_slice(), [].as_slice());
-    Ok(())
-}
-
-#[test]
-fn any_sink_publishes_each(rt: HostRuntime) -> Result<(), Fail> {
-    let mut sink = ListSink::new(rt.alloc());
-    publish_each(&mut sink, [5u32, 6].to_vec(rt.alloc())?)?;
-    publish_each(&mut sink, Vec::new(rt.alloc()))?;
-    publish_each(&mut sink, [8].to_vec(rt.alloc())?)?;
-    assert_eq!(rt; sink.into_items().as_slice(), [5, 6, 8].as_slice());
-    Ok(())
-}
-
-#[test]
-fn bound_refuses_each_item_in_turn(rt: HostRuntime) -> Result<(), Fail> {
-    let table = [
-        (0, [].as_slice(), Some(5u32)),
-        (1, [5].as_slice(), Some(6)),
-        (2, [5, 6].as_slice(), Some(7)),
-        (3, [5, 6, 7].as_slice(), None),
-    ];
-    for (bound, kept, back) in table {
-        let mut sink = Bounded::new(rt.alloc(), bound);
-        let result = publish_each(&mut sink, [5u32, 6, 7].to_vec(rt.alloc())?);
-        assert_eq!(rt;
-            result.err().map(|refused| refused.item),
-            back,
-            "with a bound of {bound}"
-        );
-        assert_eq!(rt; sink.items.as_slice(), kept, "with a bound of {bound}");
+    for items in [[].as_slice(), &[7, 3, 7]] {
+        assert!(rt; are_kept(rt.alloc(), items)?, "{items:?}");
     }
     Ok(())
 }
 
+/// Of three items that are published one after the other to a sink with this bound: whether it keeps as many as its
+/// bound allows, and the next one comes back.
+fn next_comes_back(alloc: Global, bound: usize) -> Result<bool, AllocError> {
+    let items = [5u32, 6, 7];
+    let given = items.to_vec(alloc)?;
+    let mut sink = Bounded::new(alloc, bound);
+    let back = match publish_each(&mut sink, given) {
+        Ok(()) => None,
+        Err(refused) => Some(refused.item),
+    };
+    let kept = items.get(..bound) == Some(sink.items.as_slice());
+    Ok(kept && back == items.get(bound).copied())
+}
+
+#[test]
+fn bound_refuses_each_item_in_turn(rt: HostRuntime) -> Result<(), Fail> {
+    for bound in 0..=3 {
+        assert!(rt;
+            next_comes_back(rt.alloc(), bound)?,
+            "with a bound of {bound}"
+        );
+    }
+    Ok(())
+}
+
+/// The words of a refusal, and after them its parts.
+fn words_of(alloc: Global, refused: &Refused<u32>) -> Result<String, AllocError> {
+    format!(in alloc; "{refused}: {refused:?}")
+}
+
 #[test]
 fn refusal_says_so(rt: HostRuntime) -> Result<(), Fail> {
-    let refused = Refused { item: 5u32 };
-    assert_eq!(rt;
-        format!(in rt.alloc(); "{refused}")?.as_str(),
-        "the item was refused"
-    );
-    assert_eq!(rt;
-        format!(in rt.alloc(); "{refused:?}")?.as_str(),
-        "Refused { item: 5 }"
-    );
+    let words = words_of(rt.alloc(), &Refused { item: 5 })?;
+    assert_eq!(rt; words.as_str(), "the item was refused: Refused { item: 5 }");
     Ok(())
 }

@@ -74,7 +74,7 @@ impl Outlet for Narrow {
 }
 
 /// An event as a plain value.
-#[derive(Clone, Copy, Debug)]
+#[derive(Clone, Copy)]
 pub(crate) enum Step<'a> {
     /// A message of these frames.
     Message(&'a [&'a [u8]]),
@@ -91,7 +91,7 @@ pub(crate) enum Step<'a> {
 }
 
 /// The frames of a message.
-fn frames_of(alloc: Global, bodies: &[&[u8]]) -> Result<Frames, AllocError> {
+pub(crate) fn frames_of(alloc: Global, bodies: &[&[u8]]) -> Result<Frames, AllocError> {
     let mut frames = Vec::new(alloc);
     for body in bodies {
         frames.push(body.to_vec(alloc)?)?;
@@ -99,16 +99,43 @@ fn frames_of(alloc: Global, bodies: &[&[u8]]) -> Result<Frames, AllocError> {
     Ok(Frames::new(frames))
 }
 
+/// Octets that are owned.
+fn octets_of(alloc: Global, octets: &[u8]) -> Result<Octets, AllocError> {
+    Ok(Octets::new(octets.to_vec(alloc)?))
+}
+
 /// The event of a step.
-pub(crate) fn event_of(alloc: Global, step: Step<'_>) -> Result<Event<Narrow>, AllocError> {
+fn event_of(alloc: Global, step: Step<'_>) -> Result<Event<Narrow>, AllocError> {
     Ok(match step {
         Step::Message(bodies) => Event::Message(frames_of(alloc, bodies)?),
         Step::Attach(id, takes) => Event::Attach(id, Narrow::new(alloc, takes)),
         Step::Detach(id) => Event::Detach(id),
-        Step::Subscribe(id, topic) => Event::Subscribe(id, Octets::new(topic.to_vec(alloc)?)),
-        Step::Cancel(id, topic) => Event::Cancel(id, Octets::new(topic.to_vec(alloc)?)),
-        Step::Pong(id, context) => Event::Pong(id, Octets::new(context.to_vec(alloc)?)),
+        Step::Subscribe(id, topic) => Event::Subscribe(id, octets_of(alloc, topic)?),
+        Step::Cancel(id, topic) => Event::Cancel(id, octets_of(alloc, topic)?),
+        Step::Pong(id, context) => Event::Pong(id, octets_of(alloc, context)?),
     })
+}
+
+/// Adds the event of a step.
+pub(crate) fn add(
+    alloc: Global,
+    events: &mut Vec<Event<Narrow>>,
+    step: Step<'_>,
+) -> Result<(), AllocError> {
+    events.push(event_of(alloc, step)?)?;
+    Ok(())
+}
+
+/// Adds the events of steps.
+fn add_all(
+    alloc: Global,
+    events: &mut Vec<Event<Narrow>>,
+    steps: &[Step<'_>],
+) -> Result<(), AllocError> {
+    for step in steps {
+        add(alloc, events, *step)?;
+    }
+    Ok(())
 }
 
 /// The events of steps.
@@ -117,9 +144,7 @@ pub(crate) fn events_of(
     steps: &[Step<'_>],
 ) -> Result<Vec<Event<Narrow>>, AllocError> {
     let mut events = Vec::new(alloc);
-    for step in steps {
-        events.push(event_of(alloc, *step)?)?;
-    }
+    add_all(alloc, &mut events, steps)?;
     Ok(events)
 }
 
@@ -136,9 +161,6 @@ pub(crate) fn are_left(left: &[(u64, Narrow)], wanted: &[(u64, &[u8])]) -> bool 
 /// The octets of the first subscriber of the standard list, behind all four messages: 65.
 pub(crate) const EVERYTHING: &[u8] = b"\x01\x0dstream.stdout\x00\x01x\x01\x06status\x00\x01y\
     \x01\x0dstream.stdout\x00\x01z\x01\x0dstream.stdout\x00\x01w";
-
-/// Writes of its whole texts: how many are taken, and how many octets these are.
-pub(crate) const WHOLE_TEXTS: [(usize, usize); 5] = [(0, 0), (1, 18), (2, 29), (3, 47), (4, 65)];
 
 /// The octets of the second, which holds `stream` twice and gives it up twice: 36.
 pub(crate) const STREAMS: &[u8] = b"\x01\x0dstream.stdout\x00\x01x\x01\x0dstream.stdout\x00\x01z";
@@ -163,8 +185,37 @@ pub(crate) fn standard(
     second: Takes,
 ) -> Result<Vec<Event<Narrow>>, AllocError> {
     let mut events = events_of(alloc, &[Step::Attach(1, first), Step::Attach(2, second)])?;
-    for step in STANDARD {
-        events.push(event_of(alloc, step)?)?;
-    }
+    add_all(alloc, &mut events, &STANDARD)?;
     Ok(events)
+}
+
+/// The ends of whole texts in the octets of the first subscriber: how many writes are taken, and how many octets these
+/// are.
+const WHOLE_TEXTS: [(usize, usize); 5] = [(0, 0), (1, 18), (2, 29), (3, 47), (4, 65)];
+
+/// Writers of the first subscriber, each with the octets that it takes of 65. They take an octet a write or a whole
+/// text, up to a write of each place that fails or takes nothing, or all.
+pub(crate) fn writers_that_end(alloc: Global) -> Result<Vec<(Takes, usize)>, AllocError> {
+    let mut writers = Vec::new(alloc);
+    for last in [Last::Fails, Last::TakesNothing] {
+        for writes in 0..=66 {
+            let width = 1;
+            let takes = Takes {
+                width,
+                writes,
+                last,
+            };
+            writers.push((takes, writes.min(65)))?;
+        }
+        for (writes, octets) in WHOLE_TEXTS {
+            let width = usize::MAX;
+            let takes = Takes {
+                width,
+                writes,
+                last,
+            };
+            writers.push((takes, octets))?;
+        }
+    }
+    Ok(writers)
 }

@@ -1,7 +1,7 @@
 //! Control beside shell: it interrupts a cell, and ends shell with itself if it is asked for a shutdown.
 
 use super::*;
-use kernel_workers::{Cause, ControlWorker, Ended, Flags, ShellEnd, ShellWorker};
+use kernel_workers::{ControlWorker, Flags, ShellEnd, ShellWorker};
 use std::thread;
 use test_requests::INTERRUPTED;
 
@@ -34,17 +34,43 @@ pub(crate) struct Lines {
 
 impl Lines {
     /// The lines of two workers.
-    pub(crate) fn lay(alloc: Global) -> Result<Lines, Fail> {
-        let shell = unbounded(alloc)?;
-        let end = ShellEnd::new(&Flags::new(alloc)?, &shell.0)?;
-        let (to_control, inbox) = unbounded(alloc)?;
-        let control = (to_control.clone()?, to_control, inbox);
-        Ok(Lines {
-            shell,
-            control,
-            end,
-        })
+    pub(crate) fn lay(alloc: Global) -> Result<Lines, AllocError> {
+        let (shell, control) = both(channel(alloc), channel_twice(alloc))?;
+        match shell_end(alloc, &shell.0) {
+            Ok(end) => Ok(Lines {
+                shell,
+                control,
+                end,
+            }),
+            Err(AllocError) => {
+                drop(shell);
+                drop(control);
+                Err(AllocError)
+            }
+        }
     }
+}
+
+/// An inbox into which two may put.
+fn channel_twice(
+    alloc: Global,
+) -> Result<(Sender<Note<Job>>, Sender<Note<Job>>, Receiver<Note<Job>>), AllocError> {
+    let (to, from) = channel(alloc)?;
+    match to.clone() {
+        Ok(other) => Ok((other, to, from)),
+        Err(AllocError) => {
+            drop((to, from));
+            Err(AllocError)
+        }
+    }
+}
+
+/// By which control ends shell, which has this inbox, and the flags of shell.
+fn shell_end(alloc: Global, to_shell: &Sender<Note<Job>>) -> Result<(ShellEnd, Flags), AllocError> {
+    let flags = Flags::new(alloc)?;
+    let end = ShellEnd::new(&flags, to_shell);
+    drop(flags);
+    end
 }
 
 /// Two workers who know one another by these lines, with these engines.
@@ -74,13 +100,36 @@ pub(crate) fn pair_of<R: Wait + Drop>(
 }
 
 /// The content of an execute request for a cell of many steps.
-fn long_cell(alloc: Global) -> Result<String, Fail> {
-    let mut content = String::from_str(alloc, r#"{"code":"1"#)?;
+fn long_cell(alloc: Global) -> Result<String, AllocError> {
+    let mut content = String::new(alloc);
+    match push_long_cell(&mut content) {
+        Ok(()) => Ok(content),
+        Err(AllocError) => {
+            drop(content);
+            Err(AllocError)
+        }
+    }
+}
+
+/// Adds the content of an execute request for a cell of many steps.
+fn push_long_cell(content: &mut String) -> Result<(), AllocError> {
+    content.push_str(r#"{"code":"1"#)?;
     for _ in 1..STEPS {
         content.push_str(";1")?;
     }
-    content.push_str(r#""}"#)?;
-    Ok(content)
+    content.push_str(r#""}"#)
+}
+
+/// The text of the next reply, if there is one.
+fn reply_text<R: Wait>(
+    rt: &R,
+    alloc: Global,
+    replies: &Receiver<ReplyMessage>,
+) -> Option<Result<String, AllocError>> {
+    let reply = replies.try_recv(rt).ok()?;
+    let text = frames_text(alloc, &reply.frames);
+    drop(reply);
+    Some(text)
 }
 
 /// Takes until a reply comes, and gives it.
@@ -90,10 +139,10 @@ fn take_until<R: Wait>(
     taker: &mut Taker<Event<()>, R>,
     seen: &mut Seen,
     replies: &Receiver<ReplyMessage>,
-) -> Result<String, Fail> {
+) -> Result<String, AllocError> {
     for _ in rt.forever() {
-        if let Ok(reply) = replies.try_recv(rt) {
-            return frames_text(alloc, &reply.frames);
+        if let Some(text) = reply_text(rt, alloc, replies) {
+            return text;
         }
         match taker.take() {
             Taken::Empty => thread::yield_now(),
@@ -109,15 +158,15 @@ fn ask_alone<R: Wait>(
     alloc: Global,
     inbox: &Sender<Note<Job>>,
     request: (&str, &str),
-) -> Result<Receiver<ReplyMessage>, Fail> {
-    let (replies, from) = unbounded(alloc)?;
+) -> Result<Receiver<ReplyMessage>, AllocError> {
+    let (replies, from) = channel(alloc)?;
     let asked = ask(rt, alloc, inbox, &replies, request);
     drop(replies);
     match asked {
         Ok(()) => Ok(from),
-        Err(fail) => {
+        Err(AllocError) => {
             drop(from);
-            Err(fail)
+            Err(AllocError)
         }
     }
 }
@@ -127,7 +176,7 @@ fn ask_for_long_cell<R: Wait>(
     rt: &R,
     alloc: Global,
     to_shell: &Sender<Note<Job>>,
-) -> Result<Receiver<ReplyMessage>, Fail> {
+) -> Result<Receiver<ReplyMessage>, AllocError> {
     let cell = long_cell(alloc)?;
     let asked = ask_alone(rt, alloc, to_shell, ("execute_request", cell.as_str()));
     drop(cell);
@@ -140,7 +189,7 @@ fn take_four<R: Wait>(
     alloc: Global,
     taker: &mut Taker<Event<()>, R>,
     seen: &mut Seen,
-) -> Result<(), Fail> {
+) -> Result<(), AllocError> {
     for _ in rt.forever() {
         if seen.len() >= 4 {
             break;
@@ -150,47 +199,48 @@ fn take_four<R: Wait>(
     Ok(())
 }
 
-/// That a reply is the one to an interrupt.
-fn expect_interrupt_reply(rt: &impl Abort, alloc: Global, text: &str) -> Result<(), Fail> {
-    let due = ("interrupt_reply", 3, r#"{"status":"ok"}"#);
-    let due = due_text(alloc, "", due, "interrupt_request")?;
-    assert_eq!(rt; text, due.as_str());
-    Ok(())
-}
-
-/// Interrupts the cell that runs.
+/// Interrupts the cell that runs, and expects the reply to that.
 fn interrupt<R: Wait + Abort>(
     rt: &R,
     alloc: Global,
     to_control: &Sender<Note<Job>>,
     taker: &mut Taker<Event<()>, R>,
     seen: &mut Seen,
-) -> Result<(), Fail> {
+) -> Result<(), AllocError> {
     let from_control = ask_alone(rt, alloc, to_control, ("interrupt_request", "{}"))?;
     let text = take_until(rt, alloc, taker, seen, &from_control);
     drop(from_control);
-    expect_interrupt_reply(rt, alloc, text?.as_str())
+    let due = ("interrupt_reply", 3, r#"{"status":"ok"}"#);
+    expect_same(rt, text, due_text(alloc, "", due, "interrupt_request"))
 }
 
-/// Interrupts a cell that runs on shell by control, once it has an output.
+/// Interrupts the cell that runs on shell, once it has an output: its reply.
+fn interrupt_cell<R: Wait + Abort>(
+    rt: &R,
+    alloc: Global,
+    (to_control, from_shell): (&Sender<Note<Job>>, &Receiver<ReplyMessage>),
+    taker: &mut Taker<Event<()>, R>,
+    seen: &mut Seen,
+) -> Result<String, AllocError> {
+    take_four(rt, alloc, taker, seen)?;
+    interrupt(rt, alloc, to_control, taker, seen)?;
+    take_until(rt, alloc, taker, seen, from_shell)
+}
+
+/// Has a long cell run on shell, and interrupts it by control, once it has an output.
 fn interrupt_long_cell<R: Wait + Abort>(
     rt: &R,
     alloc: Global,
     (to_shell, to_control): (&Sender<Note<Job>>, &Sender<Note<Job>>),
     taker: &mut Taker<Event<()>, R>,
     seen: &mut Seen,
-) -> Result<(), Fail> {
+) -> Result<(), AllocError> {
     let from_shell = ask_for_long_cell(rt, alloc, to_shell)?;
-    let text = match take_four(rt, alloc, taker, seen) {
-        Ok(()) => match interrupt(rt, alloc, to_control, taker, seen) {
-            Ok(()) => take_until(rt, alloc, taker, seen, &from_shell),
-            Err(fail) => Err(fail),
-        },
-        Err(fail) => Err(fail),
-    };
+    let text = interrupt_cell(rt, alloc, (to_control, &from_shell), taker, seen);
     drop(from_shell);
     let text = text?;
     assert!(rt; text.ends_with(INTERRUPTED), "{text}");
+    drop(text);
     Ok(())
 }
 
@@ -201,7 +251,7 @@ fn converse<R: Wait + Abort>(
     alloc: Global,
     peers: (&Sender<Note<Job>>, &Sender<Note<Job>>),
     taker: &mut Taker<Event<()>, R>,
-) -> Result<Receiver<ReplyMessage>, Fail> {
+) -> Result<Receiver<ReplyMessage>, AllocError> {
     let mut seen = Vec::new(alloc);
     let interrupted = interrupt_long_cell(rt, alloc, peers, taker, &mut seen);
     drop(seen);
@@ -209,56 +259,54 @@ fn converse<R: Wait + Abort>(
     ask_alone(rt, alloc, peers.1, ("shutdown_request", "{}"))
 }
 
-/// Whether a worker ended for a request for a shutdown that it left.
-fn is_shutdown(cause: &Cause) -> bool {
+/// Why a worker ended.
+#[derive(Clone, Copy, Debug, PartialEq, Eq)]
+enum Why {
+    /// It was told to.
+    Told,
+    /// For a request for a shutdown, which it left.
+    Shutdown,
+    /// For something else.
+    Other,
+}
+
+/// Why a worker ended, by its cause.
+fn why_of(cause: &Cause) -> Why {
     match cause {
-        Cause::Asked(asking) => asking.request.msg_type.as_str() == "shutdown_request",
-        Cause::Told | Cause::Shutdown { .. } | Cause::Worn => false,
+        Cause::Told => Why::Told,
+        Cause::Asked(asking) if asking.request.msg_type.as_str() == "shutdown_request" => {
+            Why::Shutdown
+        }
+        Cause::Asked(_) | Cause::Shutdown { .. } | Cause::Worn => Why::Other,
     }
 }
 
-/// Whether a worker ended as it was told to.
-fn is_told(cause: &Cause) -> bool {
-    match cause {
-        Cause::Told => true,
-        Cause::Asked(_) | Cause::Shutdown { .. } | Cause::Worn => false,
-    }
-}
-
-/// That a worker told that the kernel starts, or didn't, and left no job undone.
-fn expect_ended<R: Wait + Drop>(
-    rt: &impl Abort,
-    ended: &Ended<ShellArith, OneDate, (), R>,
-    has_started: bool,
-) {
-    assert_eq!(rt; ended.started, has_started);
-    assert_eq!(rt; ended.work.outcomes.undone, 0);
+/// Why a worker ended, whether it published that the kernel starts, and how many jobs it left undone.
+fn look_at<R: Wait + Drop>(ended: Ended<ShellArith, OneDate, (), R>) -> (Why, bool, u64) {
+    let looks = (
+        why_of(&ended.cause),
+        ended.started,
+        ended.work.outcomes.undone,
+    );
+    drop(ended);
+    looks
 }
 
 /// The two workers over a queue of two places, and what takes.
 fn open_pair<R: Wait + Copy + Drop>(
     rt: &R,
     alloc: Global,
-) -> Result<(Pair<R>, Taker<Event<()>, R>), Fail> {
-    let lines = Lines::lay(alloc)?;
-    let queue = match Queue::open(rt, alloc, 2) {
-        Ok(queue) => queue,
-        Err(fail) => {
-            drop(lines);
-            return Err(fail);
-        }
-    };
-    let Queue {
+) -> Result<(Pair<R>, Taker<Event<()>, R>), AllocError> {
+    let (lines, engines) = both(Lines::lay(alloc), Engines::open(rt, alloc, 2))?;
+    let Engines {
         shell,
         control,
         subscriptions,
         taker,
         parker,
-    } = queue;
+    } = engines;
     drop(subscriptions);
     drop(parker);
-    let shell = arith_engine(alloc, Side::Shell, shell);
-    let control = arith_engine(alloc, Side::Control, control);
     Ok((pair_of(lines, shell, control), taker))
 }
 
@@ -276,15 +324,14 @@ fn control_interrupts_a_cell_and_leaves_a_shutdown_for_later(rt: HostRuntime) ->
     let control = control.spawn(rt, alloc).expect(&rt, "a thread");
     let talked = converse(&rt, alloc, (&to_shell, &to_control), &mut taker);
     drop(taker);
-    let ended = shell.join(&rt);
-    expect_ended(&rt, &ended, true);
-    assert!(rt; is_told(&ended.cause));
-    drop(ended);
-    let ended = control.join(&rt);
-    expect_ended(&rt, &ended, false);
-    assert!(rt; is_shutdown(&ended.cause));
-    drop(ended);
+    let shell = look_at(shell.join(&rt));
+    let control = look_at(control.join(&rt));
+    drop((to_shell, to_control));
+    assert_eq!(rt; shell, (Why::Told, true, 0));
+    assert_eq!(rt; control, (Why::Shutdown, false, 0));
     let from_control = talked?;
-    assert!(rt; from_control.try_recv(&rt).is_err());
+    let is_replied = has_reply(&rt, &from_control);
+    drop(from_control);
+    assert!(rt; !is_replied);
     Ok(())
 }

@@ -2,11 +2,12 @@
 //! dropped.
 
 use super::*;
-use crate::tests::control::{Lines, pair_of};
+use crate::tests::control::{Lines, Pair, pair_of};
 use kernel_jobs::{Account, Credit};
 use std::sync::Arc;
 use std::thread;
-use test_requests::{ASKED, SHUTDOWN};
+use std::thread::Threads;
+use test_requests::{ASKED, SHUTDOWN, put, request_frames};
 
 /// The octets that each job is said to have.
 const OCTETS: usize = 7;
@@ -18,16 +19,10 @@ fn ask_counted<R: Wait>(
     (inbox, replies): (&Sender<Note<Job>>, &Sender<ReplyMessage>),
     msg_type: &str,
     account: &Arc<Account, Global>,
-) -> Result<(), Fail> {
-    let mut frames = Vec::new(alloc);
-    let header = format!(in alloc; "{{\"msg_id\":\"q\",\"msg_type\":\"{msg_type}\"}}")?;
-    for line in ["<IDS|MSG>", "", header.as_str(), "{}", "{}", "{}"] {
-        frames.push(Vec::from_slice(alloc, line.as_bytes())?)?;
-    }
-    let credit = Credit::take(account, OCTETS)?;
-    let job = Job::new(Frames::new(frames), replies.clone()?, Some(credit));
-    inbox.send(rt, Note::Item(job))?;
-    Ok(())
+) -> Result<(), AllocError> {
+    let request = request_frames(alloc, (msg_type, "{}"));
+    let (request, credit) = both(request, Credit::take(account, OCTETS))?;
+    put(rt, inbox, replies, request, Some(credit))
 }
 
 /// That so many jobs, unwritten replies and octets of an account are in work.
@@ -62,60 +57,136 @@ fn expect_three_replies<R: Wait + Abort>(rt: &R, from: &Receiver<ReplyMessage>, 
     }
     assert_eq!(rt; left, 0);
     expect_in_work(rt, account, (0, 0, 0));
-    assert!(rt; from.try_recv(rt).is_err());
+    assert!(rt; !has_reply(rt, from));
 }
 
-/// An account that has nothing in work, and what its reader sleeps on.
-fn open_account(alloc: Global) -> Result<(Parker, Arc<Account, Global>), Fail> {
-    let reader = Parker::new(alloc)?;
+/// An account, and what its reader sleeps on.
+fn open_account(alloc: Global) -> Result<(Parker, Arc<Account, Global>), AllocError> {
+    let Ok(reader) = Parker::new(alloc) else {
+        return Err(AllocError);
+    };
+    match account_of(alloc, &reader) {
+        Ok(account) => Ok((reader, account)),
+        Err(AllocError) => {
+            drop(reader);
+            Err(AllocError)
+        }
+    }
+}
+
+/// An account that has nothing in work, and wakes this reader.
+fn account_of(alloc: Global, reader: &Parker) -> Result<Arc<Account, Global>, AllocError> {
     let account = Account::new(reader.unparker().clone()?);
-    Ok((reader, Arc::new(alloc, account)?))
+    match Arc::new(alloc, account) {
+        Ok(account) => Ok(account),
+        Err(_) => Err(AllocError),
+    }
+}
+
+/// What a connection has: what it is counted by, where its replies go, and the workers' inboxes.
+#[derive(Drop)]
+struct Connection {
+    /// What its reader sleeps on.
+    reader: Parker,
+    /// What it is counted by.
+    account: Arc<Account, Global>,
+    /// Where replies go.
+    replies: Sender<ReplyMessage>,
+    /// Where they come out.
+    from: Receiver<ReplyMessage>,
+    /// The inboxes.
+    lines: Lines,
+}
+
+/// A connection that has asked nothing.
+fn connect(alloc: Global) -> Result<Connection, AllocError> {
+    let peer = both(open_account(alloc), channel(alloc));
+    let (peer, lines) = both(peer, Lines::lay(alloc))?;
+    let ((reader, account), (replies, from)) = peer;
+    Ok(Connection {
+        reader,
+        account,
+        replies,
+        from,
+        lines,
+    })
 }
 
 /// Puts three requests into the inbox of shell and one into that of control, with a part of an account each. Shell ends
 /// at the second.
-fn ask_four<R: Wait>(
-    rt: &R,
-    alloc: Global,
-    lines: &Lines,
-    replies: &Sender<ReplyMessage>,
-    account: &Arc<Account, Global>,
-) -> Result<(), Fail> {
+fn ask_four<R: Wait>(rt: &R, alloc: Global, connection: &Connection) -> Result<(), AllocError> {
+    let (replies, account) = (&connection.replies, &connection.account);
+    let shell = (&connection.lines.shell.0, replies);
     for msg_type in [ASKED, SHUTDOWN, ASKED] {
-        ask_counted(rt, alloc, (&lines.shell.0, replies), msg_type, account)?;
+        ask_counted(rt, alloc, shell, msg_type, account)?;
     }
-    ask_counted(rt, alloc, (&lines.control.0, replies), ASKED, account)
+    let control = (&connection.lines.control.0, replies);
+    ask_counted(rt, alloc, control, ASKED, account)
 }
 
-#[test]
-fn what_a_job_and_its_reply_have_of_an_account_is_given_back(rt: HostRuntime) -> Result<(), Fail> {
-    let alloc = rt.alloc();
-    let (reader, account) = open_account(alloc)?;
-    expect_in_work(&rt, &account, (0, 0, 0));
-    let (replies, from) = unbounded(alloc)?;
-    let lines = Lines::lay(alloc)?;
-    ask_four(&rt, alloc, &lines, &replies, &account)?;
-    expect_in_work(&rt, &account, (4, 0, 28));
-    let Queue {
+/// A connection that has asked four times.
+fn connect_and_ask<R: Wait + Abort>(rt: &R, alloc: Global) -> Result<Connection, AllocError> {
+    let connection = connect(alloc)?;
+    expect_in_work(rt, &connection.account, (0, 0, 0));
+    match ask_four(rt, alloc, &connection) {
+        Ok(()) => {
+            expect_in_work(rt, &connection.account, (4, 0, 28));
+            Ok(connection)
+        }
+        Err(AllocError) => {
+            drop(connection);
+            Err(AllocError)
+        }
+    }
+}
+
+/// Has both workers run to their end, while all is taken that they publish.
+fn run_both<R>(rt: R, alloc: Global, lines: Lines, engines: Engines<R>) -> Result<(), AllocError>
+where
+    R: Threads + Wait + Abort + Copy + Send + Sync + Drop + 'static,
+{
+    let Engines {
         shell,
         control,
         subscriptions,
         mut taker,
         parker,
-    } = Queue::open(&rt, alloc, 4)?;
-    let shell = arith_engine(alloc, Side::Shell, shell);
-    let control = arith_engine(alloc, Side::Control, control);
-    let _ = subscriptions.close();
-    let pair = pair_of(lines, shell, control);
-    let worker = pair.control;
-    let control = thread::spawn(&rt, move || close_after(worker.run(rt, alloc)))?;
-    let worker = pair.shell;
-    let shell = thread::spawn(&rt, move || close_after(worker.run(rt, alloc)))?;
+    } = engines;
+    drop(subscriptions.close());
+    let Pair {
+        shell,
+        control,
+        to_shell,
+        to_control,
+    } = pair_of(lines, shell, control);
+    let control = thread::spawn(&rt, move || close_after(control.run(rt, alloc)));
+    let control = control.ok().expect(&rt, "a thread");
+    let shell = thread::spawn(&rt, move || close_after(shell.run(rt, alloc)));
+    let shell = shell.ok().expect(&rt, "a thread");
     let mut seen = Vec::new(alloc);
-    take_all(&rt, alloc, &mut taker, &parker, &mut seen)?;
-    let _ = shell.join(&rt);
-    let _ = control.join(&rt);
+    let taken = take_all(&rt, alloc, &mut taker, &parker, &mut seen);
+    drop((seen, taker, parker));
+    drop(shell.join(&rt));
+    drop(control.join(&rt));
+    drop((to_shell, to_control));
+    taken
+}
+
+#[test]
+fn what_a_job_and_its_reply_have_of_an_account_is_given_back(rt: HostRuntime) -> Result<(), Fail> {
+    let alloc = rt.alloc();
+    let opened = both(connect_and_ask(&rt, alloc), Engines::open(&rt, alloc, 4));
+    let (connection, engines) = opened?;
+    let Connection {
+        reader,
+        account,
+        replies,
+        from,
+        lines,
+    } = connection;
+    let taken = run_both(rt, alloc, lines, engines);
     expect_three_replies(&rt, &from, &account);
     reader.park(&rt);
-    Ok(())
+    drop((reader, account, replies, from));
+    Ok(taken?)
 }

@@ -6,15 +6,19 @@ use iopub_queue::Publish;
 #[test]
 fn each_publication_and_each_close_wakes(rt: HostRuntime) -> Result<(), Fail> {
     let Queue {
-        shell: _shell,
-        control: _control,
+        shell,
+        control,
         mut subscriptions,
-        taker: _taker,
+        taker,
         parker,
     } = Queue::open(&rt, rt.alloc(), 2)?;
-    assert!(rt; subscriptions.publish(Event::Attach(1, ())).is_ok());
+    let published = subscriptions.publish(Event::Attach(1, ()));
+    let is_published = published.is_ok();
+    drop(published);
     parker.park(&rt);
-    let _ = subscriptions.close();
+    drop(subscriptions.close());
     parker.park(&rt);
+    drop((shell, control, taker, parker));
+    assert!(rt; is_published);
     Ok(())
 }
