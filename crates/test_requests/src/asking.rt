@@ -1,7 +1,7 @@
 //! Requests that are put into inboxes.
 
 use crossbeam_channel::Sender;
-use kernel_jobs::{Credit, Job, Note, ReplyMessage, tell};
+use kernel_jobs::{Credit, Job, Note, ReplyMessage};
 use listed::Frames;
 use std::alloc::{AllocError, Global};
 use std::sync::Wait;
@@ -32,13 +32,25 @@ pub fn put<R: Wait>(
     credit: Option<Credit>,
 ) -> Result<(), AllocError> {
     match replies.clone() {
-        Ok(replies) => {
-            tell(rt, inbox, Note::Item(Job::new(frames, replies, credit)));
-            Ok(())
-        }
+        Ok(replies) => send(rt, inbox, Note::Item(Job::new(frames, replies, credit))),
         Err(AllocError) => {
             drop(frames);
             drop(credit);
+            Err(AllocError)
+        }
+    }
+}
+
+/// Puts a note into an inbox, whose worker is there.
+pub fn send<T: Drop, R: Wait>(
+    rt: &R,
+    inbox: &Sender<Note<T>>,
+    note: Note<T>,
+) -> Result<(), AllocError> {
+    match inbox.send(rt, note) {
+        Ok(()) => Ok(()),
+        Err(refused) => {
+            drop(refused);
             Err(AllocError)
         }
     }

@@ -1,10 +1,8 @@
 //! Messages as texts, each frame on a line of its own.
 
-use crate::pair::both;
 use crate::stamp::DATE;
 use listed::Frames;
 use std::alloc::{AllocError, Global};
-use std::process::Abort;
 
 /// What a kernel of shell arithmetic says of itself.
 pub const INFO: &str = concat!(
@@ -52,19 +50,6 @@ fn text_of(alloc: Global, octets: Vec<u8>) -> Result<String, AllocError> {
             String::from_str(alloc, "no UTF-8")
         }
     }
-}
-
-/// That a text is the one that is due.
-pub fn expect_same(
-    rt: &impl Abort,
-    text: Result<String, AllocError>,
-    due: Result<String, AllocError>,
-) -> Result<(), AllocError> {
-    let (text, due) = both(text, due)?;
-    assert_eq!(rt; text.as_str(), due.as_str());
-    drop(text);
-    drop(due);
-    Ok(())
 }
 
 /// A message after what stands before its delimiter: its type, the number of its id, and its content, with a request

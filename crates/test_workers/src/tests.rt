@@ -17,14 +17,14 @@ use iopub_event::Event;
 use iopub_queue::{Taken, Taker};
 use jmsg_envelope::Signer;
 use kernel_engine::{Engine, Side};
-use kernel_jobs::{Arrivals, Job, Note, ReplyMessage, tell};
+use kernel_jobs::{Arrivals, Job, Note, ReplyMessage};
 use kernel_workers::{Cause, Ended, Waking};
 use listed::Frames;
 use std::alloc::{AllocError, Global};
 use std::process::Abort;
 use std::sync::Wait;
 use std::test::Fail;
-use test_requests::{OneDate, ask, both, due_text, expect_same, frames_text, open_three};
+use test_requests::{OneDate, ask, both, due_text, frames_text, open_three};
 
 /// Three publishers that wake, with the taker, and what the taker sleeps on.
 #[derive(Drop)]
@@ -214,6 +214,19 @@ fn take_all<R: Wait>(
         }
     }
     unreachable!()
+}
+
+/// That a text is the one that is due.
+fn expect_same(
+    rt: &impl Abort,
+    text: Result<String, AllocError>,
+    due: Result<String, AllocError>,
+) -> Result<(), AllocError> {
+    let (text, due) = both(text, due)?;
+    assert_eq!(rt; text.as_str(), due.as_str());
+    drop(text);
+    drop(due);
+    Ok(())
 }
 
 /// That the next reply is this one, to a request of a type.

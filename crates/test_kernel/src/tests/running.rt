@@ -1,12 +1,13 @@
 //! A kernel in its threads: all its jobs, its end by control, an interrupt, and capacities that no queue has.
 
+use crate::tests::expect_same;
 use crate::tests::keeper::Keeper;
 use crate::tests::long::Long;
 use arith_shell::ShellArith;
 use crossbeam_channel::{Receiver, Sender, unbounded};
 use interp_core::Interpreter;
 use iopub_event::Event;
-use kernel_jobs::{Inbox, Job, Note, ReplyMessage, tell};
+use kernel_jobs::{Inbox, Job, Note, ReplyMessage};
 use kernel_workers::{Flags, KernelEnd, KernelFault, Parts, run_kernel};
 use listed::Octets;
 use std::alloc::{AllocError, Global};
@@ -17,8 +18,8 @@ use std::test::Fail;
 use std::thread;
 use std::thread::{JoinHandle, Threads};
 use test_requests::{
-    ASKED, INFO, INTERRUPTED, OneDate, SHUTDOWN, both, due_message, expect_same, frames_of,
-    frames_text, put,
+    ASKED, INFO, INTERRUPTED, OneDate, SHUTDOWN, both, due_message, frames_of, frames_text, put,
+    send,
 };
 
 /// How often a wait looks before its test fails.
@@ -117,11 +118,30 @@ fn subscribed<R: Wait>(
     alloc: Global,
 ) -> Result<(Inbox<Event<Keeper>>, Arc<AtomicBool, Global>), AllocError> {
     let (inbox, (of_keeper, has_output)) = both(Inbox::new(alloc), flag_twice(alloc))?;
-    let keeper = Keeper::new(alloc, of_keeper);
-    tell(rt, &inbox.to, Note::Item(Event::Attach(1, keeper)));
+    match subscribe(rt, alloc, &inbox.to, Keeper::new(alloc, of_keeper)) {
+        Ok(()) => Ok((inbox, has_output)),
+        Err(AllocError) => {
+            drop(inbox);
+            drop(has_output);
+            Err(AllocError)
+        }
+    }
+}
+
+/// Has subscriber 1 come, who writes to a keeper, and ask for everything.
+fn subscribe<R: Wait>(
+    rt: &R,
+    alloc: Global,
+    to_subscriptions: &Sender<Note<Event<Keeper>>>,
+    keeper: Keeper,
+) -> Result<(), AllocError> {
+    send(rt, to_subscriptions, Note::Item(Event::Attach(1, keeper)))?;
     let everything = Octets::new(Vec::new(alloc));
-    tell(rt, &inbox.to, Note::Item(Event::Subscribe(1, everything)));
-    Ok((inbox, has_output))
+    send(
+        rt,
+        to_subscriptions,
+        Note::Item(Event::Subscribe(1, everything)),
+    )
 }
 
 /// What a kernel is spoken to by.

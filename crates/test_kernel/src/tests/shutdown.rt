@@ -4,6 +4,7 @@ ghost use Rattle.std.specs.Prelude.{◌≡◌, ◌<◌, ◌≤◌, [], IfOk, IfS
 ghost use Rattle.kernel_workers.specs.Starting.{IsOpened};
 ghost use Rattle.test_kernel.specs.Ready.{AreOfOne, IsLast};
 
+use crate::tests::expect_same;
 use crate::tests::keeper::Keeper;
 use arith_shell::ShellArith;
 use crossbeam_channel::unbounded;
@@ -21,9 +22,7 @@ use std::sync::atomic::AtomicBool;
 use std::sync::{Arc, Wait};
 use std::test::Fail;
 use std::thread::Threads;
-use test_requests::{
-    DATE, SHUTDOWN, both, due_text, expect_same, frames_text, open_three, request_frames,
-};
+use test_requests::{DATE, SHUTDOWN, both, due_text, frames_text, open_three, request_frames};
 
 /// What handles the requests of a channel.
 type KeptEngine<R> = Engine<ShellArith, Waking<Event<Keeper>, R>, FewDates, Keeper>;

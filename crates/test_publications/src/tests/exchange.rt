@@ -100,18 +100,19 @@ fn say<R: Wait>(publisher: &mut Publisher<Said, R>, name: Name, handed: Option<H
     }
 }
 
-/// Publishes all items, each behind a word where one waits, hands a word over after each, and closes.
+/// Publishes the items from one on, each behind a word where one waits, hands a word over after each, and closes.
 fn converse<R: Wait + Drop>(
     words: &Words,
     mut pass: Pass<Handed, Known>,
     mut publisher: Publisher<Said, R>,
+    first: u32,
 )
 where
     requires pass { IsPassOf words.now pass }
     requires known { IsSomeAnd (view pass) (λ word. word.queue ≡ publisher.queue) }
 {
     let number = publisher.number();
-    for round in 0..ROUNDS {
+    for round in first..ROUNDS {
         let name = (number, round);
         let handed = words.try_pop_as::<Hearing>(&mut pass);
         say(&mut publisher, name, handed);
@@ -122,12 +123,28 @@ where
     drop(publisher.close());
 }
 
-/// Two publishers converse at the same time. False where no word could be handed over at first.
+/// Two publishers publish in turn, each behind the other's word: the word that the first tells then.
+fn begin<R: Wait>(zero: &mut Publisher<Said, R>, one: &mut Publisher<Said, R>) -> Word<Said>
+    requires { zero.old.queue ≡ one.old.queue }
+    ensures word { result.queue ≡ zero.new.queue }
+    ensures zero { zero.new.queue ≡ zero.old.queue }
+    ensures one { one.new.queue ≡ one.old.queue }
+{
+    say(zero, (0, 0), None);
+    let word = zero.tell();
+    say(one, (1, 0), Some((word, Some((0, 0)))));
+    let word = one.tell();
+    say(zero, (0, 1), Some((word, Some((1, 0)))));
+    zero.tell()
+}
+
+/// Two publishers converse: first each in turn behind the other's word, and then at the same time. False if no word
+/// could be handed over.
 fn both_converse<R>(
     rt: R,
     alloc: Global,
     mut zero: Publisher<Said, R>,
-    one: Publisher<Said, R>,
+    mut one: Publisher<Said, R>,
 ) -> Result<bool, AllocError>
 where
     R: Abort + Threads + Wait + Copy + Send + Sync + Drop + 'static,
@@ -135,8 +152,8 @@ where
 {
     let (words, mut first) = Words::ruled(alloc, 4)?;
     let words = &words;
-    let word = zero.tell();
-    let Ok(()) = words.try_push_as::<Naming>(&mut first, (word, None)) else {
+    let word = begin(&mut zero, &mut one);
+    let Ok(()) = words.try_push_as::<Naming>(&mut first, (word, Some((0, 1)))) else {
         return Ok(false);
     };
     let second = words.another::<Sharing>(&mut first);
@@ -144,10 +161,10 @@ where
         &rt,
         move ||
             requires { IsPassOf words.now first × IsSomeAnd (view first) (λ word. word.queue ≡ zero.queue) }
-        { converse(words, first, zero) },
+        { converse(words, first, zero, 2) },
         move ||
             requires { IsPassOf words.now second × IsSomeAnd (view second) (λ word. word.queue ≡ one.queue) }
-        { converse(words, second, one) },
+        { converse(words, second, one, 1) },
     );
     Ok(true)
 }
@@ -197,11 +214,24 @@ fn last_in_order(taken: &[(usize, Option<Said>)]) -> Option<[Option<u32>; 2]> {
     Some(last)
 }
 
+/// How many items were published behind a word of the other publisher.
+fn behind_the_other(taken: &[(usize, Option<Said>)]) -> usize {
+    let mut count = 0usize;
+    for entry in taken {
+        if let Some(((number, _), Some((other, _)))) = entry.1 {
+            count = count.saturating_add(usize::from(other != number));
+        }
+    }
+    count
+}
+
 #[test]
 fn what_is_heard_of_is_taken_first(rt: HostRuntime) -> Result<(), Fail> {
     let taken = taken_of_both(rt, rt.alloc())?;
     let (count, last) = (taken.len(), last_in_order(&taken));
+    let crossed = behind_the_other(&taken);
     drop(taken);
+    assert!(rt; crossed >= 2, "{crossed} items behind a word of the other");
     assert_eq!(rt; count, 2 * ROUNDS as usize + 2);
     assert_eq!(rt; last, Some([Some(ROUNDS - 1), Some(ROUNDS - 1)]));
     Ok(())

@@ -1,10 +1,10 @@
 //! Relays over the queue: the standard list, published and taken.
 
-ghost use Rattle.std.specs.Prelude.{◌≡◌, IfOk};
+ghost use Rattle.std.specs.Prelude.{◌≡◌, [], IfOk};
 
 use crate::tests::sinks::publish_each;
 use crate::tests::steps::{ALL, EVERYTHING, Narrow, STREAMS, Takes, standard, writers_that_end};
-use iopub_queue::{Closed, Publisher, open_queue};
+use iopub_queue::{Closed, OpenFault, Publisher, Taker, open_queue};
 use iopub_relay::{Drain, Event, Relay};
 use std::alloc::{AllocError, Global};
 use std::sync::Wait;
@@ -82,15 +82,38 @@ fn leaves<R: Drop>(relay: Relay<Narrow, R>, octets: &[u8], fails: bool) -> bool 
     }
 }
 
-/// Whether the closes of all publishers are taken at the end of a relay over the standard list, and whether its
-/// subscribers got all.
+/// Two publishers and the taker of a queue.
+fn open_two<T: Drop, R: Copy + Drop>(
+    rt: R,
+    alloc: Global,
+) -> Result<(Publisher<T, R>, Publisher<T, R>, Taker<T, R>), OpenFault>
+    ensures zero { IfOk result (λ opened. opened.0.queue ≡ opened.2.queue) }
+    ensures one { IfOk result (λ opened. opened.1.queue ≡ opened.2.queue) }
+    ensures taken { IfOk result (λ opened. opened.2.taken ≡ []) }
+{
+    let (publishers, taker) = open_queue(&rt, alloc, 2, 1024)?;
+    let mut publishers = publishers.into_iter();
+    let zero = publishers.next().unwrap();
+    let one = publishers.next().unwrap();
+    drop(publishers);
+    Ok((zero, one, taker))
+}
+
+/// Whether the closes of both publishers are taken at the end of a relay, and whether its subscribers got all. One
+/// publishes nothing and closes; the other publishes the standard list, and closes or is abandoned.
 fn concluded<R: Wait + Copy + Drop>(
     rt: R,
     alloc: Global,
     closes: bool,
 ) -> Result<(bool, bool), AllocError> {
-    let (publisher, mut relay) = relay_of_standard(rt, alloc, ALL)?;
-    let Ok(tokens) = Vec::from_array(alloc, [ended(publisher, closes)]) else {
+    let events = standard(alloc, ALL, ALL)?;
+    let Ok((zero, mut one, taker)) = open_two(rt, alloc) else {
+        drop(events);
+        return Err(AllocError);
+    };
+    let mut relay = Relay::new(alloc, taker);
+    drop(publish_each(&mut one, events));
+    let Ok(tokens) = Vec::from_array(alloc, [ended(zero, true), ended(one, closes)]) else {
         drop(relay);
         return Err(AllocError);
     };

@@ -4,21 +4,37 @@ use super::*;
 use kernel_workers::SubscriptionsWorker;
 use listed::Octets;
 use std::thread::Threads;
+use test_requests::send;
 
 /// An inbox in which a message waits among events, and one of them after the end.
 fn inbox_of<R: Wait>(rt: &R, alloc: Global) -> Result<Arrivals<Event<()>>, AllocError> {
-    let (context, (to, from)) = both(b"hi".to_vec(alloc), channel(alloc))?;
-    tell(rt, &to, Note::Item(Event::Attach(1, ())));
-    let message = Frames::new(Vec::new(alloc));
-    tell(rt, &to, Note::Item(Event::Message(message)));
-    let topic = Octets::new(Vec::new(alloc));
-    tell(rt, &to, Note::Item(Event::Subscribe(1, topic)));
-    let context = Octets::new(context);
-    tell(rt, &to, Note::Item(Event::Pong(1, context)));
-    tell(rt, &to, Note::End);
-    tell(rt, &to, Note::Item(Event::Detach(1)));
+    let (to, from) = channel(alloc)?;
+    let put = put_events(rt, alloc, &to);
     drop(to);
-    Ok(Arrivals::new(from))
+    match put {
+        Ok(()) => Ok(Arrivals::new(from)),
+        Err(AllocError) => {
+            drop(from);
+            Err(AllocError)
+        }
+    }
+}
+
+/// Puts the events into an inbox, and the end before the last.
+fn put_events<R: Wait>(
+    rt: &R,
+    alloc: Global,
+    to: &Sender<Note<Event<()>>>,
+) -> Result<(), AllocError> {
+    send(rt, to, Note::Item(Event::Attach(1, ())))?;
+    let message = Frames::new(Vec::new(alloc));
+    send(rt, to, Note::Item(Event::Message(message)))?;
+    let topic = Octets::new(Vec::new(alloc));
+    send(rt, to, Note::Item(Event::Subscribe(1, topic)))?;
+    let context = Octets::new(b"hi".to_vec(alloc)?);
+    send(rt, to, Note::Item(Event::Pong(1, context)))?;
+    send(rt, to, Note::End)?;
+    send(rt, to, Note::Item(Event::Detach(1)))
 }
 
 /// What is taken of a worker of subscriptions that has this inbox, while the others publish nothing.

@@ -12,5 +12,5 @@ try_push_as-requires-clause-rule g c = names queue_of_first queue_of _ _ _ _ _ c
 
 pub another-second-requires-clause-rule : goal.another-second-requires-clause-rule
 another-second-requires-clause-rule g c = shares queue_of_first queue_of _ _ (view c.try_push_as.new.pass)
-    (known_by (queue_of_first {T = (ℕ × ℕ) × Option (ℕ × ℕ)} {N = Option (ℕ × ℕ)}) queue_of _ _ c.tell-word.result
+    (known_by (queue_of_first {T = (ℕ × ℕ) × Option (ℕ × ℕ)} {N = Option (ℕ × ℕ)}) queue_of _ _ c.begin-word.result
     c.in-Ok.ensures.rule refl)
