@@ -225,6 +225,11 @@ impl Mailbox {
         next: (&mut Due, ReplyMessage),
     ) -> Look {
         let (due, reply) = next;
+        if reply.frames.is_empty() {
+            // It only woke this thread: nothing is written, for which a newcomer would have this connection closed.
+            drop(reply);
+            return Look::Nothing;
+        }
         if peer.has_left() || !self.note_writing(rt, peer.number, true) {
             due.put_back(reply);
             return Look::Nothing;
@@ -255,13 +260,9 @@ impl Due {
         }
     }
 
-    /// Puts a reply back that wasn't written. One without frames is none.
+    /// Puts a reply back that wasn't written.
     fn put_back(&mut self, reply: ReplyMessage) {
-        if reply.frames.is_empty() {
-            drop(reply);
-        } else {
-            self.unsent = Some(reply);
-        }
+        self.unsent = Some(reply);
     }
 }
 
