@@ -1,6 +1,8 @@
 //! The replies to a peer, and the connection on which they are written. They are a mailbox's, and not a connection's: a
 //! peer that gives itself an identity may connect again, and gets what wasn't written yet.
 
+ghost use Rattle.std.specs.Prelude.{◌<◌, length};
+
 use crossbeam_channel::{Receiver, RecvTimeoutError};
 use crossbeam_utils::sync::{Parker, Unparker};
 use kernel_jobs::{Account, ReplyMessage};
@@ -191,6 +193,15 @@ impl Mailbox {
         self.holding.lock(rt).number == number
     }
 
+    /// Says that a reply is being written on the connection of this number, if it has the mailbox; answers whether it
+    /// has. One without frames isn't written.
+    fn begin_writing<R: Wait>(&self, rt: &R, number: u64, reply: &ReplyMessage) -> bool
+        requires { 0 < length reply.now.frames }
+    {
+        let _ = reply;
+        self.note_writing(rt, number, true)
+    }
+
     /// Says whether a reply is being written on the connection of this number, if it has the mailbox; answers whether it
     /// has.
     fn note_writing<R: Wait>(&self, rt: &R, number: u64, is_writing: bool) -> bool {
@@ -230,7 +241,7 @@ impl Mailbox {
             drop(reply);
             return Look::Nothing;
         }
-        if peer.has_left() || !self.note_writing(rt, peer.number, true) {
+        if peer.has_left() || !self.begin_writing(rt, peer.number, &reply) {
             due.put_back(reply);
             return Look::Nothing;
         }
