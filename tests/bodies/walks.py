@@ -14,9 +14,11 @@ DOUBT, OTHER_DOUBT = 1.01, 1.25
 
 
 def walks_of(crate):
-    """The sizes of the walks of a crate's functions, by the function."""
+    """The sizes of the walks of a crate's functions, by the function. Tests aren't among them: a check leaves theirs
+    only if it was of the tests, and no wrong body is of one."""
     front, end = f"Rattle-{crate}-proofs.", ".Lts"
     its = {it: path for it, path in modules_kept(crate).items() if it.startswith(front) and it.endswith(end)}
+    its = {it: path for it, path in its.items() if not it.startswith(f"{front}tests.")}
     names = {it: f"{crate}.{it.removeprefix(front).removesuffix(end)}".replace(".", "::") for it in its}
     return {names[it]: os.path.getsize(path) for it, path in its.items()}
 
