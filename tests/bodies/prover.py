@@ -82,8 +82,10 @@ class Proof:
     """A crate as it is: whether it is proved, and its functions as the prover names them. What its proof left is kept
     in the crate's own folder."""
 
-    def __init__(self, crate, end):
+    def __init__(self, crate, end, said=None):
         self.crate, self.end = crate, end
+        # What the prover said of it, if it was asked already.
+        self.said = said
         self.functions = []
         # Why its wrong bodies are not tried, where they aren't.
         self.lack = None
@@ -101,7 +103,7 @@ class Proof:
         if lacking:
             self.lack = f"its library {lacking[0]} is not built"
             return
-        said = self.checked(jobs)
+        said = self.said or self.checked(jobs)
         if jobs > 1 and not said.is_proved:
             # It may have been killed for want of memory.
             said = self.checked(1)

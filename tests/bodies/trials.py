@@ -88,11 +88,11 @@ class Trial:
         self.waits = {}
 
     def run(self):
-        """Tries them all, and tells what came of each."""
+        """Tries them, tells what came of each that was seen at its own function, and gives a trial for each other."""
         if self.proof.lack:
             for body in self.bodies:
                 self.tell(body, Outcome.UNTRIED, self.proof.lack)
-            return
+            return []
         due = []
         for body in self.bodies:
             if body.bad:
@@ -100,10 +100,11 @@ class Trial:
             else:
                 due.append(body)
         if self.leaves(due):
-            return
+            return []
         self.copy = Copy(self.proof, self.folder)
-        self.try_all(due)
+        alone = self.try_all(due)
         shutil.rmtree(self.copy.folder)
+        return [Alone(self.proof, f"{self.folder}-{it.short_name}", [it], self.tell) for it in alone]
 
     def leaves(self, due):
         """Whether the time is up; tells so of those that are due then."""
@@ -163,18 +164,22 @@ class Trial:
         return outcome, f"the prover names no function: {said.first_error()}"
 
 
+class Alone(Trial):
+    """One wrong body that is tried alone."""
+
+    def try_all(self, due):
+        """Tries it, and leaves none."""
+        for body in due:
+            self.try_alone(body)
+        return []
+
+
 class Copies(Trial):
     """Wrong bodies in copies of their functions, which stand after the functions themselves: one check of them all. A
     copy of each function as it is stands beside them: only where that is proved does a refusal say something."""
 
     def try_all(self, due):
-        """Tries them in one check, and alone those that weren't refused in it."""
-        for body in self.try_copies(due):
-            if not self.leaves([body]):
-                self.try_alone(body)
-
-    def try_copies(self, due):
-        """Tells those wrong bodies whose copy is refused, and returns the others."""
+        """Tries them in one check: tells those whose copy is refused, and returns the others."""
         copies, controls, texts = {}, {}, {}
         for number, body in enumerate(due):
             own = self.own_functions(body)
@@ -193,7 +198,7 @@ class Copies(Trial):
         if not said.reached_prover or said.unread(texts):
             # One that can't be read hides the others.
             middle = len(due) // 2
-            return due if len(due) == 1 else [*self.try_copies(due[:middle]), *self.try_copies(due[middle:])]
+            return due if len(due) == 1 else [*self.try_all(due[:middle]), *self.try_all(due[middle:])]
         unseen = []
         for body in due:
             why, is_contract = said.refused.get(names.get(body), ("", False))
@@ -231,11 +236,11 @@ class Rounds(Trial):
     """Wrong bodies of different functions, which are tried together, one of each function in a round."""
 
     def try_all(self, due):
-        """Tries them until each was seen at its own function or is to be tried alone."""
+        """Tries them until each was seen at its own function, and returns those that are to be tried alone."""
         alone, tries = [], {}
         while due:
             if self.leaves([*due, *alone]):
-                return
+                return []
             together, texts, due = self.split_off(due)
             for body in together:
                 tries[body.name] = tries.get(body.name, 0) + 1
@@ -244,9 +249,7 @@ class Rounds(Trial):
             again = [it for it in unseen if self.waits.get(frozenset(it.functions)) and tries[it.name] < MOST_ROUNDS]
             due = again + due
             alone += [it for it in unseen if it not in again]
-        for body in alone:
-            if not self.leaves([body]):
-                self.try_alone(body)
+        return alone
 
     def learn(self, body, said):
         """Notes for which functions a wrong body waits that wasn't seen: those that its own call, whatever these wait
