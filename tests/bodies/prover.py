@@ -121,10 +121,10 @@ class Proof:
 
 
 class Copy:
-    """A copy of a crate in which wrong bodies are tried."""
+    """A copy of a crate in which wrong bodies are tried, by so many jobs."""
 
-    def __init__(self, proof, folder):
-        self.proof, self.folder = proof, folder
+    def __init__(self, proof, folder, jobs):
+        self.proof, self.folder, self.jobs = proof, folder, jobs
         self.work = os.path.join(self.folder, "incremental")
         os.makedirs(self.folder)
         for part in PARTS:
@@ -176,7 +176,7 @@ class Copy:
 
     def run(self, texts, words):
         """Runs the checker with these words on the copy with these texts in place of its own."""
-        words = [*checker(self.proof.crate), "--incremental", self.work, *words]
+        words = [*checker(self.proof.crate, self.jobs), "--incremental", self.work, *words]
         how = {"stdin": subprocess.DEVNULL, "stdout": subprocess.PIPE, "stderr": subprocess.STDOUT, "errors": "replace"}
         self.take_kept()
         with self.edited(texts):

@@ -83,7 +83,8 @@ class Trial:
 
     def __init__(self, proof, folder, bodies, tell):
         self.proof, self.crate, self.bodies, self.tell = proof, proof.crate, bodies, tell
-        self.folder = folder
+        # How many jobs a check has.
+        self.folder, self.jobs = folder, 1
         # By the functions that a wrong body changes: those for whose proof they wait.
         self.waits = {}
 
@@ -101,7 +102,7 @@ class Trial:
                 due.append(body)
         if self.leaves(due):
             return []
-        self.copy = Copy(self.proof, self.folder)
+        self.copy = Copy(self.proof, self.folder, self.jobs)
         alone = self.try_all(due)
         shutil.rmtree(self.copy.folder)
         return [Alone(self.proof, f"{self.folder}-{it.short_name}", [it], self.tell) for it in alone]
