@@ -193,24 +193,26 @@ impl Mailbox {
         self.holding.lock(rt).number == number
     }
 
-    /// Says that a reply is being written on the connection of this number, if it has the mailbox; answers whether it
+    /// A reply is being written on the connection of this number from now on, if it has the mailbox; answers whether it
     /// has. One without frames isn't written.
     fn begin_writing<R: Wait>(&self, rt: &R, number: u64, reply: &ReplyMessage) -> bool
         requires { 0 < length reply.now.frames }
     {
         let _ = reply;
-        self.note_writing(rt, number, true)
-    }
-
-    /// Says whether a reply is being written on the connection of this number, if it has the mailbox; answers whether it
-    /// has.
-    fn note_writing<R: Wait>(&self, rt: &R, number: u64, is_writing: bool) -> bool {
         let mut holding = self.holding.lock(rt);
         if holding.number != number {
             return false;
         }
-        holding.is_writing = is_writing;
+        holding.is_writing = true;
         true
+    }
+
+    /// No reply is being written any more on the connection of this number, if it has the mailbox.
+    fn end_writing<R: Wait>(&self, rt: &R, number: u64) {
+        let mut holding = self.holding.lock(rt);
+        if holding.number == number {
+            holding.is_writing = false;
+        }
     }
 
     /// Writes the next reply to the peer of a connection, if that has the mailbox. What can't be written waits on.
@@ -246,7 +248,7 @@ impl Mailbox {
             return Look::Nothing;
         }
         let is_written = peer.writer.message(rt, alloc, reply.frames.as_slice());
-        self.note_writing(rt, peer.number, false);
+        self.end_writing(rt, peer.number);
         if is_written {
             drop(reply);
             return Look::Written;
