@@ -332,6 +332,14 @@ def is_open(port, ip="127.0.0.1"):
     return True
 
 
+def is_listening(port, ip="127.0.0.1"):
+    """Whether somebody listens on a port, by what the system tells: a connection would take a descriptor and a thread
+    of the kernel for a moment."""
+    place = f"{socket.inet_aton(ip)[::-1].hex().upper()}:{port:04X}"
+    with open("/proc/net/tcp", encoding="ascii") as file:
+        return any(line.split()[1:4:2] == [place, "0A"] for line in file)
+
+
 class Kernel:
     """A kernel that runs. Where nothing failed, it is shut down behind a test, and has to end as it should."""
 
@@ -344,7 +352,7 @@ class Kernel:
     def __enter__(self):
         for _ in range(10):
             self.start()
-            eventually(lambda: self.process.poll() is not None or is_open(self.port("hb"), self.ip), "ready")
+            eventually(lambda: self.process.poll() is not None or is_listening(self.port("hb"), self.ip), "ready")
             if self.process.poll() is None:
                 return self
             status, told = self.process.returncode, self.told()
