@@ -1,2 +1,1 @@
-pub mod Parrot
 pub mod Program

@@ -3,15 +3,10 @@
 
 ghost use Rattle.parrot_kernel.specs.Program.{parrot_is_started, parrot_profile};
 
-mod parrot;
-
 use kernel_program::{BeginFault, Language, start};
-use parrot::Parrot;
+use parrot_cells::Parrot;
 use std::alloc::Global;
 use std::process::ExitCode;
-
-#[cfg(test)]
-mod tests;
 
 /// The program of the language.
 pub struct ParrotProgram;

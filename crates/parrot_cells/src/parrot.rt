@@ -1,7 +1,7 @@
 //! The language of a parrot: what a cell comes to is the text of the cell before it.
 
 ghost use Rattle.std.specs.Prelude.{◌≡◌, [], IfOk};
-ghost use Rattle.parrot_kernel.specs.Parrot.{parrot_info};
+ghost use Rattle.parrot_cells.specs.Parrot.{parrot_info};
 
 use interp_core::{
     Completeness, Completion, Determined, Info, InterpFault, Interpreter, Next, Stepped,
@@ -87,7 +87,7 @@ fn info(alloc: Global) -> Result<Info, AllocError>
 impl Interpreter for Parrot {
     type Cell = Saying;
 
-    ghost use Rattle.parrot_kernel.specs.Parrot.{parrot_laws, parrot_meaning};
+    ghost use Rattle.parrot_cells.specs.Parrot.{parrot_laws, parrot_meaning};
 
     ghost meaning = { parrot_meaning };
 
@@ -142,7 +142,7 @@ impl Interpreter for Parrot {
 }
 
 impl Determined for Parrot {
-    ghost use Rattle.parrot_kernel.specs.Parrot.{parrot_once};
+    ghost use Rattle.parrot_cells.specs.Parrot.{parrot_once};
 
     ghost once = { parrot_once };
 }
