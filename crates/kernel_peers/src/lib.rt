@@ -5,6 +5,7 @@ mod accepting;
 mod asking;
 mod connection;
 mod heartbeat;
+mod holding;
 mod mailbox;
 mod mailboxes;
 mod service;

@@ -3,10 +3,11 @@
 
 ghost use Rattle.std.specs.Prelude.{◌<◌, length};
 
+use crate::holding::Holding;
 use crossbeam_channel::{Receiver, RecvTimeoutError};
 use crossbeam_utils::sync::{Parker, Unparker};
 use kernel_jobs::{Account, ReplyMessage};
-use kernel_limits::{Claim, Holder, is_awaited, takes_over};
+use kernel_limits::Claim;
 use kernel_sockets::{SharedWriter, Socket};
 use std::alloc::Global;
 use std::sync::{Arc, Mutex, Wait};
@@ -17,63 +18,6 @@ const REPLY_LOOK: u64 = 1_000;
 
 /// For how many milliseconds a connection waits that doesn't have its peer's mailbox, before it asks for it again.
 const CLAIM_LOOK: u64 = 500;
-
-/// The connection that has a mailbox.
-#[derive(Drop)]
-struct Holding {
-    /// How far it is.
-    holder: Holder,
-    /// Its number on its port; 0 if there is none.
-    number: u64,
-    /// Its socket, to close it by.
-    socket: Option<Socket>,
-    /// Since when there is none and nothing of the peer is in work, in milliseconds, once that was seen.
-    since: Option<u64>,
-    /// Whether the peer has ever shown that it holds the key.
-    is_signed: bool,
-    /// How many connections of the peer are heard still, be it what they said before they broke.
-    heard: usize,
-    /// Whether a reply is just being written on the connection that has the mailbox.
-    is_writing: bool,
-}
-
-impl Holding {
-    /// Gives the mailbox to another connection that isn't closed, if it may have it. The connection before is closed if
-    /// a reply is just being written on it, for which others would wait, or if the other's peer has signed something.
-    /// Else it stays: what was asked on it may not have been read yet.
-    fn pass(&mut self, number: u64, socket: &Socket, claim: Claim) -> bool {
-        if socket.is_shut() || !takes_over(self.holder, claim) {
-            return false;
-        }
-        let Ok(kept) = socket.try_clone() else {
-            return false;
-        };
-        match self.socket.replace(kept) {
-            Some(before) if self.is_writing || claim == Claim::Signs => before.shut(),
-            Some(_) | None => {}
-        }
-        self.is_writing = false;
-        self.number = number;
-        self.holder = Holder::Unsigned;
-        self.since = None;
-        true
-    }
-
-    /// Whether replies still wait for a peer that left, and that has so many jobs in work.
-    fn is_awaited(&mut self, jobs: usize, now: u64) -> bool {
-        if jobs > 0 {
-            self.since = None;
-            return true;
-        }
-        match self.since {
-            Some(since) => is_awaited(since, now),
-            None => {
-                self.since = Some(now);
-                true
-            }
-        }
-    }
-}
 
 /// What is due to a peer.
 #[derive(Drop)]
@@ -112,15 +56,7 @@ impl Mailbox {
     /// A mailbox that no connection has.
     pub(crate) fn new(replies: Receiver<ReplyMessage>, account: Arc<Account, Global>) -> Mailbox {
         Mailbox {
-            holding: Mutex::new(Holding {
-                holder: Holder::Gone,
-                number: 0,
-                socket: None,
-                since: None,
-                is_signed: false,
-                heard: 0,
-                is_writing: false,
-            }),
+            holding: Mutex::new(Holding::new()),
             due: Mutex::new(Due {
                 unsent: None,
                 replies,
@@ -136,20 +72,17 @@ impl Mailbox {
 
     /// A connection of the peer is heard from now on.
     pub(crate) fn enter<R: Wait>(&self, rt: &R) {
-        let mut holding = self.holding.lock(rt);
-        holding.heard = holding.heard.saturating_add(1);
+        self.holding.lock(rt).enter();
     }
 
     /// The connection of this number isn't heard any more, and its peer has left.
     pub(crate) fn exit<R: Wait>(&self, rt: &R, number: u64) {
-        self.leave(rt, number);
-        let mut holding = self.holding.lock(rt);
-        holding.heard = holding.heard.saturating_sub(1);
+        self.holding.lock(rt).exit(number);
     }
 
     /// The peer has shown that it holds the key, on a connection that it has left.
     pub(crate) fn sign<R: Wait>(&self, rt: &R) {
-        self.holding.lock(rt).is_signed = true;
+        self.holding.lock(rt).sign();
     }
 
     /// Gives the mailbox to the connection of this number, if it may have it, and answers whether it has it now.
@@ -160,37 +93,22 @@ impl Mailbox {
         socket: &Socket,
         claim: Claim,
     ) -> bool {
-        let mut holding = self.holding.lock(rt);
-        if holding.number != number && !holding.pass(number, socket, claim) {
-            return false;
-        }
-        if claim == Claim::Signs {
-            holding.holder = Holder::Signed;
-            holding.is_signed = true;
-        }
-        true
+        self.holding.lock(rt).claim(number, socket, claim)
     }
 
     /// The peer of the connection of this number has left. If it had the mailbox, the replies wait from now on.
     pub(crate) fn leave<R: Wait>(&self, rt: &R, number: u64) {
-        let mut holding = self.holding.lock(rt);
-        if holding.number == number {
-            holding.holder = Holder::Gone;
-            holding.number = 0;
-            holding.socket = None;
-            holding.is_writing = false;
-        }
+        self.holding.lock(rt).leave(number);
     }
 
     /// Whether a connection of the peer is heard, or it may still come again, and has shown that it holds the key.
     pub(crate) fn is_kept<R: Wait>(&self, rt: &R, now: u64) -> bool {
-        let mut holding = self.holding.lock(rt);
-        holding.heard > 0 || (holding.is_signed && holding.is_awaited(self.account.jobs(), now))
+        self.holding.lock(rt).is_kept(self.account.jobs(), now)
     }
 
     /// Whether the connection of this number has it.
     fn is_of<R: Wait>(&self, rt: &R, number: u64) -> bool {
-        self.holding.lock(rt).number == number
+        self.holding.lock(rt).is_of(number)
     }
 
     /// A reply is being written on the connection of this number from now on, if it has the mailbox; answers whether it
@@ -198,21 +116,12 @@ impl Mailbox {
     fn begin_writing<R: Wait>(&self, rt: &R, number: u64, reply: &ReplyMessage) -> bool
         requires { 0 < length reply.now.frames }
     {
-        let _ = reply;
-        let mut holding = self.holding.lock(rt);
-        if holding.number != number {
-            return false;
-        }
-        holding.is_writing = true;
-        true
+        self.holding.lock(rt).begin_writing(number, reply)
     }
 
     /// No reply is being written any more on the connection of this number, if it has the mailbox.
     fn end_writing<R: Wait>(&self, rt: &R, number: u64) {
-        let mut holding = self.holding.lock(rt);
-        if holding.number == number {
-            holding.is_writing = false;
-        }
+        self.holding.lock(rt).end_writing(number);
     }
 
     /// Writes the next reply to the peer of a connection, if that has the mailbox. What can't be written waits on.
