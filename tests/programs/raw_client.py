@@ -239,6 +239,20 @@ class Peer:
             self.socket.settimeout(PATIENCE)
         return not self.messages
 
+    def drained(self, seconds):
+        """The octets that come until none do for a moment. They aren't looked at, but taken as fast as they come."""
+        octets, end = bytearray(), time.monotonic() + PATIENCE
+        self.socket.settimeout(seconds)
+        try:
+            while more := self.socket.recv(1 << 18):
+                octets += more
+                check(time.monotonic() < end, f"after {PATIENCE} s octets still come")
+        except socket.timeout:
+            return octets
+        finally:
+            self.socket.settimeout(PATIENCE)
+        raise Failure("the connection ended")
+
     def close(self):
         """Closes the connection."""
         self.socket.close()
