@@ -27,6 +27,8 @@ class WrongBody:
         self.pairs, self.bad = [], None
         # The crate and the name of the test that has to fail with it, where no contract can refuse it.
         self.test = None
+        # The compiler's name of the error that has to stop it, if it mustn't compile.
+        self.error = None
         self.functions = set()
         file = old = None
         with open(path, encoding="utf-8") as lines:
@@ -37,6 +39,9 @@ class WrongBody:
                     file = text.strip()
                 elif found and word == "test":
                     self.test = tuple(text.split())
+                elif found and word == "compiles":
+                    answer, _, name = text.partition(" ")
+                    self.error = name.strip() if answer == "no" else ""
                 elif found and word == "old":
                     old = text
                 elif found and word == "new" and file and old:

@@ -53,7 +53,12 @@ def text_for(body):
     """A sum of a wrong body, of the toolchain's logic, and of all texts that its crate is made of, or its test."""
     if body.test:
         return tested.sum_of(body, logic())
-    return hashlib.sha256(repr((FORM, text_of(body.crate), body.pairs)).encode()).hexdigest()[:40]
+    return hashlib.sha256(repr((FORM, text_of(body.crate), body.pairs, *errors_of(body))).encode()).hexdigest()[:40]
+
+
+def errors_of(body):
+    """The error by which a wrong body mustn't compile, or none."""
+    return [body.error] if body.error else []
 
 
 class Keys:
@@ -66,12 +71,13 @@ class Keys:
     def key_of(self, body):
         """A sum of a wrong body and of what its refusal rests on, or none where what is kept doesn't tell: the
         toolchain, the edit, the proof modules of each function that it changes, and of what its new text names the
-        contracts and the constants in its crate. Where it changes something outside functions these are all modules
-        of the crate."""
+        contracts and the constants in its crate. Where it changes something outside functions, or mustn't compile,
+        these are all modules of the crate."""
         names = self.modules_for(body)
         if not names:
             return None
-        found = hashlib.sha256(repr((FORM, version(), body.pairs, self.constants_of(body))).encode())
+        words = (FORM, version(), body.pairs, self.constants_of(body), *errors_of(body))
+        found = hashlib.sha256(repr(words).encode())
         for name in sorted(names):
             found.update(repr((name, head_of(self.modules[name]).sums)).encode())
         return found.hexdigest()[:40]
@@ -80,7 +86,7 @@ class Keys:
         """The names of the modules that a wrong body's refusal rests on."""
         if not self.functions:
             return set()
-        if body.is_outside or any(name is None for _, _, name in body.functions):
+        if body.error or body.is_outside or any(name is None for _, _, name in body.functions):
             return set(self.modules)
         own = [it for it in self.functions if is_own(self.crate, body, it.replace("+", ""))]
         own = [it.partition("::")[2].replace("::", ".") for it in own]

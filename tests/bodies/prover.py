@@ -25,6 +25,8 @@ class Checked:
         # The last word of a check is that the crate is proved or isn't, or how many of some functions are.
         self.is_proved = status == 0 and any(it.startswith("logic=proved ") for it in self.lines)
         self.reached_prover = self.is_proved or any(re.match(r"logic=not-proved|only=\d", it) for it in self.lines)
+        # The compiler's names of the errors that it found.
+        self.errors = {found[1] for it in self.lines if (found := re.search(r": error\[([\w-]+)\]: ", it))}
         said = [it for it in (re.match(r"fn (\S+): (proved$)?", line) for line in self.lines) if it]
         self.functions = [it[1] for it in said]
         self.proved = {it[1] for it in said if it[2]}

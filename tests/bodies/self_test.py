@@ -202,6 +202,29 @@ KINDS = {
         ("sample", "test: test_sample tests::twice_four", "file: src/lib.rt", "old: k + k", "new: k"),
         "sample/by_no_test: FAILED: bad edit: its line 'test:' names no crate with a test of this name",
     ),
+    "moved_twice": (
+        ("sample", "compiles: no borrow-e0382", "file: src/lib.rt", "old: /// Something small.",
+         "new: fn pair(small: Small) -> (Small, Small) { (small, small) } /// Something small."),
+        "sample/moved_twice: refused by the compiler: src/lib.rt:",
+    ),
+    "moved_twice_and_no_code": (
+        ("sample", "compiles: no borrow-e0382", "file: src/lib.rt", "old: /// Something small.",
+         "new: fn pair(small: Small) -> (Small, Small) { thrive(small, small) } /// Something small."),
+        "sample/moved_twice_and_no_code: FAILED: bad edit: the compiler stops at another error than borrow-e0382: ",
+    ),
+    "moved_once": (
+        ("sample", "compiles: no borrow-e0382", "file: src/lib.rt", "old: /// Something small.",
+         "new: fn same(small: Small) -> Small { small } /// Something small."),
+        "sample/moved_once: FAILED: not refused: it compiles",
+    ),
+    "refused_though_it_compiles": (
+        ("sample", "compiles: no borrow-e0382", "file: src/lib.rt", "old:     5 * n", "new:     4 * n"),
+        "sample/refused_though_it_compiles: FAILED: not refused: it compiles",
+    ),
+    "by_no_error": (
+        ("sample", "compiles: no", "file: src/lib.rt", "old:     5 * n", "new:     4 * n"),
+        "sample/by_no_error: FAILED: bad edit: its line 'compiles:' isn't 'no' and the name of an error",
+    ),
     "no_code": (("sample", "file: src/lib.rt", "old: 2 * twice(n)", "new: 2 * thrive(n)"), "sample/no_code: FAILED: bad edit: it did not reach the prover"),
     "nowhere": (("base_sample", "file: src/lib.rt", "old: nothing.of.this()", "new: 0"), "base_sample/nowhere: FAILED: bad edit: an old text stands 0 times"),
     "definition": (
@@ -209,27 +232,28 @@ KINDS = {
         "base_sample/definition: FAILED: bad edit: a 'file:' is not in src/",
     ),
 }  # fmt: skip
-# Wrong bodies whose keys are looked at, each of another function.
+# Wrong bodies whose keys are looked at, each of another function, and one that mustn't compile.
 KEPT = {
     "too_high": ("sample", "file: src/lib.rt", "old: cap(n) + 1", "new: cap(n) + 12"),
     "one_more": ("sample", "file: src/lib.rt", "old: k + k", "new: k + k + 1"),
     "three_times": ("sample", "file: src/lib.rt", "old: 2 * twice(n)", "new: 3 * twice(n)"),
     "seven_times": ("sample", "file: src/lib.rt", "old: 6 * (n", "new: 7 * (n"),
     "only_twice": ("sample", "file: src/lib.rt", "old: m + m + m", "new: m + m"),
+    "moved_twice": KINDS["moved_twice"][0],
 }
 # What is changed: a file, a text in it and another in its place, and the wrong bodies whose keys it has to change.
 CHANGES = {
     "nothing": ("crates.txt", "sample", "sample", set()),
     "a comment": ("crates/sample/src/lib.rt", "/// Twice a number.", "// A comment.\n/// Twice a number, as it is.", set()),
     "another function": (
-        "crates/sample/src/lib.rt", "/// Something small.", "/// Five.\npub fn five() -> u8 {\n    5\n}\n\n/// Something small.", set(),
+        "crates/sample/src/lib.rt", "/// Something small.", "/// Five.\npub fn five() -> u8 {\n    5\n}\n\n/// Something small.", {"moved_twice"},
     ),
-    "a lemma": ("crates/sample/proofs/TimesLemmas.antt", "six_of m ≡ 6 * m", "6 * m ≡ six_of m", {"seven_times"}),
+    "a lemma": ("crates/sample/proofs/TimesLemmas.antt", "six_of m ≡ 6 * m", "6 * m ≡ six_of m", {"moved_twice", "seven_times"}),
     "a contract of what is called": (
-        "crates/sample/src/lib.rt", "ensures { result ≡ twice_of n }", "ensures { result ≡ 2 * n }", {"one_more", "three_times"},
+        "crates/sample/src/lib.rt", "ensures { result ≡ twice_of n }", "ensures { result ≡ 2 * n }", {"moved_twice", "one_more", "three_times"},
     ),
-    "a definition": ("crates/sample/specs/Times.antt", "twice_of n = n + n\n", "twice_of n = 2 * n\n", {"one_more", "three_times"}),
-    "a definition of a library": ("crates/base_sample/specs/Bound.antt", "bound = 100", "bound = 101", {"too_high"}),
+    "a definition": ("crates/sample/specs/Times.antt", "twice_of n = n + n\n", "twice_of n = 2 * n\n", {"moved_twice", "one_more", "three_times"}),
+    "a definition of a library": ("crates/base_sample/specs/Bound.antt", "bound = 100", "bound = 101", {"moved_twice", "too_high"}),
 }  # fmt: skip
 
 
@@ -268,7 +292,8 @@ def refused_by(top, version, its_logic):
 
 def tried(lines):
     """Those of which a line says that they were tried and refused."""
-    return {found[1] for it in lines if (found := re.match(r"\w+/(\w+): refused at its own function: ", it))}
+    said = re.compile(r"\w+/(\w+): refused (?:at its own function|by the compiler): ")
+    return {found[1] for it in lines if (found := said.match(it))}
 
 
 def after_change(script, room, name):
@@ -301,11 +326,11 @@ def self_test(script, jobs):
         for name, (_, start) in KINDS.items():
             expect(f"of {name} it should say '{start}'", any(it.startswith(start) for it in lines), lines)
         lines = said_of(script, top, "--edits")
-        for name in ("nowhere", "definition", "by_no_test"):
+        for name in ("nowhere", "definition", "by_no_test", "by_no_error"):
             expect(
                 f"of {name} it should say so at once, too", any(it.startswith(KINDS[name][1]) for it in lines), lines
             )
-        expect("all others can be applied", f"{len(KINDS) - 3} passed, 3 failed" in lines, lines)
+        expect("all others can be applied", f"{len(KINDS) - 4} passed, 4 failed" in lines, lines)
         put_edits(top, KEPT)
         lines = said_of(script, top, "--edits")
         expect("each can be applied", f"{len(KEPT)} passed, 0 failed" in lines, lines)

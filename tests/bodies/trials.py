@@ -28,6 +28,7 @@ class Outcome(Enum):
 
     OWN = "refused at its own function"
     TEST = "refused by its test"
+    COMPILER = "refused by the compiler"
     ELSEWHERE = "refused, but not at its own function"
     NAMES = "refused only because a proof names what it took away"
     PROVED = "not refused"
@@ -37,7 +38,7 @@ class Outcome(Enum):
 
 
 # How a wrong body has to be refused.
-REFUSED = (Outcome.OWN, Outcome.TEST)
+REFUSED = (Outcome.OWN, Outcome.TEST, Outcome.COMPILER)
 
 
 class Told:
@@ -173,6 +174,26 @@ class Alone(Trial):
         for body in due:
             self.try_alone(body)
         return []
+
+
+class Uncompiled(Trial):
+    """Wrong bodies that mustn't compile, one after the other."""
+
+    def try_all(self, due):
+        """Tries each, and leaves none."""
+        for body in due:
+            texts = {}
+            body.apply(texts, self.copy.folder)
+            self.tell(body, *self.judged_by_compiler(body, self.copy.check(texts)))
+        return []
+
+    def judged_by_compiler(self, body, said):
+        """What came of a wrong body that mustn't compile, and why: each error has to be the one that it names."""
+        if said.reached_prover:
+            return Outcome.PROVED, "it compiles"
+        if said.errors != {body.error}:
+            return Outcome.BAD, f"the compiler stops at another error than {body.error}: {said.first_error()}"
+        return Outcome.COMPILER, said.first_error()
 
 
 class Copies(Trial):
@@ -318,12 +339,14 @@ class Rounds(Trial):
 
 
 def trials_of(proof, room, bodies, tell):
-    """The wrong bodies of a crate in trials: as copies of their functions those that can stand so, those of one
-    function together, and the others, those of one function apart, since they would take a round each."""
-    in_turn = sorted(bodies, key=lambda it: sorted(map(str, it.functions)))
+    """The wrong bodies of a crate in trials: those that mustn't compile, as copies of their functions those that can
+    stand so, those of one function together, and the others, those of one function apart, since they would take a
+    round each."""
+    uncompiled = [it for it in bodies if it.error]
+    in_turn = sorted((it for it in bodies if not it.error), key=lambda it: sorted(map(str, it.functions)))
     copied = [it for it in in_turn if not it.bad and copied_function(it, "_wrong", folder_of(it.crate))]
     others = [it for it in in_turn if it not in copied]
-    found = []
+    found = [Uncompiled(proof, os.path.join(room, proof.crate, "uncompiled"), uncompiled, tell)] if uncompiled else []
     for at in range(0, len(copied), COPIES):
         folder = os.path.join(room, proof.crate, f"copies{at}")
         found.append(Copies(proof, folder, copied[at : at + COPIES], tell))
