@@ -188,7 +188,17 @@ where
             requires { zero.queue ≡ one.queue }
         { both_converse(rt, alloc, zero, one) },
     );
-    if conversed? { taken } else { Err(AllocError) }
+    match taken {
+        Ok((taken, taker)) => {
+            drop(taker);
+            if conversed? {
+                Ok(taken)
+            } else {
+                Err(AllocError)
+            }
+        }
+        Err(AllocError) => Err(AllocError),
+    }
 }
 
 /// The last item that was taken of each publisher, if all were taken in the order that they were told of, and in each

@@ -4,7 +4,8 @@ ghost use Rattle.std.specs.Prelude.{◌≡◌, [], IfOk};
 
 use crate::tests::sinks::publish_each;
 use crate::tests::steps::{ALL, EVERYTHING, Narrow, STREAMS, Takes, standard, writers_that_end};
-use iopub_queue::{Closed, OpenFault, Publisher, Taker, open_queue};
+use crate::tests::workers::{ended, open_three};
+use iopub_queue::{Publisher, open_queue};
 use iopub_relay::{Drain, Event, Relay};
 use std::alloc::{AllocError, Global};
 use std::sync::Wait;
@@ -48,19 +49,6 @@ fn relay_of_standard<R: Wait + Copy + Drop>(
     Ok((publisher, relay))
 }
 
-/// The token of a publisher that closes, or is abandoned.
-fn ended<T: Drop, R: Wait + Drop>(publisher: Publisher<T, R>, closes: bool) -> Closed<T>
-    ensures { result.queue ≡ publisher.queue }
-{
-    if !closes {
-        return publisher.abandon();
-    }
-    let Ok(closed) = publisher.close() else {
-        unreachable!();
-    };
-    closed
-}
-
 /// Whether these are the subscribers that are left: 1, with these octets, and whether it failed; and 2, which got all
 /// that it asked for.
 fn left_are(left: &[(u64, Narrow, bool)], octets: &[u8], fails: bool) -> bool {
@@ -82,49 +70,37 @@ fn leaves<R: Drop>(relay: Relay<Narrow, R>, octets: &[u8], fails: bool) -> bool 
     }
 }
 
-/// Two publishers and the taker of a queue.
-fn open_two<T: Drop, R: Copy + Drop>(
-    rt: R,
-    alloc: Global,
-) -> Result<(Publisher<T, R>, Publisher<T, R>, Taker<T, R>), OpenFault>
-    ensures zero { IfOk result (λ opened. opened.0.queue ≡ opened.2.queue) }
-    ensures one { IfOk result (λ opened. opened.1.queue ≡ opened.2.queue) }
-    ensures taken { IfOk result (λ opened. opened.2.taken ≡ []) }
-{
-    let (publishers, taker) = open_queue(&rt, alloc, 2, 1024)?;
-    let mut publishers = publishers.into_iter();
-    let zero = publishers.next().unwrap();
-    let one = publishers.next().unwrap();
-    drop(publishers);
-    Ok((zero, one, taker))
-}
-
-/// Whether the closes of both publishers are taken at the end of a relay, and whether its subscribers got all. One
-/// publishes nothing and closes; the other publishes the standard list, and closes or is abandoned.
+/// How a relay over three publishers is drained, whether the closes of all are taken at its end,
+/// and whether its subscribers got all. Two publish nothing and close; the one between them
+/// publishes the standard list, and closes or is abandoned.
 fn concluded<R: Wait + Copy + Drop>(
     rt: R,
     alloc: Global,
     closes: bool,
-) -> Result<(bool, bool), AllocError> {
+) -> Result<(Drain, bool, bool), AllocError> {
     let events = standard(alloc, ALL, ALL)?;
-    let Ok((zero, mut one, taker)) = open_two(rt, alloc) else {
+    let Ok((zero, mut one, two, taker)) = open_three(&rt, alloc, 1_024) else {
         drop(events);
         return Err(AllocError);
     };
     let mut relay = Relay::new(alloc, taker);
     drop(publish_each(&mut one, events));
-    let Ok(tokens) = Vec::from_array(alloc, [ended(zero, true), ended(one, closes)]) else {
+    let tokens = [ended(zero, true), ended(one, closes), ended(two, true)];
+    let Ok(tokens) = Vec::from_array(alloc, tokens) else {
         drop(relay);
         return Err(AllocError);
     };
+    let drain = relay.drain(ENTRIES + 4);
     let complete = relay.conclude(&rt, tokens);
-    Ok((complete, leaves(relay, EVERYTHING, false)))
+    Ok((drain, complete, leaves(relay, EVERYTHING, false)))
 }
 
 #[test]
 fn an_abandoned_publisher_leaves_it_incomplete(rt: HostRuntime) -> Result<(), Fail> {
-    assert_eq!(rt; concluded(rt, rt.alloc(), true)?, (true, true));
-    assert_eq!(rt; concluded(rt, rt.alloc(), false)?, (false, true));
+    let all = concluded(rt, rt.alloc(), true)?;
+    let not_all = concluded(rt, rt.alloc(), false)?;
+    assert_eq!(rt; all, (Drain::Complete, true, true));
+    assert_eq!(rt; not_all, (Drain::Empty, false, true));
     Ok(())
 }
 

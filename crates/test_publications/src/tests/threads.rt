@@ -1,56 +1,102 @@
 //! Publishers in threads of their own, with the taker beside them.
 
-use crate::tests::workers::{is_whole, publish_all, take_all};
-use iopub_queue::open_queue;
+ghost use Rattle.std.specs.Prelude.{◌≡◌, IfOk};
+
+use crate::tests::workers::{Entries, Item, is_whole, open_three, publish_all, take_all};
+use iopub_queue::{Closed, Publisher, Settled};
 use std::alloc::{AllocError, Global};
 use std::sync::Wait;
 use std::test::Fail;
 use std::thread;
 use std::thread::Threads;
 
-/// How many items each publisher publishes.
-const COUNT: u32 = 100_000;
+/// Each of three publishers publishes so many items and closes, in a thread of its own: their
+/// closing tokens.
+fn published<R>(
+    rt: R,
+    zero: Publisher<Item, R>,
+    one: Publisher<Item, R>,
+    two: Publisher<Item, R>,
+    count: u32,
+) -> (Closed<Item>, Closed<Item>, Closed<Item>)
+where
+    R: Threads + Wait + Copy + Send + Sync + Drop + 'static,
+    ensures zero { result.0.queue ≡ zero.queue }
+    ensures one { result.1.queue ≡ one.queue }
+    ensures two { result.2.queue ≡ two.queue }
+{
+    let (zero, (one, two)) = thread::join(
+        &rt,
+        move || publish_all(zero, count),
+        move || {
+            thread::join(
+                &rt,
+                move || publish_all(one, count),
+                move || publish_all(two, count),
+            )
+        },
+    );
+    (zero, one, two)
+}
 
-/// Three publishers in threads, through so many places: what is taken beside them.
+/// Three publishers in threads of their own, each of so many items, through so many places: what is
+/// taken beside them, and how each is settled.
 fn taken_of_three<R>(
     rt: R,
     alloc: Global,
     capacity: usize,
-) -> Result<Vec<(usize, Option<(usize, u32)>)>, AllocError>
+    count: u32,
+) -> Result<(Entries<Item>, [Settled; 3]), AllocError>
 where
     R: Threads + Wait + Copy + Send + Sync + Drop + 'static,
 {
-    let Ok((publishers, taker)) = open_queue(&rt, alloc, 3, capacity) else {
+    let Ok((zero, one, two, taker)) = open_three(&rt, alloc, capacity) else {
         return Err(AllocError);
     };
-    let (published, taken) = thread::join(
+    let (taken, (zero, one, two)) = thread::join(
         &rt,
-        move || thread::map_vec(&rt, publishers, &|publisher| publish_all(publisher, COUNT)),
         move || take_all(&rt, alloc, taker),
+        move || published(rt, zero, one, two, count),
     );
-    drop(published);
-    taken
+    match taken {
+        Ok((taken, mut taker)) => {
+            let settled = [taker.settle(zero), taker.settle(one), taker.settle(two)];
+            drop(taker);
+            Ok((taken, settled))
+        }
+        Err(AllocError) => {
+            drop((zero, one, two));
+            Err(AllocError)
+        }
+    }
 }
 
-/// Whether three publishers in threads have all taken that they published, each in its order.
-fn all_is_taken<R>(rt: R, alloc: Global, capacity: usize) -> Result<bool, AllocError>
+/// Whether of three publishers in threads all is taken that they published, each in its order, and
+/// each is settled as whole.
+fn all_is_taken<R>(rt: R, alloc: Global, capacity: usize, count: u32) -> Result<bool, AllocError>
 where
     R: Threads + Wait + Copy + Send + Sync + Drop + 'static,
 {
-    let taken = taken_of_three(rt, alloc, capacity)?;
-    let mut whole = taken.len() == 3 * (COUNT as usize + 1);
+    let (taken, settled) = taken_of_three(rt, alloc, capacity, count)?;
+    let mut whole = taken.len() == 3 * (count as usize + 1) && settled == [Settled::Whole; 3];
     for number in 0..3 {
-        whole = whole && is_whole(&taken, number, COUNT);
+        whole = whole && is_whole(&taken, number, count);
     }
     Ok(whole)
 }
 
 #[test]
 fn many_items_through_few_places_and_many(rt: HostRuntime) -> Result<(), Fail> {
-    for capacity in [1, 2, 7, 1_024] {
+    for (capacity, count) in [
+        (1, 1_000),
+        (1, 100_000),
+        (2, 100_000),
+        (7, 100_000),
+        (1_024, 100_000),
+    ] {
         assert!(rt;
-            all_is_taken(rt, rt.alloc(), capacity)?,
-            "{capacity} places"
+            all_is_taken(rt, rt.alloc(), capacity, count)?,
+            "{count} items through {capacity} places"
         );
     }
     Ok(())

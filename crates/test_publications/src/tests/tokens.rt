@@ -1,58 +1,114 @@
-//! A publisher, its closing token, a word and the taker, used one after the other.
+//! Three publishers, their closing tokens, a word and the taker, used one after the other.
 
-use crate::tests::sinks::publish_each;
-use iopub_queue::{Settled, Taken, open_queue};
+ghost use Rattle.std.specs.Prelude.{◌≡◌};
+
+use crate::tests::workers::{ended, open_three};
+use iopub_queue::{Publisher, Settled, Taken, open_queue};
 use std::alloc::{AllocError, Global};
 use std::sync::Wait;
 use std::test::Fail;
+use std::thread;
+use std::thread::Threads;
 
-/// What is taken of a publisher that publishes two items as a sink does, and of its close, and how it is settled.
-fn taken_and_settled<R: Wait + Copy + Drop>(
+/// What a take gave, as a plain value.
+#[derive(Clone, Copy, Debug, PartialEq, Eq)]
+enum Given {
+    /// An item of the publisher of this number.
+    Item(usize, u8),
+    /// The close of this number.
+    Closed(usize),
+    /// Nothing.
+    Empty,
+    /// That all closes were taken.
+    Complete,
+}
+
+/// What a take gave, as a plain value.
+fn plain(taken: &Taken<u8>) -> Given {
+    match taken {
+        Taken::Item(number, item) => Given::Item(*number, *item),
+        Taken::Closed(number) => Given::Closed(*number),
+        Taken::Empty => Given::Empty,
+        Taken::Complete => Given::Complete,
+    }
+}
+
+/// The publisher, after it published an item.
+fn published<R: Wait>(mut publisher: Publisher<u8, R>, item: u8) -> Publisher<u8, R>
+    ensures { result.queue ≡ publisher.queue }
+{
+    let _ = publisher.publish(item);
+    publisher
+}
+
+/// What is taken of three publishers, and how each is settled. The first publishes an item in a
+/// thread of its own, and a word of it is learnt. Then the second closes, or is abandoned, and the
+/// first and the third close.
+fn taken_and_settled<R>(
     rt: R,
     alloc: Global,
-) -> Result<([Option<u32>; 2], Option<usize>, Settled), AllocError> {
-    let items = [5, 6].to_vec(alloc)?;
-    let Ok((mut publishers, mut taker)) = open_queue(&rt, alloc, 1, 4) else {
-        drop(items);
+    closes: bool,
+) -> Result<([Given; 6], [Settled; 3]), AllocError>
+where
+    R: Threads + Wait + Copy + Send + Sync + Drop + 'static,
+{
+    let Ok((zero, one, two, mut taker)) = open_three(&rt, alloc, 1_024) else {
         return Err(AllocError);
     };
-    let Some(mut publisher) = publishers.pop() else {
-        unreachable!();
-    };
-    drop(publishers);
-    drop(publish_each(&mut publisher, items));
-    let taken = [item_of(taker.take()), item_of(taker.take())];
-    let Ok(mut closed) = publisher.close() else {
-        unreachable!();
-    };
-    let word = closed.word();
+    let (mut zero, ()) = thread::join(&rt, move || published(zero, b'a'), || ());
+    let word = zero.tell();
     taker.learn(word);
-    let number = close_of(taker.take());
-    let settled = taker.settle(closed);
-    Ok((taken, number, settled))
-}
-
-/// The item that was taken.
-fn item_of(taken: Taken<u32>) -> Option<u32> {
-    match taken {
-        Taken::Item(0, item) => Some(item),
-        _ => None,
-    }
-}
-
-/// The number whose close was taken.
-fn close_of(taken: Taken<u32>) -> Option<usize> {
-    match taken {
-        Taken::Closed(number) => Some(number),
-        _ => None,
-    }
+    let first = taker.take();
+    let one = ended(one, closes);
+    let zero = ended(zero, true);
+    let two = ended(two, true);
+    let rest = [
+        taker.take(),
+        taker.take(),
+        taker.take(),
+        taker.take(),
+        taker.take(),
+    ];
+    let settled = [taker.settle(zero), taker.settle(one), taker.settle(two)];
+    let [second, third, fourth, fifth, sixth] = &rest;
+    let given = [
+        plain(&first),
+        plain(second),
+        plain(third),
+        plain(fourth),
+        plain(fifth),
+        plain(sixth),
+    ];
+    Ok((given, settled))
 }
 
 #[test]
-fn items_and_a_close_are_taken_and_settled(rt: HostRuntime) -> Result<(), Fail> {
-    assert_eq!(rt;
-        taken_and_settled(rt, rt.alloc())?,
-        ([Some(5), Some(6)], Some(0), Settled::Whole)
-    );
+fn all_is_taken_and_settled_of_publishers_that_close(rt: HostRuntime) -> Result<(), Fail> {
+    let found = taken_and_settled(rt, rt.alloc(), true)?;
+    let given = [
+        Given::Item(0, b'a'),
+        Given::Closed(1),
+        Given::Closed(0),
+        Given::Closed(2),
+        Given::Complete,
+        Given::Complete,
+    ];
+    assert_eq!(rt; found, (given, [Settled::Whole; 3]));
+    Ok(())
+}
+
+#[test]
+fn a_queue_is_never_complete_if_a_publisher_is_abandoned(rt: HostRuntime) -> Result<(), Fail> {
+    let found = taken_and_settled(rt, rt.alloc(), false)?;
+    let given = [
+        Given::Item(0, b'a'),
+        Given::Closed(0),
+        Given::Closed(2),
+        Given::Empty,
+        Given::Empty,
+        Given::Empty,
+    ];
+    let settled = [Settled::Whole, Settled::Beginning, Settled::Whole];
+    assert_eq!(rt; found, (given, settled));
     Ok(())
 }
