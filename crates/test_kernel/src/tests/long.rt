@@ -8,12 +8,13 @@ use interp_core::{
 };
 use listed::{Row, Text};
 use std::alloc::{AllocError, Global};
+use std::thread;
 
 /// The steps of each cell.
-const STEPS: u64 = 1_000_000_000;
+const STEPS: u64 = 1_000_000;
 
-/// A language in which each text is a cell of a thousand million steps. It writes a line if the steps that it has
-/// left are whole thousands. All else has a fault.
+/// A language in which each text is a cell of a million steps, each of which lets other threads run
+/// once. It writes a line if the steps that it has left are whole thousands. All else has a fault.
 #[derive(Clone, Copy, Debug)]
 pub(crate) struct Long;
 
@@ -49,7 +50,8 @@ impl Interpreter for Long {
 
     ghost meaning = { record {
       tells = λ state answer. answer ≡ Err TooDeep;
-      begins = λ state text answer after. (answer ≡ Ok (record { steps = 1000000000 })) × (after ≡ state);
+      begins = λ state text answer after.
+          (answer ≡ Ok (record { steps = 1000000 })) × (after ≡ state);
       steps = λ cell. cell.steps;
       runs = λ state cell stepped after left. (stepped ≡ record {
         outputs = if cell.steps % 1000 == 0 then Stdout (codes "line\n") ∷ [] else [];
@@ -77,6 +79,7 @@ impl Interpreter for Long {
     }
 
     fn step(&mut self, alloc: Global, cell: &mut Running) -> Stepped {
+        thread::yield_now();
         let steps = cell.steps;
         cell.steps = steps - 1;
         match outputs(alloc, steps) {

@@ -26,7 +26,7 @@ use test_requests::{
 const TURNS: usize = 10_000_000;
 
 /// The lines that a cell of the language of long cells writes.
-const LINES: usize = 1_000_000;
+const LINES: usize = 1_000;
 
 /// The requests on shell before its shutdown.
 const ON_SHELL: u64 = 100;
@@ -419,19 +419,29 @@ fn expect_109<R: Wait + Abort>(rt: &R, alloc: Global, client: &Client) -> Result
     Ok(())
 }
 
-#[test]
-fn each_of_109_jobs_has_one_reply(rt: HostRuntime) -> Result<(), Fail> {
-    let alloc = rt.alloc();
+/// Has a kernel of so many places do them, and looks at all that comes of it.
+fn look_at_109<R>(rt: R, alloc: Global, capacity: usize) -> Result<(), AllocError>
+where
+    R: Threads + Wait + Abort + Copy + Send + Sync + Drop + 'static,
+{
     let opened = open(&rt, alloc)?;
     let asked = ask_109(&rt, alloc, &opened.client);
-    let (ended, client) = run_asked(rt, alloc, asked, opened, 16, two_ariths(alloc))?;
+    let (ended, client) = run_asked(rt, alloc, asked, opened, capacity, two_ariths(alloc))?;
     let replied = expect_109(&rt, alloc, &client);
     drop(client);
     expect_end(&rt, &ended, false, 1 + 2 * 109);
     let undone = ended.undone;
     drop(ended);
     assert_eq!(rt; undone, (0, 0));
-    Ok(replied?)
+    replied
+}
+
+#[test]
+fn each_of_109_jobs_has_one_reply(rt: HostRuntime) -> Result<(), Fail> {
+    for capacity in [16, 1_024] {
+        look_at_109(rt, rt.alloc(), capacity)?;
+    }
+    Ok(())
 }
 
 #[test]
@@ -472,25 +482,57 @@ fn word_of_control_counts_if_both_are_asked_for_a_shutdown(rt: HostRuntime) -> R
     Ok(replied?)
 }
 
-/// The next reply, for which it waits.
-fn await_reply<R: Wait + Abort>(rt: &R, line: &Line) -> ReplyMessage {
+/// Waits until a flag is raised.
+fn await_flag(rt: &impl Abort, flag: &AtomicBool) {
     for _ in 0..TURNS {
-        if let Ok(reply) = line.from.try_recv(rt) {
-            return reply;
+        if flag.load(Ordering::SeqCst) {
+            return;
         }
         thread::yield_now();
     }
-    None.expect(rt, "a reply in time")
+    assert!(rt; false, "no output or no reply in time");
+}
+
+/// Receives a reply, and then raises a flag.
+fn receive<R: Wait + Drop>(
+    rt: R,
+    from: Receiver<ReplyMessage>,
+    came: Arc<AtomicBool, Global>,
+) -> Option<ReplyMessage> {
+    let reply = from.recv(&rt).ok();
+    came.store(true, Ordering::SeqCst);
+    reply
+}
+
+/// A thread that receives the next reply, and the flag that it raises then.
+fn receiving<R>(
+    rt: R,
+    alloc: Global,
+    line: &Line,
+) -> Result<(JoinHandle<Option<ReplyMessage>>, Arc<AtomicBool, Global>), AllocError>
+where
+    R: Threads + Wait + Copy + Send + Sync + Drop + 'static,
+{
+    let (from, (of_thread, came)) = both(line.from.clone(), flag_twice(alloc))?;
+    match thread::spawn(&rt, move || receive(rt, from, of_thread)) {
+        Ok(thread) => Ok((thread, came)),
+        Err(refused) => {
+            drop(refused);
+            drop(came);
+            Err(AllocError)
+        }
+    }
 }
 
 /// That the next reply, for which it waits, ends in this.
-fn expect_in_time<R: Wait + Abort>(
-    rt: &R,
-    alloc: Global,
-    line: &Line,
-    due: &str,
-) -> Result<(), AllocError> {
-    let reply = await_reply(rt, line);
+fn expect_in_time<R>(rt: R, alloc: Global, line: &Line, due: &str) -> Result<(), AllocError>
+where
+    R: Threads + Wait + Abort + Copy + Send + Sync + Drop + 'static,
+{
+    let (thread, came) = receiving(rt, alloc, line)?;
+    await_flag(&rt, &came);
+    drop(came);
+    let reply = thread.join(&rt).expect(&rt, "a reply");
     let text = frames_text(alloc, &reply.frames);
     drop(reply);
     let text = text?;
@@ -499,25 +541,17 @@ fn expect_in_time<R: Wait + Abort>(
     Ok(())
 }
 
-/// Waits for an output of the cell that runs.
-fn await_output(rt: &impl Abort, has_output: &AtomicBool) {
-    for _ in 0..TURNS {
-        if has_output.load(Ordering::SeqCst) {
-            return;
-        }
-        thread::yield_now();
-    }
-    assert!(rt; false, "no output in time");
-}
-
 /// Interrupts the cell that runs, and then asks for a shutdown.
-fn interrupt<R: Wait + Abort>(rt: &R, alloc: Global, client: &Client) -> Result<(), AllocError> {
-    await_output(rt, &client.has_output);
+fn interrupt<R>(rt: R, alloc: Global, client: &Client) -> Result<(), AllocError>
+where
+    R: Threads + Wait + Abort + Copy + Send + Sync + Drop + 'static,
+{
+    await_flag(&rt, &client.has_output);
     let control = &client.control;
-    ask_numbered(rt, alloc, control, 1, ("interrupt_request", "{}"))?;
+    ask_numbered(&rt, alloc, control, 1, ("interrupt_request", "{}"))?;
     expect_in_time(rt, alloc, control, r#"{"status":"ok"}"#)?;
     expect_in_time(rt, alloc, &client.shell, INTERRUPTED)?;
-    ask_numbered(rt, alloc, control, 2, (SHUTDOWN, r#"{"restart":false}"#))
+    ask_numbered(&rt, alloc, control, 2, (SHUTDOWN, r#"{"restart":false}"#))
 }
 
 /// Has a kernel of long cells run in a thread of its own, if it was asked: that thread, and the client.
@@ -552,7 +586,7 @@ fn a_cell_that_runs_is_interrupted(rt: HostRuntime) -> Result<(), Fail> {
     let cell = ("execute_request", r#"{"code":"x"}"#);
     let asked = ask_numbered(&rt, alloc, &opened.client.shell, 0, cell);
     let (kernel, client) = start_long(rt, alloc, asked, opened)?;
-    let interrupted = interrupt(&rt, alloc, &client);
+    let interrupted = interrupt(rt, alloc, &client);
     let ended = kernel.join(&rt).ok().expect(&rt, "an end");
     let due = ("shutdown_reply", 6, r#"{"restart":false,"status":"ok"}"#);
     let replied = expect_numbered(&rt, alloc, &client.control, (2, SHUTDOWN), due);
