@@ -10,7 +10,7 @@ use zmtp_connection::ConnectionFault;
 use zmtp_wire::Counted;
 
 /// The digits of what a DEALER sends that asks for the kernel's info: a greeting, READY and the request.
-const DIGITS: &str = concat!(
+pub(crate) const DIGITS: &str = concat!(
     "ff00000000000000017f03004e554c4c00000000000000000000000000000000000000000000000000000000000000000000",
     "000000000000000000000000000004290552454144590b536f636b65742d54797065000000064445414c4552084964656e74",
     "6974790000000001093c4944537c4d53473e0100012f7b226d73675f6964223a2261222c226d73675f74797065223a226b65",
@@ -114,7 +114,7 @@ fn lines_of(alloc: Global, source: Source, pieces: Pieces<'_>) -> Option<Vec<u8>
 }
 
 /// The lines that there are, if there are some.
-fn if_any(answered: Result<Vec<u8>, ReplayFault>) -> Option<Vec<u8>> {
+pub(crate) fn if_any(answered: Result<Vec<u8>, ReplayFault>) -> Option<Vec<u8>> {
     match answered {
         Ok(lines) => Some(lines),
         Err(fault) => {
