@@ -4,8 +4,8 @@
 //! those that begin with `#`, are printed as they are.
 //!
 //! A case is the name of a call and what it is given, each word behind a space. In words, and in the quotes of answers,
-//! `%` and two digits are an octet. A fault is told by its number, and want of memory that has none by `wanting`. The
-//! calls:
+//! `%` and two digits are an octet. A fault is told by its number, with the place of an event that
+//! isn't allowed behind it, and want of memory that has none by `wanting`. The calls:
 //!
 //! - `decode PIECE..`: what a decoder makes of each piece; `ready TYPE`: the READY of a socket; `write FRAME..`;
 //! - `open FRAME..`, `seal PREFIX HEADER PARENT METADATA CONTENT BUFFER`, both under the key `Jefe`, and
@@ -16,8 +16,9 @@
 //! - `core EVENT..`: of two publishers `0a` publishes `a`, `0` closes the first, and nothing takes; `queue`: one after
 //!   another all that publishers and a taker do;
 //! - `spared NAME` and what it is given: calls that need no memory;
-//! - `list EVENT..` and `pump EVENT..`: what a relay's subscribers get. `+1` comes, `-1` leaves, `?1topic` asks for a
-//!   topic, `!1topic` gives it up, `@1context` asks for a PONG, and `=first,second` is a message.
+//! - `list EVENT..` and `pump EVENT..`: what a relay's subscribers get. `+1` comes, `+120` with a
+//!   writer that takes twenty octets and then fails; `-1` leaves, `?1topic` asks for a topic,
+//!   `!1topic` gives it up, `@1context` asks for a PONG, and `=first,second` is a message.
 #![tactic(auto)]
 
 mod clock;

@@ -1,7 +1,7 @@
 //! Calls of the queue and of its core.
 
 use crate::marks::{begin, end, say, say_number};
-use iopub_queue::{CoreEvent, CoreState, Settled, Taken, open_queue, run_core};
+use iopub_queue::{CoreEvent, CoreFault, CoreState, Settled, Taken, open_queue, run_core};
 use std::alloc::{AllocError, Global};
 use std::sync::Wait;
 
@@ -31,9 +31,18 @@ pub(crate) fn core<R: Print + AllocGlobal>(rt: &R, words: &[Vec<u8>]) -> Result<
     end(rt);
     match &ran {
         Ok(state) => tell_state(rt, state),
-        Err(fault) => say_number(rt, fault.number()),
+        Err(fault) => tell_fault(rt, *fault),
     }
     Ok(())
+}
+
+/// Tells a fault by its number, and behind it the place of the event that isn't allowed, if there
+/// is one.
+fn tell_fault<R: Print + AllocGlobal>(rt: &R, fault: CoreFault) {
+    say_number(rt, fault.number());
+    if let CoreFault::NotAllowed(place) = fault {
+        let _ = print!(rt; " {place}");
+    }
 }
 
 /// Tells what was taken and what waits.

@@ -3,6 +3,7 @@
 use iopub_relay::Event;
 use listed::{Frames, Octets};
 use std::alloc::{AllocError, Global};
+use std::str;
 use zmtp_wire::{Outlet, WriteFailed};
 
 /// How many octets a writer has room for.
@@ -15,6 +16,8 @@ pub(crate) struct Shelf {
     octets: [u8; ROOM],
     /// How many octets that is.
     count: usize,
+    /// How many octets it takes; then its writes fail.
+    room: usize,
 }
 
 impl Shelf {
@@ -23,6 +26,20 @@ impl Shelf {
         Shelf {
             octets: [0; ROOM],
             count: 0,
+            room: ROOM,
+        }
+    }
+
+    /// A writer that takes as many octets as these digits say, or if there are none as it has room
+    /// for.
+    fn of_room(digits: &[u8]) -> Shelf {
+        let said = match str::from_utf8(digits) {
+            Ok(text) => text.parse::<usize>().ok(),
+            Err(_) => None,
+        };
+        Shelf {
+            room: said.unwrap_or(ROOM).min(ROOM),
+            ..Shelf::new()
         }
     }
 
@@ -38,7 +55,10 @@ impl Outlet for Shelf {
     ghost outflow = { λ shelf. record { written = None; failures = 18446744073709551615 } };
 
     fn write(&mut self, piece: &[u8]) -> Result<usize, WriteFailed> {
-        let taken = ROOM.saturating_sub(self.count).min(piece.len());
+        let taken = self.room.saturating_sub(self.count).min(piece.len());
+        if taken == 0 && !piece.is_empty() {
+            return Err(WriteFailed);
+        }
         for octet in &piece[..taken] {
             if let Some(place) = self.octets.get_mut(self.count) {
                 *place = *octet;
@@ -66,7 +86,7 @@ fn event_of(alloc: Global, word: &[u8]) -> Result<Event<Shelf>, AllocError> {
         _ => (b'-', 0, word),
     };
     Ok(match kind {
-        b'+' => Event::Attach(id, Shelf::new()),
+        b'+' => Event::Attach(id, Shelf::of_room(rest)),
         b'?' => Event::Subscribe(id, Octets::new(rest.to_vec(alloc)?)),
         b'!' => Event::Cancel(id, Octets::new(rest.to_vec(alloc)?)),
         b'@' => Event::Pong(id, Octets::new(rest.to_vec(alloc)?)),
