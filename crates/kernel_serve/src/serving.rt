@@ -283,10 +283,12 @@ where
         subscribers,
         no_room: _,
         relay,
+        subscriptions_in,
         work,
     } = run_kernel(rt, alloc, parts)?;
     drop(subscribers);
     drop(relay);
+    drop(subscriptions_in);
     drop(work);
     Ok(Served { complete, key })
 }

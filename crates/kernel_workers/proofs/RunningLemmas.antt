@@ -31,7 +31,8 @@ use Rattle.kernel_workers.specs.declared.kernel_end.KernelEnd.{KernelEnd}
 use Rattle.kernel_workers.specs.declared.kernel_end.KernelWork.{KernelWork}
 use Rattle.kernel_workers.specs.declared.kernel_end.WorkDone.{WorkDone}
 use Rattle.kernel_workers.specs.declared.shutdown.ShutdownEnd.{ShutdownEnd}
-use Rattle.kernel_workers.specs.Ending.{EndsBlocked, EndsSilent, IsBlockedBy, IsNoMessage, closed_list}
+use Rattle.kernel_workers.specs.Ending.{EndsBlocked, EndsSilent, IsBlockedBy, IsNoMessage, PassesOn, Subscribing}
+use Rattle.kernel_workers.specs.Ending.{closed_list}
 use Rattle.kernel_workers.specs.declared.ended.Cause.TheVariants.{Told, Shutdown, Asked, Worn}
 use Rattle.kernel_workers.specs.Causes.{restart_of, shutdown_word}
 use Rattle.kernel_workers.specs.Jobs.{AreAnswered, answered_in, messages_of_jobs}
@@ -211,11 +212,11 @@ fails_late capacity NoThread is late = is
 
 module _ {W : Type 0} where
   -- the token of subscriptions is that of all others
-  pub is_rest : (shell control subscriptions : Publishing (Event W)) (taker : Taking (Event W))
-      (tokens : Vec (Publishing (Event W))) → AreOfOne shell control subscriptions taker
-      → IsLastToken subscriptions tokens
+  pub is_rest : (shell control : Publishing (Event W)) (given : Subscribing W) (taker : Taking (Event W))
+      (tokens : Vec (Publishing (Event W))) (inbox : List (Option (Event W)))
+      → AreOfOne shell control given.sink taker → IsLastToken given tokens inbox
       → IsRest taker shell.number control.number tokens.items × (length tokens.items + 2 ≤ vec_capacity tokens)
-  is_rest shell control subscriptions taker tokens one last = (
+  is_rest shell control given taker tokens inbox one last = (
     subst (λ (list : List (Publishing (Event W))). IsRest taker shell.number control.number list) (sym last.alone)
         (record {
           queue = (last.ends.queue ∙ one.subscriptions_queue, tt);
@@ -238,7 +239,7 @@ did_same work (Ok ended) same = ap both_did same
 
 -- what workers left is as a kernel's end sees it
 pub leaving_is : {I S W R Cell : Type 0} (shell control : Ended I S W R Cell)
-    (of_shell of_control : Engine I (Publishing (Event W)) S W) (subscriptions : Publishing (Event W))
+    (of_shell of_control : Engine I (Publishing (Event W)) S W) (subscriptions : Subscribing W)
     (shell_did control_did : WorkDone) → of_shell ≡ shell.work.engine
     → of_control ≡ control.work.engine → did_of shell_did ≡ did_by shell.work → did_of control_did ≡ did_by control.work
     → leaving_by shell control subscriptions ≡ record {
@@ -256,10 +257,11 @@ module _ {I S W Cell : Type 0} (m : Meaning I Cell) (stamps : Stamping S) where
   -- how a kernel ends that was shut down in order
   in_order : {R : Type 0} (outflow : W → Outflow) (asking : Asking) (left : Leaving I S W) (relay : Relaying W)
       (end : ShutdownEnd W R) (restart : Bool) (ended : KernelEnd W R)
-      → AreOfOne left.shell.publishing.sink left.control.publishing.sink left.subscriptions relay.taker
-      → EndsInOrder m stamps left.shell left.control asking.request relay (IsLastToken left.subscriptions) end
+      → AreOfOne left.shell.publishing.sink left.control.publishing.sink left.subscriptions.sink relay.taker
+      → EndsInOrder m stamps left.shell left.control asking.request relay
+      (λ tokens. IsLastToken left.subscriptions tokens ended.subscriptions_in.value) end
       → TellsOf outflow end.relay end.complete restart ended
-      → EndsOver m stamps outflow left.shell left.control ended
+      → EndsOver m stamps outflow left.shell left.control left.subscriptions.inbox ended
   in_order outflow asking left relay end restart ended one ends tells =
       let taken = end.relay.taker.taken in
       let last = ends.given in
@@ -285,6 +287,10 @@ module _ {I S W Cell : Type 0} (m : Meaning I Cell) (stamps : Stamping S) where
             (sym tells.relay_is)
             (subst (λ (n : ℕ). IsBlockedBy m stamps left.control (part_of n taken)) one.control_is
             (ends.control_blocked says));
+        subscriptions_passed = subst (λ (r : Relaying W). PassesOn left.subscriptions.inbox
+            ended.subscriptions_in.value (part_of 2 r.taker.taken)) (sym tells.relay_is)
+            (subst (λ (list : List (Option (Event W))). PassesOn left.subscriptions.inbox
+            ended.subscriptions_in.value list) (sym silent) last.ends.passes);
         subscriptions_silent = subst (λ (r : Relaying W). All IsNoMessage (part_of 2 r.taker.taken))
             (sym tells.relay_is)
             (subst (λ (list : List (Option (Event W))). All IsNoMessage list) (sym silent) last.ends.silent);
@@ -292,38 +298,47 @@ module _ {I S W Cell : Type 0} (m : Meaning I Cell) (stamps : Stamping S) where
 
   -- it was shut down so if what is left can be told
   pub shuts_down : (R : Type 0) (outflow : W → Outflow) (asking : Asking) (left : Leaving I S W) (relay : Relaying W)
-      (end : ShutdownEnd W R) (ended : Result (KernelEnd W R) KernelFault)
-      → EndsInOrder m stamps left.shell left.control asking.request relay (IsLastToken left.subscriptions) end
+      (end : ShutdownEnd W R) (inbox : List (Option (Event W))) (ended : Result (KernelEnd W R) KernelFault)
+      → EndsInOrder m stamps left.shell left.control asking.request relay
+      (λ tokens. IsLastToken left.subscriptions tokens inbox) end
+      → IfOk ended (λ kernel. kernel.subscriptions_in.value ≡ inbox)
       → IfOk ended
       (TellsOf outflow end.relay end.complete (restart_by (shutdown_word end.fault end.restart) left.of_shell))
       → IfOk ended (λ kernel. AnswersLast asking.to end.reply end.fault left.did (both_did kernel.work))
       → IfOk ended (ShutsDown R m stamps outflow asking relay left)
-  shuts_down R outflow asking left relay end (Err fault) ends tells answers = tt
-  shuts_down R outflow asking left relay end (Ok ended) ends tells answers =
-      record { end = end; ends = ends; answers = answers; tells = tells }
+  shuts_down R outflow asking left relay end inbox (Err fault) ends same tells answers = tt
+  shuts_down R outflow asking left relay end inbox (Ok ended) ends same tells answers = record {
+    end = end;
+    ends = subst (λ (seen : List (Option (Event W))). EndsInOrder m stamps left.shell left.control asking.request
+        relay (λ tokens. IsLastToken left.subscriptions tokens seen) end) (sym same) ends;
+    answers = answers;
+    tells = tells;
+  }
 
   -- a kernel that was shut down ends well
   pub ends_shut_down : (R : Type 0) (outflow : W → Outflow) (asking : Asking) (left : Leaving I S W)
       (relay : Relaying W) (ended : Result (KernelEnd W R) KernelFault)
-      → AreOfOne left.shell.publishing.sink left.control.publishing.sink left.subscriptions relay.taker
+      → AreOfOne left.shell.publishing.sink left.control.publishing.sink left.subscriptions.sink relay.taker
       → IfOk ended (ShutsDown R m stamps outflow asking relay left)
-      → IfOk ended (EndsOver m stamps outflow left.shell left.control)
+      → IfOk ended (EndsOver m stamps outflow left.shell left.control left.subscriptions.inbox)
   ends_shut_down R outflow asking left relay (Err fault) one shuts = tt
   ends_shut_down R outflow asking left relay (Ok ended) one shuts =
       in_order outflow asking left relay shuts.end _ ended one shuts.ends shuts.tells
 
   -- how a kernel ends whose publishers closed one after the other
   pub closed_by : {R : Type 0} (outflow : W → Outflow) (shell control : Engine I (Publishing (Event W)) S W)
-      (subscriptions of_shell of_control of_subscriptions : Publishing (Event W)) (queue : TableId)
+      (given : Subscribing W) (of_shell of_control of_subscriptions : Publishing (Event W))
+      (inbox : List (Option (Event W))) (queue : TableId)
       (ended : Result (KernelEnd W R) KernelFault) → EndsBlocked m stamps shell of_shell
       → of_shell.published ≡ closed_list shell → EndsBlocked m stamps control of_control
-      → EndsSilent subscriptions of_subscriptions → queue ≡ shell.publishing.sink.queue
+      → EndsSilent given of_subscriptions inbox → queue ≡ shell.publishing.sink.queue
       → IfOk ended (TookEach outflow queue of_shell.published of_control.published of_subscriptions.published)
-      → IfOk ended (EndsOver m stamps outflow shell control)
-  closed_by outflow shell control subscriptions of_shell of_control of_subscriptions queue (Err fault) by_shell list
-      by_control silent same took = tt
-  closed_by outflow shell control subscriptions of_shell of_control of_subscriptions queue (Ok ended) by_shell list
-      by_control silent same took = record {
+      → IfOk ended (λ kernel. kernel.subscriptions_in.value ≡ inbox)
+      → IfOk ended (EndsOver m stamps outflow shell control given.inbox)
+  closed_by outflow shell control given of_shell of_control of_subscriptions inbox queue (Err fault) by_shell list
+      by_control silent same took seen = tt
+  closed_by outflow shell control given of_shell of_control of_subscriptions inbox queue (Ok ended) by_shell list
+      by_control silent same took seen = record {
         took = took.took;
         queue = took.queue_is ∙ same;
         shell_is = took.shell_is ∙ list;
@@ -331,6 +346,7 @@ module _ {I S W Cell : Type 0} (m : Meaning I Cell) (stamps : Stamping S) where
             (sym took.shell_is) by_shell.blocked;
         control_blocked = subst (λ (items : List (Option (Event W))). IsBlockedBy m stamps control items)
             (sym took.control_is) by_control.blocked;
+        subscriptions_passed = rw (seen) (rw (took.subscriptions_are) silent.passes);
         subscriptions_silent = subst (λ (items : List (Option (Event W))). All IsNoMessage items)
             (sym took.subscriptions_are) silent.silent;
       }
@@ -355,20 +371,22 @@ module _ {I S W Cell : Type 0} (m : Meaning I Cell) (stamps : Stamping S) where
       → IsSameEngine stamps setup.shell.engine shell.work.engine
       → IsSameEngine stamps setup.control.engine control.work.engine
       → leaving_by shell control setup.subscriptions ≡ left
-      → IfOk ended (EndsOver m stamps outflow left.shell left.control)
+      → IfOk ended (EndsOver m stamps outflow left.shell left.control left.subscriptions.inbox)
       → IfOk ended (EndsFor R m stamps outflow control.cause left)
       → IfOk ended (KernelEndsBy R m stamps outflow setup)
   ends_by R outflow setup shell control left (Err fault) shell_works control_works same_shell same_control is over ends
       = tt
   ends_by R outflow setup shell control left (Ok ended) shell_works control_works same_shell same_control is over ends =
-      let by_work : EndsOver m stamps outflow shell.work.engine control.work.engine ended = subst
-      (λ (l : Leaving I S W). EndsOver m stamps outflow l.shell l.control ended) (sym is) over in
+      let by_work : EndsOver m stamps outflow shell.work.engine control.work.engine setup.subscriptions.inbox ended =
+      subst (λ (l : Leaving I S W). EndsOver m stamps outflow l.shell l.control l.subscriptions.inbox ended) (sym is)
+      over in
       record {
         took = by_work.took;
         queue = by_work.queue ∙ same_shell.queue;
         shell_blocked = blocked_same m stamps setup.shell.engine shell.work.engine _ same_shell by_work.shell_blocked;
         control_blocked = blocked_same m stamps setup.control.engine control.work.engine _ same_control
             by_work.control_blocked;
+        subscriptions_passed = by_work.subscriptions_passed;
         subscriptions_silent = by_work.subscriptions_silent;
         shell = shell;
         control = control;
@@ -459,15 +477,21 @@ module _ {I S W Cell : Type 0} (m : Meaning I Cell) (stamps : Stamping S) where
         took = ends.took;
         shell_blocked = blocked_by setup.shell.engine _ _ shell_is ends.shell_blocked;
         control_blocked = blocked_by setup.control.engine _ _ control_is ends.control_blocked;
+        subscriptions_passed = subst (λ (inbox : List (Option (Event W))). PassesOn inbox
+            ended.subscriptions_in.value (part_of 2 (taken_of ended))) set.subscriptions_in ends.subscriptions_passed;
         subscriptions_silent = ends.subscriptions_silent;
         shell = ends.shell;
         control = ends.control;
         shell_works = shell_works;
         control_works = control_works;
         shell_is = ends.shell_is;
-        ends = subst (λ (p : Publishing (Event W)). EndsFor R m stamps outflow ends.control.cause
-            (leaving_by ends.shell ends.control p) ended)
-            (set.opened.subscriptions_are ∙ ap (λ (q : TableId). publisher_at_first q 2) (sym queue)) ends.ends;
+        ends = subst (λ (inbox : List (Option (Event W))). EndsFor R m stamps outflow ends.control.cause
+            (leaving_by ends.shell ends.control
+            (record { sink = publisher_at_first ended.relay.value.taker.queue 2; inbox = inbox })) ended)
+            set.subscriptions_in
+            (subst (λ (p : Publishing (Event W)). EndsFor R m stamps outflow ends.control.cause
+            (leaving_by ends.shell ends.control (record { sink = p; inbox = setup.subscriptions.inbox })) ended)
+            (set.opened.subscriptions_are ∙ ap (λ (q : TableId). publisher_at_first q 2) (sym queue)) ends.ends);
         shell_answered = subst (λ (d : Did). AreAnswered parts.shell_in.from d.jobs d.outcomes.answers)
             (sym (shell_did R outflow ends.control.cause _ ended ends.ends))
             (shell_answered m stamps _ _ ends.shell shell_works);

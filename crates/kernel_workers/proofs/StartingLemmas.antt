@@ -12,7 +12,9 @@ use Rattle.kernel_workers.specs.declared.promises.ClosesSilent.{ClosesSilent}
 use Rattle.kernel_workers.specs.declared.promises.LeavesWork.{LeavesWork}
 use Rattle.kernel_workers.specs.declared.shell.ShellWorker.{ShellWorker}
 use Rattle.kernel_workers.specs.declared.subscriptions.SubscriptionsWorker.{SubscriptionsWorker}
-use Rattle.kernel_workers.specs.Starting.{Given, IsSetUp, Promises, Setup, given_to, promised_by}
+use Rattle.kernel_workers.specs.Ending.{Subscribing}
+use Rattle.kernel_workers.specs.Starting.{Given, IsSetUp, Promises, Setup, given_to, promised_by, subscribing}
+use Rattle.kernel_workers.specs.Starting.{subscribing_by}
 
 module _ {I S W : Type 0} where
   -- what workers were given is the same if each part is
@@ -29,7 +31,7 @@ module _ {I S W : Type 0} where
   setup_is one other shell control subscriptions =
       ap (λ (g : Given I S W). record { shell = g; control = one.control; subscriptions = one.subscriptions }) shell
       ∙ ap (λ (g : Given I S W). record { shell = other.shell; control = g; subscriptions = one.subscriptions }) control
-      ∙ ap (λ (p : Publishing (Event W)). record { shell = other.shell; control = other.control; subscriptions = p })
+      ∙ ap (λ (s : Subscribing W). record { shell = other.shell; control = other.control; subscriptions = s })
       subscriptions
 
   -- workers were set up as their promises say
@@ -38,7 +40,7 @@ module _ {I S W : Type 0} where
       (by_subscriptions : ClosesSilent W R) (taker new_taker : Taking (Event W))
       → IsSetUp parts (given_to shell control subscriptions) taker
       → Promises Shell shell.engine shell.inbox by_shell → Promises Control control.engine control.inbox by_control
-      → by_subscriptions.sink.value ≡ subscriptions.sink → new_taker ≡ taker
+      → subscribing_by by_subscriptions ≡ subscribing subscriptions → new_taker ≡ taker
       → IsSetUp parts (promised_by by_shell by_control by_subscriptions) new_taker
   set_on parts shell control subscriptions by_shell by_control by_subscriptions taker new_taker set one two three four =
       subst (λ (t : Taking (Event W)). IsSetUp parts (promised_by by_shell by_control by_subscriptions) t) (sym four)

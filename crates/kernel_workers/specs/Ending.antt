@@ -1,5 +1,5 @@
 -- What the publishers of a kernel leave: their closing tokens, and what is published by these.
-use Rattle.std.specs.Prelude.{◌≡◌, ⊤, ℕ, List, [], ◌∷◌, ◌++◌, All, Bool, Option, Some, None}
+use Rattle.std.specs.Prelude.{◌≡◌, ⊤, ℕ, List, [], ◌∷◌, ◌++◌, All, filter, Bool, true, false, Option, Some, None}
 use Rattle.interp_core.specs.Interpreter.{Meaning}
 use Rattle.iopub_event.specs.declared.event.Event.{Event}
 use Rattle.iopub_event.specs.declared.event.Event.TheVariants as events
@@ -53,9 +53,33 @@ IsNoMessage (Some (events.Cancel id topic)) = ⊤
 IsNoMessage (Some (events.Pong id context)) = ⊤
 IsNoMessage (Some (events.Detach id)) = ⊤
 
--- The worker of subscriptions left the closing token of its publisher. Its list has no message and ends with the close.
-pub record EndsSilent {W : Type 0} (publisher closed : Publishing (Event W)) : Type 0 where
-  pub queue : closed.queue ≡ publisher.queue
-  pub number : closed.number ≡ publisher.number
+-- whether the worker of subscriptions passes on what came out of its inbox: each event but a message, and the end
+abbrev pub is_passed_on : {W : Type 0} → Option (Event W) → Bool
+is_passed_on None = true
+is_passed_on (Some (events.Message frames)) = false
+is_passed_on (Some (events.Attach id writer)) = true
+is_passed_on (Some (events.Subscribe id topic)) = true
+is_passed_on (Some (events.Cancel id topic)) = true
+is_passed_on (Some (events.Pong id context)) = true
+is_passed_on (Some (events.Detach id)) = true
+
+-- What came out of an inbox after `before` was passed on, and nothing else: each event but the messages, in order, and
+-- the end as the close.
+abbrev pub PassesOn : {W : Type 0} → List (Option (Event W)) → List (Option (Event W)) → List (Option (Event W))
+    → Type 0
+PassesOn before inbox items = filter is_passed_on inbox ≡ filter is_passed_on before ++ items
+
+-- What the worker of subscriptions is given: its publisher, and its inbox, which tells what came out of it before.
+pub record Subscribing (W : Type 0) : Type 0 where
+  pub sink : Publishing (Event W)
+  pub inbox : List (Option (Event W))
+
+-- The worker of subscriptions left the closing token of its publisher, and its inbox. The token's list is what was
+-- passed on of what came out of the inbox. It has no message and ends with the close.
+pub record EndsSilent {W : Type 0} (given : Subscribing W) (closed : Publishing (Event W))
+    (inbox : List (Option (Event W))) : Type 0 where
+  pub queue : closed.queue ≡ given.sink.queue
+  pub number : closed.number ≡ given.sink.number
+  pub passes : PassesOn given.inbox inbox closed.published
   pub silent : All IsNoMessage closed.published
   pub close_last : EndsWithClose closed.published

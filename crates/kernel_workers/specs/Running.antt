@@ -33,12 +33,12 @@ use Rattle.kernel_workers.specs.declared.kernel_end.WorkDone.{WorkDone}
 use Rattle.kernel_workers.specs.declared.shutdown.ShutdownEnd.{ShutdownEnd}
 use Rattle.kernel_workers.specs.declared.work.Work.{Work}
 use Rattle.kernel_workers.specs.Causes.{restart_of, shutdown_word}
-use Rattle.kernel_workers.specs.Ending.{EndsSilent, IsBlockedAndClosed, IsBlockedBy, IsNoMessage, closed_list}
-use Rattle.kernel_workers.specs.Ending.{sealing_by}
+use Rattle.kernel_workers.specs.Ending.{EndsSilent, IsBlockedAndClosed, IsBlockedBy, IsNoMessage, PassesOn, Subscribing}
+use Rattle.kernel_workers.specs.Ending.{closed_list, sealing_by}
 use Rattle.kernel_workers.specs.Jobs.{AreAnswered}
 use Rattle.kernel_workers.specs.Outcomes.{Records, replied_by}
 use Rattle.kernel_workers.specs.Shutdown.{EndsInOrder}
-use Rattle.kernel_workers.specs.Starting.{Setup, beginning, publisher_at_first}
+use Rattle.kernel_workers.specs.Starting.{Setup, beginning, publisher_at_first, subscribing_by}
 use Rattle.kernel_workers.specs.Works.{WorksOff}
 
 -- The number of a kernel's fault. A fault of its queue has the number that the queue gives it: 60 to 62. 65: a thread
@@ -99,24 +99,27 @@ pub record TellsOf {W R : Type 0} (outflow : W → Outflow) (relay : Relaying W)
   pub restart_is : ended.restart ≡ restart
   pub left : RelayIsLeft outflow relay.taker.taken ended.no_room ended.subscribers.items
 
--- There is one token: the one that the worker of this publisher of subscriptions left. There is room for two more.
-pub record IsLastToken {W : Type 0} (publisher : Publishing (Event W))
-    (tokens : Vec (Publishing (Event W))) : Type 0 where
+-- There is one token: the one that the worker of subscriptions left, which was given this, beside this inbox. There is
+-- room for two more.
+pub record IsLastToken {W : Type 0} (given : Subscribing W) (tokens : Vec (Publishing (Event W)))
+    (inbox : List (Option (Event W))) : Type 0 where
   pub closed : Publishing (Event W)
   pub alone : tokens.items ≡ closed ∷ []
-  pub ends : EndsSilent publisher closed
+  pub ends : EndsSilent given closed inbox
   pub room : 3 ≤ vec_capacity tokens
 
--- How a kernel ends that has these engines of shell and control. All that was published was taken. What was taken of
--- each of the two is well blocked, and of shell it is all that its engine published. Of subscriptions no message was
--- taken.
+-- How a kernel ends that has these engines of shell and control, and this inbox of subscriptions. All that was
+-- published was taken. What was taken of each of the two is well blocked, and of shell it is all that its engine
+-- published. Of subscriptions it is what was passed on of that inbox, and no message.
 pub record EndsOver {I S W R Cell : Type 0} (m : Meaning I Cell) (stamps : Stamping S) (outflow : W → Outflow)
-    (shell control : Engine I (Publishing (Event W)) S W) (ended : KernelEnd W R) : Type 0 where
+    (shell control : Engine I (Publishing (Event W)) S W) (inbox : List (Option (Event W)))
+    (ended : KernelEnd W R) : Type 0 where
   pub took : TookAll outflow ended
   pub queue : ended.relay.value.taker.queue ≡ shell.publishing.sink.queue
   pub shell_is : part_of 0 (taken_of ended) ≡ closed_list shell
   pub shell_blocked : IsBlockedBy m stamps shell (part_of 0 (taken_of ended))
   pub control_blocked : IsBlockedBy m stamps control (part_of 1 (taken_of ended))
+  pub subscriptions_passed : PassesOn inbox ended.subscriptions_in.value (part_of 2 (taken_of ended))
   pub subscriptions_silent : All IsNoMessage (part_of 2 (taken_of ended))
 
 -- what a worker did: what came out of its inbox, and what became of that
@@ -142,12 +145,12 @@ did_by work = record { jobs = work.inbox; outcomes = work.outcomes }
 abbrev pub both_did : KernelWork → BothDid
 both_did work = record { started = work.started; shell = did_of work.shell; control = did_of work.control }
 
--- What is left of a kernel after the workers of shell and of control have ended. That is their engines, the publisher
--- of subscriptions as it was given, what the two did, and whether shell was asked for a shutdown.
+-- What is left of a kernel after the workers of shell and of control have ended. That is their engines, what the worker
+-- of subscriptions was given, what the two did, and whether shell was asked for a shutdown.
 pub record Leaving (I S W : Type 0) : Type 0 where
   pub shell : Engine I (Publishing (Event W)) S W
   pub control : Engine I (Publishing (Event W)) S W
-  pub subscriptions : Publishing (Event W)
+  pub subscriptions : Subscribing W
   pub did : BothDid
   pub of_shell : Option Bool
 
@@ -156,7 +159,7 @@ abbrev pub leaving : {I S W R Cell : Type 0} → Left I S W R Cell → KernelWor
 leaving left work of_shell = record {
   shell = left.shell;
   control = left.control;
-  subscriptions = left.subscriptions.promise.sink.value;
+  subscriptions = subscribing_by left.subscriptions.promise;
   did = both_did work;
   of_shell = of_shell;
 }
@@ -186,7 +189,8 @@ pub record ShutsDown {I S W Cell : Type 0} (R : Type 0) (m : Meaning I Cell) (st
     (outflow : W → Outflow) (asking : Asking) (relay : Relaying W) (left : Leaving I S W)
     (ended : KernelEnd W R) : Type 0 where
   pub end : ShutdownEnd W R
-  pub ends : EndsInOrder m stamps left.shell left.control asking.request relay (IsLastToken left.subscriptions) end
+  pub ends : EndsInOrder m stamps left.shell left.control asking.request relay
+      (λ tokens. IsLastToken left.subscriptions tokens ended.subscriptions_in.value) end
   pub answers : AnswersLast asking.to end.reply end.fault left.did (both_did ended.work)
   pub tells : TellsOf outflow end.relay end.complete
       (restart_by (shutdown_word end.fault end.restart) left.of_shell) ended
@@ -201,7 +205,7 @@ EndsFor {W = W} R m stamps outflow (Asked asking) left ended =
 EndsFor R m stamps outflow Worn left ended = EndsAtOnce left ended
 
 -- what is left of a kernel, if its workers of shell and control left this
-abbrev pub leaving_by : {I S W R Cell : Type 0} → Ended I S W R Cell → Ended I S W R Cell → Publishing (Event W)
+abbrev pub leaving_by : {I S W R Cell : Type 0} → Ended I S W R Cell → Ended I S W R Cell → Subscribing W
     → Leaving I S W
 leaving_by shell control subscriptions = record {
   shell = shell.work.engine;
@@ -219,6 +223,8 @@ pub record KernelEndsBy {I S W Cell : Type 0} (R : Type 0) (m : Meaning I Cell) 
   pub queue : ended.relay.value.taker.queue ≡ setup.shell.engine.publishing.sink.queue
   pub shell_blocked : IsBlockedBy m stamps setup.shell.engine (part_of 0 (taken_of ended))
   pub control_blocked : IsBlockedBy m stamps setup.control.engine (part_of 1 (taken_of ended))
+  pub subscriptions_passed : PassesOn setup.subscriptions.inbox ended.subscriptions_in.value
+      (part_of 2 (taken_of ended))
   pub subscriptions_silent : All IsNoMessage (part_of 2 (taken_of ended))
   pub shell : Ended I S W R Cell
   pub control : Ended I S W R Cell
@@ -229,9 +235,9 @@ pub record KernelEndsBy {I S W Cell : Type 0} (R : Type 0) (m : Meaning I Cell) 
 
 -- How a kernel ends. All that was published was taken, by the relay that it hands back. What was taken of shell, and of
 -- control, is well blocked: each request's messages stand between its busy and its idle. They are signed with the
--- kernel's key, under ids and dates of the channel's stamp. Of subscriptions no message was taken. Each subscriber that
--- is left got the texts of the messages of its life that match its topics, and the PONGs that it asked for. If it has
--- failed, it got that up to an event.
+-- kernel's key, under ids and dates of the channel's stamp. What was taken of subscriptions is what came out of its
+-- inbox, without the messages. Each subscriber that is left got the texts of the messages of its life that match its
+-- topics, and the PONGs that it asked for. If it has failed, it got that up to an event.
 --
 -- The blocks are those of the jobs that came out of the channel's own inbox, in their order, by the channel's own
 -- interpreter, stamp and key. The kernel's end tells which jobs these were, and what became of each. Each has one
@@ -244,6 +250,8 @@ pub record EndsWell {I S W Cell : Type 0} (R : Type 0) (m : Meaning I Cell) (sta
       (sealing_by stamps parts.key.items parts.shell.1) (part_of 0 (taken_of ended))
   pub control_blocked : IsBlockedAndClosed m (stamps.is_date (stamps.meaning parts.control.1)) Control
       (sealing_by stamps parts.key.items parts.control.1) (part_of 1 (taken_of ended))
+  pub subscriptions_passed : PassesOn parts.subscriptions_in.from ended.subscriptions_in.value
+      (part_of 2 (taken_of ended))
   pub subscriptions_silent : All IsNoMessage (part_of 2 (taken_of ended))
   pub shell : Ended I S W R Cell
   pub control : Ended I S W R Cell
@@ -255,7 +263,8 @@ pub record EndsWell {I S W Cell : Type 0} (R : Type 0) (m : Meaning I Cell) (sta
       parts.control_in.from control
   pub shell_is : part_of 0 (taken_of ended) ≡ closed_list shell.work.engine
   pub ends : EndsFor R m stamps outflow control.cause
-      (leaving_by shell control (publisher_at_first ended.relay.value.taker.queue 2)) ended
+      (leaving_by shell control
+      (record { sink = publisher_at_first ended.relay.value.taker.queue 2; inbox = parts.subscriptions_in.from })) ended
   pub shell_answered : AreAnswered parts.shell_in.from ended.work.shell.inbox.value ended.work.shell.outcomes.answers
   pub control_answered : AreAnswered parts.control_in.from ended.work.control.inbox.value
       ended.work.control.outcomes.answers

@@ -14,6 +14,7 @@ use Rattle.kernel_workers.specs.declared.promises.ClosesSilent.{ClosesSilent}
 use Rattle.kernel_workers.specs.declared.promises.LeavesWork.{LeavesWork}
 use Rattle.kernel_workers.specs.declared.shell.ShellWorker.{ShellWorker}
 use Rattle.kernel_workers.specs.declared.subscriptions.SubscriptionsWorker.{SubscriptionsWorker}
+use Rattle.kernel_workers.specs.Ending.{Subscribing}
 
 -- a publisher of a queue that was just opened
 abbrev pub publisher_at_first : {T : Type 0} → TableId → ℕ → Publishing T
@@ -57,7 +58,7 @@ pub record Given (I S W : Type 0) : Type 0 where
 pub record Setup (I S W : Type 0) : Type 0 where
   pub shell : Given I S W
   pub control : Given I S W
-  pub subscriptions : Publishing (Event W)
+  pub subscriptions : Subscribing W
 
 -- what a worker of a channel promises speaks of the channel, the engine and the inbox that it was given
 pub record Promises {I S W R Cell : Type 0} (side : Side) (engine : Engine I (Publishing (Event W)) S W)
@@ -66,13 +67,22 @@ pub record Promises {I S W R Cell : Type 0} (side : Side) (engine : Engine I (Pu
   pub engine_is : promise.engine.value ≡ engine
   pub inbox_is : promise.inbox.value ≡ inbox
 
+module _ {W R : Type 0} where
+  -- what the worker of subscriptions is given
+  abbrev pub subscribing : SubscriptionsWorker W R → Subscribing W
+  subscribing worker = record { sink = worker.sink; inbox = worker.inbox }
+
+  -- what that worker was given, by its promise
+  abbrev pub subscribing_by : ClosesSilent W R → Subscribing W
+  subscribing_by promise = record { sink = promise.sink.value; inbox = promise.inbox.value }
+
 module _ {I S W R Cell : Type 0} where
   -- what workers are given
   abbrev pub given_to : ShellWorker I S W R Cell → ControlWorker I S W R Cell → SubscriptionsWorker W R → Setup I S W
   given_to shell control subscriptions = record {
     shell = record { side = Shell; engine = shell.engine; inbox = shell.inbox };
     control = record { side = Control; engine = control.engine; inbox = control.inbox };
-    subscriptions = subscriptions.sink;
+    subscriptions = subscribing subscriptions;
   }
 
   -- what workers were given, by their promises
@@ -80,15 +90,16 @@ module _ {I S W R Cell : Type 0} where
   promised_by shell control subscriptions = record {
     shell = record { side = shell.side; engine = shell.engine.value; inbox = shell.inbox.value };
     control = record { side = control.side; engine = control.engine.value; inbox = control.inbox.value };
-    subscriptions = subscriptions.sink.value;
+    subscriptions = subscribing_by subscriptions;
   }
 
 -- A kernel's workers are set up of its parts. The publishers and the taker are of one queue that was just opened. Each
--- channel's engine has that channel's interpreter and stamp, and the kernel's key. Its worker has that channel's inbox.
+-- channel's engine has that channel's interpreter and stamp, and the kernel's key. Its worker has that channel's inbox,
+-- and so has that of subscriptions.
 pub record IsSetUp {I S W : Type 0} (parts : Parts I S W) (setup : Setup I S W) (taker : Taking (Event W))
     : Type 0 where
-  pub opened : IsOpened setup.shell.engine.publishing.sink setup.control.engine.publishing.sink setup.subscriptions
-      taker
+  pub opened : IsOpened setup.shell.engine.publishing.sink setup.control.engine.publishing.sink
+      setup.subscriptions.sink taker
   pub shell_side : setup.shell.side ≡ Shell
   pub control_side : setup.control.side ≡ Control
   pub shell_is : setup.shell.engine
@@ -97,3 +108,4 @@ pub record IsSetUp {I S W : Type 0} (parts : Parts I S W) (setup : Setup I S W) 
       ≡ beginning Control parts.control parts.key.items setup.control.engine.publishing.sink
   pub shell_in : setup.shell.inbox ≡ parts.shell_in.from
   pub control_in : setup.control.inbox ≡ parts.control_in.from
+  pub subscriptions_in : setup.subscriptions.inbox ≡ parts.subscriptions_in.from

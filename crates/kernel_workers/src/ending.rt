@@ -8,7 +8,7 @@ ghost use Rattle.kernel_workers.specs.Running.{AnswersLast, EndsAtOnce, EndsFor,
 ghost use Rattle.kernel_workers.specs.Running.{ShutsDown, TellsOf, TookEach, both_did, last_outcome, leaving};
 ghost use Rattle.kernel_workers.specs.Running.{restart_by};
 ghost use Rattle.kernel_workers.specs.Shutdown.{EndsInOrder, GivesRest, IsOneQueue};
-ghost use Rattle.kernel_workers.specs.Starting.{AreOfOne};
+ghost use Rattle.kernel_workers.specs.Starting.{AreOfOne, subscribing_by};
 
 use crate::ended::{Asking, Cause};
 use crate::fault::KernelFault;
@@ -18,6 +18,7 @@ use crate::promises::{ClosesSilent, ServesOn};
 use crate::relaying::RelayEnd;
 use crate::request::close;
 use crate::shutdown::{Shutdown, ShutdownEnd, shutdown_order};
+use crate::subscriptions::SubscriptionsEnd;
 use crate::waking::Waking;
 use crossbeam_channel::Sender;
 use interp_core::Interpreter;
@@ -26,7 +27,7 @@ use iopub_queue::{Closed, OpenFault};
 use iopub_relay::{Pumped, Relay};
 use jmsg_envelope::{Envelope, Stamp};
 use kernel_engine::{Engine, EngineFault};
-use kernel_jobs::{Note, ReplyTo, is_gone, tell};
+use kernel_jobs::{Arrivals, Note, ReplyTo, is_gone, tell};
 use listed::Frames;
 use std::alloc::Global;
 use std::snapshot::Snapshot;
@@ -42,7 +43,7 @@ pub(crate) struct Left<I: Interpreter, S: Stamp, W, R: Wait> {
     /// What handled the requests of control.
     pub(crate) control: Engine<I, Waking<Event<W>, R>, S, W>,
     /// The thread of the worker of subscriptions.
-    pub(crate) subscriptions: PromisedHandle<Closed<Event<W>>, ClosesSilent<W, R>>,
+    pub(crate) subscriptions: PromisedHandle<SubscriptionsEnd<W>, ClosesSilent<W, R>>,
     /// The inbox of that worker.
     pub(crate) to_subscriptions: Sender<Note<Event<W>>>,
     /// Room for three tokens.
@@ -92,7 +93,8 @@ where
         left.subscriptions.promise.sink.value serving.relay.promise.relay.value.taker }
     requires none { left.tokens.items ≡ [] }
     requires room { 3 ≤ vec_capacity left.tokens }
-    ensures ends { IfOk result (EndsOver I.meaning S.stamp W.outflow left.shell left.control) }
+    ensures ends { IfOk result (EndsOver I.meaning S.stamp W.outflow left.shell left.control
+        left.subscriptions.promise.inbox.value) }
     ensures once { IfOk result (EndsAtOnce (leaving left work (restart_of of_shell))) }
     ensures refused { IfErr result IsFaultAtEnd }
 {
@@ -107,22 +109,24 @@ where
     } = left;
     let shell = close(shell);
     let control = close(control);
+    let (subscriptions, inbox) = end_subscriptions(rt, subscriptions, &to_subscriptions);
+    drop(to_subscriptions);
     let closes = Closes {
         shell,
         control,
-        subscriptions: end_subscriptions(rt, subscriptions, &to_subscriptions),
+        subscriptions,
     };
-    drop(to_subscriptions);
-    settle(rt, serving.end(rt), closes, tokens, restart, work)
+    let relay = serving.end(rt);
+    settle(rt, relay, closes, tokens, inbox, restart, work)
 }
 
 /// Tells the worker of subscriptions to end, and joins it.
 fn end_subscriptions<W: Drop, R: Threads + Wait>(
     rt: &R,
-    subscriptions: PromisedHandle<Closed<Event<W>>, ClosesSilent<W, R>>,
+    subscriptions: PromisedHandle<SubscriptionsEnd<W>, ClosesSilent<W, R>>,
     to_subscriptions: &Sender<Note<Event<W>>>,
-) -> Closed<Event<W>>
-    ensures { EndsSilent subscriptions.promise.sink.value result }
+) -> SubscriptionsEnd<W>
+    ensures { EndsSilent (subscribing_by subscriptions.promise) result.0 result.1.value }
 {
     tell(rt, to_subscriptions, Note::End);
     subscriptions.join(rt)
@@ -149,6 +153,7 @@ fn settle<W: Outlet + Drop, R: Wait + Drop>(
     mut relay: Relay<W, R>,
     closes: Closes<W>,
     mut tokens: Vec<Closed<Event<W>>>,
+    subscriptions_in: Snapshot<Arrivals<Event<W>>>,
     restart: bool,
     work: KernelWork,
 ) -> Result<KernelEnd<W, R>, KernelFault>
@@ -159,6 +164,7 @@ fn settle<W: Outlet + Drop, R: Wait + Drop>(
     requires room { 3 ≤ vec_capacity tokens }
     ensures took { IfOk result (TookEach W.outflow relay.taker.queue closes.shell.published closes.control.published
         closes.subscriptions.published) }
+    ensures inbox { IfOk result (λ ended. ended.subscriptions_in.value ≡ subscriptions_in.value) }
     ensures restart { IfOk result (λ ended. ended.restart ≡ restart) }
     ensures work { IfOk result (λ ended. ended.work ≡ work) }
     ensures refused { IfErr result IsFaultAtEnd }
@@ -172,7 +178,7 @@ fn settle<W: Outlet + Drop, R: Wait + Drop>(
     tokens.push_reserved(control);
     tokens.push_reserved(subscriptions);
     let complete = relay.conclude(rt, tokens);
-    left_of(relay, complete, restart, work)
+    left_of(relay, complete, subscriptions_in, restart, work)
 }
 
 /// What is left of a relay.
@@ -183,10 +189,12 @@ fn settle<W: Outlet + Drop, R: Wait + Drop>(
 fn left_of<W: Outlet + Drop, R: Drop>(
     relay: Relay<W, R>,
     complete: bool,
+    subscriptions_in: Snapshot<Arrivals<Event<W>>>,
     restart: bool,
     work: KernelWork,
 ) -> Result<KernelEnd<W, R>, KernelFault>
     ensures left { IfOk result (TellsOf W.outflow relay complete restart) }
+    ensures inbox { IfOk result (λ ended. ended.subscriptions_in.value ≡ subscriptions_in.value) }
     ensures work { IfOk result (λ ended. ended.work ≡ work) }
     ensures refused { IfErr result IsFaultAtEnd }
 {
@@ -199,10 +207,12 @@ fn left_of<W: Outlet + Drop, R: Drop>(
             subscribers,
             no_room,
             relay: seen,
+            subscriptions_in,
             work,
         }),
         Err(relay) => {
             drop(relay);
+            drop(subscriptions_in);
             drop(work);
             Err(KernelFault::Queue(OpenFault::OutOfMemory))
         }
@@ -247,7 +257,8 @@ where
         left.subscriptions.promise.sink.value serving.relay.promise.relay.value.taker }
     requires none { left.tokens.items ≡ [] }
     requires room { 3 ≤ vec_capacity left.tokens }
-    ensures ends { IfOk result (EndsOver I.meaning S.stamp W.outflow left.shell left.control) }
+    ensures ends { IfOk result (EndsOver I.meaning S.stamp W.outflow left.shell left.control
+        left.subscriptions.promise.inbox.value) }
     ensures cause { IfOk result
         (EndsFor R I.meaning S.stamp W.outflow of_control (leaving left work (restart_of of_shell))) }
     ensures refused { IfErr result IsFaultAtEnd }
@@ -296,7 +307,9 @@ where
 {
     let Asking { request, to } = asking;
     match end_in_order(rt, alloc, left, relay, request) {
-        Some(end) => conclude(&rt, end, to, of_shell, work),
+        Some((end, subscriptions_in)) => {
+            conclude(&rt, end, subscriptions_in, to, of_shell, work)
+        }
         None => {
             drop(to);
             drop(of_shell);
@@ -314,12 +327,14 @@ where
 fn conclude<W: Outlet + Drop, R: Wait + Drop>(
     rt: &R,
     end: ShutdownEnd<W, R>,
+    subscriptions_in: Snapshot<Arrivals<Event<W>>>,
     to: ReplyTo,
     of_shell: Cause,
     mut work: KernelWork,
 ) -> Result<KernelEnd<W, R>, KernelFault>
     ensures left { IfOk result (TellsOf W.outflow end.relay end.complete
         (restart_by (shutdown_word end.fault end.restart) (restart_of of_shell))) }
+    ensures inbox { IfOk result (λ ended. ended.subscriptions_in.value ≡ subscriptions_in.value) }
     ensures answers { IfOk result (λ ended. AnswersLast to end.reply end.fault (both_did work) (both_did ended.work)) }
     ensures refused { IfErr result IsFaultAtEnd }
 {
@@ -334,7 +349,7 @@ fn conclude<W: Outlet + Drop, R: Wait + Drop>(
     work.control.outcomes.record(rt, to, outcome);
     let restart = restarts(shutdown_word(fault, restart), of_shell.restart());
     drop(of_shell);
-    left_of(relay, complete, restart, work)
+    left_of(relay, complete, subscriptions_in, restart, work)
 }
 
 /// What became of the request for a shutdown, by its reply, and by why it was refused, if it was.
@@ -363,15 +378,15 @@ fn shutdown_word(fault: Option<EngineFault>, restart: bool) -> Option<bool>
     }
 }
 
-/// Shuts a kernel down in order. None if that can't be begun: then shell and control are dropped as they are, and
-/// subscriptions is ended.
+/// Shuts a kernel down in order; tells the inbox of subscriptions, too, as it was then. None if that can't be begun:
+/// then shell and control are dropped as they are, and subscriptions is ended.
 fn end_in_order<I, S, W, R>(
     rt: R,
     alloc: Global,
     left: Left<I, S, W, R>,
     relay: Relay<W, R>,
     request: Envelope,
-) -> Option<ShutdownEnd<W, R>>
+) -> Option<(ShutdownEnd<W, R>, Snapshot<Arrivals<Event<W>>>)>
 where
     I: Interpreter + Drop,
     I::Cell: Drop,
@@ -382,8 +397,8 @@ where
         left.subscriptions.promise.sink.value relay.taker }
     requires none { left.tokens.items ≡ [] }
     requires room { 3 ≤ vec_capacity left.tokens }
-    ensures { IfSome result (EndsInOrder I.meaning S.stamp left.shell left.control request relay
-        (IsLastToken left.subscriptions.promise.sink.value)) }
+    ensures { IfSome result (λ end. EndsInOrder I.meaning S.stamp left.shell left.control request relay
+        (λ tokens. IsLastToken (subscribing_by left.subscriptions.promise) tokens end.1.value) end.0) }
 {
     let Left {
         shell,
@@ -393,7 +408,7 @@ where
         tokens,
     } = left;
     let to = &to_subscriptions;
-    let rest = move || -> Vec<Closed<Event<W>>>
+    let rest = move || -> (Vec<Closed<Event<W>>>, Snapshot<Arrivals<Event<W>>>)
         requires none { tokens.items ≡ [] }
         requires room { 3 ≤ vec_capacity tokens }
     { last_token(&rt, subscriptions, to, tokens) };
@@ -418,64 +433,68 @@ where
 
 /// Shuts down in order. None if that can't be begun: then `rest` is asked while the relay serves what subscriptions
 /// publishes, and all else is dropped as it is.
-fn shut<I, S, W, R, F>(
+fn shut<I, S, W, R, F, T>(
     rt: R,
     alloc: Global,
     shutdown: Shutdown<I, S, W, R, F>,
     to_subscriptions: &Sender<Note<Event<W>>>,
-) -> Option<ShutdownEnd<W, R>>
+) -> Option<(ShutdownEnd<W, R>, T)>
 where
     I: Interpreter + Drop,
     I::Cell: Drop,
     S: Stamp + Drop,
     W: Outlet + Drop + Send + 'static,
     R: Threads + Wait + Copy + Send + Sync + Drop + 'static,
-    F: FnOnce() -> Vec<Closed<Event<W>>>,
+    F: FnOnce() -> (Vec<Closed<Event<W>>>, T),
+    T: Drop,
     requires queue { IsOneQueue shutdown.shell shutdown.control shutdown.relay }
     requires runs { F.pre shutdown.rest }
-    requires rest { GivesRest shutdown.shell shutdown.control shutdown.relay (F.post shutdown.rest) }
-    ensures { IfSome result (EndsInOrder I.meaning S.stamp shutdown.shell shutdown.control shutdown.request
-        shutdown.relay (F.post shutdown.rest)) }
+    requires rest { GivesRest shutdown.shell shutdown.control shutdown.relay
+        (λ tokens. (told : T) × F.post shutdown.rest (tokens, told)) }
+    ensures { IfSome result (λ end. EndsInOrder I.meaning S.stamp shutdown.shell shutdown.control shutdown.request
+        shutdown.relay (λ tokens. F.post shutdown.rest (tokens, end.1)) end.0) }
 {
     match shutdown_order(rt, alloc, shutdown) {
         Ok(end) => Some(end),
         Err(unbegun) => {
-            give_up(&rt, unbegun, to_subscriptions);
+            drop(give_up(&rt, unbegun, to_subscriptions));
             None
         }
     }
 }
 
-/// The token of subscriptions, which ends, in a list that has room for two more.
+/// The token of subscriptions, which ends, in a list that has room for two more; and its inbox as it was then.
 fn last_token<W: Drop, R: Threads + Wait>(
     rt: &R,
-    subscriptions: PromisedHandle<Closed<Event<W>>, ClosesSilent<W, R>>,
+    subscriptions: PromisedHandle<SubscriptionsEnd<W>, ClosesSilent<W, R>>,
     to_subscriptions: &Sender<Note<Event<W>>>,
     mut tokens: Vec<Closed<Event<W>>>,
-) -> Vec<Closed<Event<W>>>
+) -> (Vec<Closed<Event<W>>>, Snapshot<Arrivals<Event<W>>>)
     requires none { tokens.items ≡ [] }
     requires room { 3 ≤ vec_capacity tokens }
-    ensures { IsLastToken subscriptions.promise.sink.value result }
+    ensures { IsLastToken (subscribing_by subscriptions.promise) result.0 result.1.value }
 {
-    tokens.push_reserved(end_subscriptions(rt, subscriptions, to_subscriptions));
-    tokens
+    let (closed, inbox) = end_subscriptions(rt, subscriptions, to_subscriptions);
+    tokens.push_reserved(closed);
+    (tokens, inbox)
 }
 
 /// Ends subscriptions, whose token `rest` gives, while the relay serves what it publishes. All else is dropped as it
-/// is.
-fn give_up<I, S, W, R, F>(
+/// is. What `rest` gave comes back, since nothing else shows that it was asked.
+fn give_up<I, S, W, R, F, T>(
     rt: &R,
     unbegun: Shutdown<I, S, W, R, F>,
     to_subscriptions: &Sender<Note<Event<W>>>,
-)
+) -> (Vec<Closed<Event<W>>>, T)
 where
     I: Interpreter + Drop,
     I::Cell: Drop,
     S: Stamp + Drop,
     W: Outlet + Drop,
     R: Wait + Drop,
-    F: FnOnce() -> Vec<Closed<Event<W>>>,
-    requires runs { F.pre unbegun.rest }
+    F: FnOnce() -> (Vec<Closed<Event<W>>>, T),
+    requires { F.pre unbegun.rest }
+    ensures { F.post unbegun.rest result }
 {
     let Shutdown {
         shell,
@@ -488,8 +507,9 @@ where
     drop(control);
     drop(request);
     pump_until_closed(rt, &mut relay, to_subscriptions);
-    drop(rest());
+    let ended = rest();
     drop(relay);
+    ended
 }
 
 /// Takes what is published and serves it, until subscriptions, which is told to end, has closed.

@@ -1,6 +1,7 @@
 //! How a kernel ended, and what its workers did.
 
 use crate::outcomes::Outcomes;
+use iopub_event::Event;
 use iopub_relay::Relay;
 use kernel_jobs::{Arrivals, Job};
 use std::snapshot::Snapshot;
@@ -19,6 +20,8 @@ pub struct KernelEnd<W: Outlet, R> {
     pub no_room: u64,
     /// What served the subscribers, as it was then: what it took.
     pub relay: Snapshot<Relay<W, R>>,
+    /// The inbox of subscriptions, as it was then: which events came out of it.
+    pub subscriptions_in: Snapshot<Arrivals<Event<W>>>,
     /// What the workers of shell and of control did.
     pub work: KernelWork,
 }

@@ -35,6 +35,6 @@ pub use relaying::{RelayEnd, RelayWorker};
 pub use running::run_kernel;
 pub use shell::ShellWorker;
 pub use shutdown::{Shutdown, ShutdownEnd, shutdown_order};
-pub use subscriptions::SubscriptionsWorker;
+pub use subscriptions::{SubscriptionsEnd, SubscriptionsWorker};
 pub use waking::Waking;
 pub use work::Work;

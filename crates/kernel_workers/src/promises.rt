@@ -1,10 +1,10 @@
 //! The promises of the workers, which hold after a join.
 
 use crate::ended::Ended;
+use crate::subscriptions::SubscriptionsEnd;
 use crate::waking::Waking;
 use interp_core::Interpreter;
 use iopub_event::Event;
-use iopub_queue::Closed;
 use iopub_relay::Relay;
 use jmsg_envelope::Stamp;
 use kernel_engine::{Engine, Side};
@@ -35,18 +35,21 @@ impl<I: Interpreter, S: Stamp, W, R: Wait> Promise<Ended<I, S, W, R>> for Leaves
         × IsSameEngine S.stamp promise.engine.value ended.work.engine };
 }
 
-/// The promise of the worker of subscriptions: it leaves the closing token of its publisher, whose list has no message
-/// and ends with the close.
+/// The promise of the worker of subscriptions: it leaves the closing token of its publisher, whose list is what it
+/// passed on of what came out of its inbox.
 #[derive(Drop)]
 pub struct ClosesSilent<W, R> {
     /// Its publisher, as it was given.
     pub sink: Snapshot<Waking<Event<W>, R>>,
+    /// Its inbox, as it was given.
+    pub inbox: Snapshot<Arrivals<Event<W>>>,
 }
 
-impl<W, R> Promise<Closed<Event<W>>> for ClosesSilent<W, R> {
+impl<W, R> Promise<SubscriptionsEnd<W>> for ClosesSilent<W, R> {
     ghost use Rattle.kernel_workers.specs.Ending.{EndsSilent};
 
-    ghost kept_by = { λ promise closed. EndsSilent promise.sink.value closed };
+    ghost kept_by = { λ promise ended.
+        EndsSilent (record { sink = promise.sink.value; inbox = promise.inbox.value }) ended.0 ended.1.value };
 }
 
 /// The promise of the relay's worker: its relay takes from the same queue.

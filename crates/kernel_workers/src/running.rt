@@ -7,6 +7,7 @@ ghost use Rattle.kernel_workers.specs.Running.{KernelEndsBy, EndsFor, EndsOver, 
 ghost use Rattle.kernel_workers.specs.Running.{did_by};
 ghost use Rattle.kernel_workers.specs.Running.{did_of, leaving_by};
 ghost use Rattle.kernel_workers.specs.Starting.{AreOfOne, IsOpened, IsSetUp, Promises, given_to, promised_by};
+ghost use Rattle.kernel_workers.specs.Starting.{subscribing, subscribing_by};
 
 use crate::control::{ControlWorker, ShellEnd};
 use crate::ended::Ended;
@@ -18,7 +19,7 @@ use crate::parts::Parts;
 use crate::promises::{ClosesSilent, LeavesWork};
 use crate::relaying::{RelayEnd, RelayWorker};
 use crate::shell::ShellWorker;
-use crate::subscriptions::SubscriptionsWorker;
+use crate::subscriptions::{SubscriptionsEnd, SubscriptionsWorker};
 use crate::waking::Waking;
 use crate::work::Work;
 use crossbeam_channel::Sender;
@@ -455,7 +456,7 @@ type ChannelThread<I, S, W, R> = PromisedHandle<Ended<I, S, W, R>, LeavesWork<I,
 type PublishingThreads<I, S, W, R> = Publishers<
     ChannelThread<I, S, W, R>,
     ChannelThread<I, S, W, R>,
-    PromisedHandle<Closed<Event<W>>, ClosesSilent<W, R>>,
+    PromisedHandle<SubscriptionsEnd<W>, ClosesSilent<W, R>>,
 >;
 
 /// The workers of a kernel in their threads, and what ends those of subscriptions and of the relay.
@@ -486,8 +487,8 @@ where
         workers.publishers.shell.inbox running.publishers.shell.promise) }
     ensures control { IfSome result (λ running. Promises Control workers.publishers.control.engine
         workers.publishers.control.inbox running.publishers.control.promise) }
-    ensures subscriptions { IfSome result
-        (λ running. running.publishers.subscriptions.promise.sink.value ≡ workers.publishers.subscriptions.sink) }
+    ensures subscriptions { IfSome result (λ running. subscribing_by running.publishers.subscriptions.promise
+        ≡ subscribing workers.publishers.subscriptions) }
     ensures relay { IfSome result (λ running. running.serving.relay.promise.relay.value ≡ workers.relay.relay) }
 {
     let Workers {
@@ -530,8 +531,8 @@ where
         running.publishers.shell.promise) }
     ensures control { IfSome result (λ running. Promises Control publishers.control.engine publishers.control.inbox
         running.publishers.control.promise) }
-    ensures subscriptions { IfSome result
-        (λ running. running.publishers.subscriptions.promise.sink.value ≡ publishers.subscriptions.sink) }
+    ensures subscriptions { IfSome result (λ running. subscribing_by running.publishers.subscriptions.promise
+        ≡ subscribing publishers.subscriptions) }
     ensures serving { IfSome result (λ running. running.serving ≡ serving) }
 {
     match start_publishing(rt, alloc, publishers, to_control) {
@@ -568,7 +569,7 @@ where
     ensures control { IfSome result
         (λ threads. Promises Control publishers.control.engine publishers.control.inbox threads.control.promise) }
     ensures subscriptions { IfSome result
-        (λ threads. threads.subscriptions.promise.sink.value ≡ publishers.subscriptions.sink) }
+        (λ threads. subscribing_by threads.subscriptions.promise ≡ subscribing publishers.subscriptions) }
 {
     let Publishers {
         shell,
@@ -605,7 +606,7 @@ where
     ensures shell { IfSome result (λ threads. threads.shell ≡ shell) }
     ensures control { IfSome result (λ threads. threads.control ≡ control) }
     ensures subscriptions { IfSome result
-        (λ threads. threads.subscriptions.promise.sink.value ≡ subscriptions.sink) }
+        (λ threads. subscribing_by threads.subscriptions.promise ≡ subscribing subscriptions) }
 {
     match subscriptions.spawn(rt) {
         Some(subscriptions) => {
@@ -742,7 +743,7 @@ fn end_after<I, S, W, R>(
     rt: R,
     alloc: Global,
     joined: (Ended<I, S, W, R>, Ended<I, S, W, R>),
-    subscriptions: PromisedHandle<Closed<Event<W>>, ClosesSilent<W, R>>,
+    subscriptions: PromisedHandle<SubscriptionsEnd<W>, ClosesSilent<W, R>>,
     to_subscriptions: Sender<Note<Event<W>>>,
     serving: Serving<W, R>,
     tokens: Vec<Closed<Event<W>>>,
@@ -757,9 +758,10 @@ where
         subscriptions.promise.sink.value serving.relay.promise.relay.value.taker }
     requires none { tokens.items ≡ [] }
     requires room { 3 ≤ vec_capacity tokens }
-    ensures ends { IfOk result (EndsOver I.meaning S.stamp W.outflow joined.0.work.engine joined.1.work.engine) }
+    ensures ends { IfOk result (EndsOver I.meaning S.stamp W.outflow joined.0.work.engine joined.1.work.engine
+        subscriptions.promise.inbox.value) }
     ensures cause { IfOk result (EndsFor R I.meaning S.stamp W.outflow joined.1.cause
-        (leaving_by joined.0 joined.1 subscriptions.promise.sink.value)) }
+        (leaving_by joined.0 joined.1 (subscribing_by subscriptions.promise))) }
     ensures refused { IfErr result IsFaultAtEnd }
 {
     let (shell, control) = joined;

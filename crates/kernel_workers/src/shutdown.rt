@@ -30,8 +30,8 @@ pub struct Shutdown<I: Interpreter, S: Stamp, W: Outlet, R: Wait, F> {
     pub control: Engine<I, Waking<Event<W>, R>, S, W>,
     /// The request for the shutdown, which control handles.
     pub request: Envelope,
-    /// What gives the closing tokens of all other publishers of the queue, in a list that has room for two more. It is
-    /// called once control has closed.
+    /// What gives the closing tokens of all other publishers of the queue, in a list that has room for two more, and
+    /// beside them what else is to be told. It is called once control has closed.
     pub rest: F,
     /// What serves the subscribers.
     pub relay: Relay<W, R>,
@@ -55,29 +55,31 @@ pub struct ShutdownEnd<W: Outlet, R> {
 /// Ends a kernel in order. It closes shell, and has control handle the request, its idle after all that shell
 /// published. Then it closes control, and asks for the tokens of all other publishers. Meanwhile the relay serves what
 /// they publish, in a thread of its own, and then takes what is left. If all was taken, all that shell published, and
-/// its close, was taken before the request's idle, if that was published. That is so in every schedule.
+/// its close, was taken before the request's idle, if that was published. That is so in every schedule. What was given
+/// beside the tokens comes back.
 ///
 /// # Errors
 ///
 /// What was given, if no thread can be made for the relay, or no memory is left for what the two share. Then nothing
 /// was done.
-pub fn shutdown_order<I, S, W, R, F>(
+pub fn shutdown_order<I, S, W, R, F, T>(
     rt: R,
     alloc: Global,
     shutdown: Shutdown<I, S, W, R, F>,
-) -> Result<ShutdownEnd<W, R>, Shutdown<I, S, W, R, F>>
+) -> Result<(ShutdownEnd<W, R>, T), Shutdown<I, S, W, R, F>>
 where
     I: Interpreter + Drop,
     I::Cell: Drop,
     S: Stamp + Drop,
     W: Outlet + Drop + Send + 'static,
     R: Threads + Wait + Copy + Send + Sync + Drop + 'static,
-    F: FnOnce() -> Vec<Closed<Event<W>>>,
+    F: FnOnce() -> (Vec<Closed<Event<W>>>, T),
     requires queue { IsOneQueue shutdown.shell shutdown.control shutdown.relay }
     requires runs { F.pre shutdown.rest }
-    requires rest { GivesRest shutdown.shell shutdown.control shutdown.relay (F.post shutdown.rest) }
-    ensures ends { IfOk result (EndsInOrder I.meaning S.stamp shutdown.shell shutdown.control shutdown.request
-        shutdown.relay (F.post shutdown.rest)) }
+    requires rest { GivesRest shutdown.shell shutdown.control shutdown.relay
+        (λ tokens. (told : T) × F.post shutdown.rest (tokens, told)) }
+    ensures ends { IfOk result (λ end. EndsInOrder I.meaning S.stamp shutdown.shell shutdown.control shutdown.request
+        shutdown.relay (λ tokens. F.post shutdown.rest (tokens, end.1)) end.0) }
     ensures unbegun { IfErr result (λ back. back ≡ shutdown) }
 {
     let Shutdown {
@@ -90,9 +92,9 @@ where
     match begin_draining(rt, alloc, relay) {
         Ok(draining) => {
             let channels = close_channels(alloc, shell, control, request);
-            let tokens = rest();
+            let (tokens, told) = rest();
             let relay = draining.join(&rt);
-            Ok(conclude(&rt, relay, channels, tokens))
+            Ok((conclude(&rt, relay, channels, tokens), told))
         }
         Err(relay) => Err(Shutdown {
             shell,

@@ -317,11 +317,13 @@ fn look_at<R: Drop>(ended: KernelEnd<Keeper, R>) -> End {
         subscribers,
         no_room,
         relay,
+        subscriptions_in,
         work,
     } = ended;
     let started = work.started;
     let undone = (work.shell.outcomes.undone, work.control.outcomes.undone);
     drop(relay);
+    drop(subscriptions_in);
     drop(work);
     End {
         complete,

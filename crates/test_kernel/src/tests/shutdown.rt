@@ -239,18 +239,18 @@ fn kept_engine<R: Wait>(
     Engine::new(side, ShellArith::new(alloc), sink, stamp, signer)
 }
 
-/// The token of the door, which closes, in a list that has room for two more.
+/// The token of the door, which closes, in a list that has room for two more; and nothing else.
 fn last_token<R: Wait + Drop>(
     door: Waking<Event<Keeper>, R>,
     mut tokens: Vec<Closed<Event<Keeper>>>,
-) -> Vec<Closed<Event<Keeper>>>
+) -> (Vec<Closed<Event<Keeper>>>, ())
     requires none { tokens.items ≡ [] }
     requires room { 3 ≤ vec_capacity tokens }
-    ensures last { IsLast door result.items }
-    ensures room { 3 ≤ vec_capacity result }
+    ensures last { IsLast door result.0.items }
+    ensures room { 3 ≤ vec_capacity result.0 }
 {
     tokens.push_reserved(door.close());
-    tokens
+    (tokens, ())
 }
 
 /// Room for the tokens of three publishers.
@@ -289,7 +289,7 @@ where
         door,
         relay,
     } = served;
-    let rest = move || -> Vec<Closed<Event<Keeper>>>
+    let rest = move || -> (Vec<Closed<Event<Keeper>>>, ())
         requires none { tokens.items ≡ [] }
         requires room { 3 ≤ vec_capacity tokens }
     { last_token(door, tokens) };
@@ -301,7 +301,7 @@ where
         relay,
     };
     match shutdown_order(rt, alloc, shutdown) {
-        Ok(end) => Some(end),
+        Ok((end, ())) => Some(end),
         Err(unbegun) => {
             drop(unbegun);
             None
