@@ -1,6 +1,9 @@
 //! The relay's worker.
 
 ghost use Rattle.std.specs.Prelude.{◌≡◌, IfOk, IfSome};
+ghost use Rattle.iopub_event.specs.declared.event.Event.TheVariants.{Detach};
+ghost use Rattle.iopub_relay.specs.Rows.{subscriber_at};
+ghost use Rattle.iopub_relay.specs.Table.{IsStarved};
 
 use crate::promises::ServesOn;
 use crossbeam_channel::Sender;
@@ -180,7 +183,7 @@ fn pump_all<W: Outlet + Drop, R: Wait>(
         match relay.pump() {
             Pumped::Did | Pumped::Closed(_) | Pumped::NoRoom(_) => backoff.reset(),
             Pumped::NoTopic(id) => {
-                tell(rt, subscriptions, Note::Item(Event::Detach(id)));
+                tell(rt, subscriptions, Note::Item(leaving_of(relay, id)));
                 backoff.reset();
             }
             Pumped::Complete => return,
@@ -188,6 +191,15 @@ fn pump_all<W: Outlet + Drop, R: Wait>(
         }
     }
     unreachable!()
+}
+
+/// That a subscriber of a relay leaves, for whose topic there was no memory.
+fn leaving_of<W: Outlet, R>(relay: &Relay<W, R>, id: u64) -> Event<W>
+    requires { IsStarved (subscriber_at id relay.now.rows) }
+    ensures { result ≡ Detach id }
+{
+    let _ = relay;
+    Event::Detach(id)
 }
 
 /// Backs off, or sleeps if that is completed.
