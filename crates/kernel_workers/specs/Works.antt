@@ -12,8 +12,10 @@ use Rattle.kernel_engine.specs.declared.side.Side.TheVariants.{Shell, Control}
 use Rattle.kernel_engine.specs.Starts.{SaysNothing, SaysStarting, StartsNot}
 use Rattle.kernel_engine.specs.World.{world_of}
 use Rattle.kernel_workers.specs.declared.ended.Ended.{Ended}
+use Rattle.kernel_workers.specs.declared.promises.LeavesWork.{LeavesWork}
 use Rattle.kernel_jobs.specs.declared.job.Job.{Job}
 use Rattle.kernel_workers.specs.Jobs.{TakesTurns, doing_of}
+use Rattle.kernel_workers.specs.Staying.{IsSameEngine}
 
 module _ {I S W Cell : Type 0} (m : Meaning I Cell) (stamps : Stamping S) where
   -- How an engine began. If memory wasn't refused it did all that was due: shell's says that the kernel starts, if it
@@ -37,3 +39,8 @@ module _ {I S W Cell : Type 0} (m : Meaning I Cell) (stamps : Stamping S) where
     pub turns : TakesTurns (world_of m publisher_sink stamps) (doing_of side)
         (record { engine = first; inbox = inbox; outcomes = record { answers = []; undone = 0 } }) (Some ended.cause)
         ended.work
+
+  -- what a worker of a channel left is as it promised
+  abbrev pub IsKept : {R : Type 0} → LeavesWork I S W R Cell → Ended I S W R Cell → Type 0
+  IsKept promise ended = WorksOff promise.side promise.engine.value promise.inbox.value ended
+      × IsSameEngine stamps promise.engine.value ended.work.engine

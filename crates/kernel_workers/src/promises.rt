@@ -27,12 +27,9 @@ pub struct LeavesWork<I: Interpreter, S: Stamp, W, R: Wait> {
 }
 
 impl<I: Interpreter, S: Stamp, W, R: Wait> Promise<Ended<I, S, W, R>> for LeavesWork<I, S, W, R> {
-    ghost use Rattle.kernel_workers.specs.Staying.{IsSameEngine};
-    ghost use Rattle.kernel_workers.specs.Works.{WorksOff};
+    ghost use Rattle.kernel_workers.specs.Works.{IsKept};
 
-    ghost kept_by = { λ promise ended.
-        WorksOff I.meaning S.stamp promise.side promise.engine.value promise.inbox.value ended
-        × IsSameEngine S.stamp promise.engine.value ended.work.engine };
+    ghost kept_by = { IsKept I.meaning S.stamp };
 }
 
 /// The promise of the worker of subscriptions: it leaves the closing token of its publisher, whose list is what it

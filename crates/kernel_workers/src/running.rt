@@ -8,6 +8,7 @@ ghost use Rattle.kernel_workers.specs.Running.{did_by};
 ghost use Rattle.kernel_workers.specs.Running.{did_of, leaving_by};
 ghost use Rattle.kernel_workers.specs.Starting.{AreOfOne, IsOpened, IsSetUp, Promises, given_to, promised_by};
 ghost use Rattle.kernel_workers.specs.Starting.{subscribing, subscribing_by};
+ghost use Rattle.kernel_workers.specs.Works.{IsKept};
 
 use crate::control::{ControlWorker, ShellEnd};
 use crate::ended::Ended;
@@ -578,7 +579,13 @@ where
     } = publishers;
     match start_channels(rt, alloc, shell, control, to_control) {
         Some((shell, control, to_control)) => {
-            start_subscriptions(rt, shell, control, to_control, subscriptions)
+            match start_subscriptions(rt, shell, control, to_control, subscriptions) {
+                Ok(threads) => Some(threads),
+                Err(ended) => {
+                    drop(ended);
+                    None
+                }
+            }
         }
         None => {
             drop(subscriptions);
@@ -587,15 +594,18 @@ where
     }
 }
 
-/// Starts the worker of subscriptions, beside those of control and of shell. None if no thread can be made; then those
-/// are ended and joined.
+/// Starts the worker of subscriptions, beside those of control and of shell.
+///
+/// # Errors
+///
+/// What those of shell and of control left, if no thread can be made: they are ended and joined.
 fn start_subscriptions<I, S, W, R>(
     rt: R,
     shell: ChannelThread<I, S, W, R>,
     control: ChannelThread<I, S, W, R>,
     to_control: Sender<Note<Job>>,
     subscriptions: SubscriptionsWorker<W, R>,
-) -> Option<PublishingThreads<I, S, W, R>>
+) -> Result<PublishingThreads<I, S, W, R>, (Ended<I, S, W, R>, Ended<I, S, W, R>)>
 where
     I: Interpreter + Drop,
     I::Cell: Drop,
@@ -603,24 +613,23 @@ where
     W: Drop + Send + 'static,
     R: Threads + Wait + Copy + Send + Sync + Drop + 'static,
     requires { subscriptions.sink.published ≡ [] }
-    ensures shell { IfSome result (λ threads. threads.shell ≡ shell) }
-    ensures control { IfSome result (λ threads. threads.control ≡ control) }
-    ensures subscriptions { IfSome result
+    ensures shell { IfOk result (λ threads. threads.shell ≡ shell) }
+    ensures control { IfOk result (λ threads. threads.control ≡ control) }
+    ensures subscriptions { IfOk result
         (λ threads. subscribing_by threads.subscriptions.promise ≡ subscribing subscriptions) }
+    ensures joined { IfErr result (λ ended. IsKept I.meaning S.stamp shell.promise ended.0
+        × IsKept I.meaning S.stamp control.promise ended.1) }
 {
     match subscriptions.spawn(rt) {
         Some(subscriptions) => {
             drop(to_control);
-            Some(Publishers {
+            Ok(Publishers {
                 shell,
                 control,
                 subscriptions,
             })
         }
-        None => {
-            end_channels(&rt, to_control, shell, control);
-            None
-        }
+        None => Err(end_channels(&rt, to_control, shell, control)),
     }
 }
 
@@ -655,23 +664,23 @@ where
     match shell.spawn(rt, alloc) {
         Some(shell) => Some((shell, control, to_control)),
         None => {
-            end_worker(&rt, to_control, control);
+            drop(end_worker(&rt, to_control, control));
             None
         }
     }
 }
 
 /// Tells a worker to end, and joins it.
-fn end_worker<T, E, P, R>(rt: &R, to: Sender<Note<T>>, worker: PromisedHandle<E, P>)
+fn end_worker<T, E, P, R>(rt: &R, to: Sender<Note<T>>, worker: PromisedHandle<E, P>) -> E
 where
     T: Drop,
-    E: Drop,
     P: Promise<E>,
     R: Threads + Wait,
+    ensures { P.kept_by worker.promise result }
 {
     tell(rt, &to, Note::End);
     drop(to);
-    drop(worker.join(rt));
+    worker.join(rt)
 }
 
 /// Tells control's worker to end, which ends shell's, and joins both.
@@ -680,14 +689,15 @@ fn end_channels<E, P, R>(
     to_control: Sender<Note<Job>>,
     shell: PromisedHandle<E, P>,
     control: PromisedHandle<E, P>,
-)
+) -> (E, E)
 where
-    E: Drop,
     P: Promise<E>,
     R: Threads + Wait,
+    ensures shell { P.kept_by shell.promise result.0 }
+    ensures control { P.kept_by control.promise result.1 }
 {
-    end_worker(rt, to_control, control);
-    drop(shell.join(rt));
+    let control = end_worker(rt, to_control, control);
+    (shell.join(rt), control)
 }
 
 /// Joins the workers of shell and control, and ends the kernel: in order if control was asked for a shutdown.
