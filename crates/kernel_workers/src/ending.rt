@@ -27,7 +27,7 @@ use iopub_queue::{Closed, OpenFault};
 use iopub_relay::{Pumped, Relay};
 use jmsg_envelope::{Envelope, Stamp};
 use kernel_engine::{Engine, EngineFault};
-use kernel_jobs::{Arrivals, Note, ReplyTo, is_gone, tell};
+use kernel_jobs::{Arrivals, Job, Note, ReplyTo, is_gone, tell};
 use listed::Frames;
 use std::alloc::Global;
 use std::snapshot::Snapshot;
@@ -233,7 +233,7 @@ fn restarts(control: Option<bool>, shell: Option<bool>) -> bool
 }
 
 /// Ends a kernel whose workers of shell and control ended for these causes: in order if control was asked for a
-/// shutdown.
+/// shutdown. Control's inbox is there meanwhile: who asked for that is heard until it was replied.
 ///
 /// # Errors
 ///
@@ -246,6 +246,7 @@ pub(crate) fn end_by<I, S, W, R>(
     of_control: Cause,
     of_shell: Cause,
     work: KernelWork,
+    control_in: &Arrivals<Job>,
 ) -> Result<KernelEnd<W, R>, KernelFault>
 where
     I: Interpreter + Drop,
@@ -257,12 +258,14 @@ where
         left.subscriptions.promise.sink.value serving.relay.promise.relay.value.taker }
     requires none { left.tokens.items ≡ [] }
     requires room { 3 ≤ vec_capacity left.tokens }
+    requires heard { control_in.now ≡ work.control.inbox.value }
     ensures ends { IfOk result (EndsOver I.meaning S.stamp W.outflow left.shell left.control
         left.subscriptions.promise.inbox.value) }
     ensures cause { IfOk result
         (EndsFor R I.meaning S.stamp W.outflow of_control (leaving left work (restart_of of_shell))) }
     ensures refused { IfErr result IsFaultAtEnd }
 {
+    let _ = control_in;
     match of_control {
         Cause::Asked(asking) => {
             let relay = serving.end(&rt);

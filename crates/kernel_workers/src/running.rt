@@ -800,8 +800,9 @@ where
         shell: shell_did,
         control: control_did,
     };
-    let ended = end_by(rt, alloc, left, serving, of_control, of_shell, work);
-    // Who asked for a shutdown is heard until it was replied.
+    let ended = end_by(
+        rt, alloc, left, serving, of_control, of_shell, work, &inbox,
+    );
     drop(inbox);
     ended
 }
@@ -815,6 +816,7 @@ fn done_of<I: Interpreter, S: Stamp, W, R: Wait>(
     WorkDone,
 )
     ensures engine { result.0 ≡ work.engine }
+    ensures inbox { result.1 ≡ result.2.inbox.value }
     ensures did { did_of result.2 ≡ did_by work }
 {
     let Work {
