@@ -41,6 +41,6 @@ module _ {I S W Cell : Type 0} (m : Meaning I Cell) (stamps : Stamping S) where
         ended.work
 
   -- what a worker of a channel left is as it promised
-  abbrev pub IsKept : {R : Type 0} → LeavesWork I S W R Cell → Ended I S W R Cell → Type 0
-  IsKept promise ended = WorksOff promise.side promise.engine.value promise.inbox.value ended
+  abbrev pub LeavesAsPromised : {R : Type 0} → LeavesWork I S W R Cell → Ended I S W R Cell → Type 0
+  LeavesAsPromised promise ended = WorksOff promise.side promise.engine.value promise.inbox.value ended
       × IsSameEngine stamps promise.engine.value ended.work.engine

@@ -27,9 +27,9 @@ pub struct LeavesWork<I: Interpreter, S: Stamp, W, R: Wait> {
 }
 
 impl<I: Interpreter, S: Stamp, W, R: Wait> Promise<Ended<I, S, W, R>> for LeavesWork<I, S, W, R> {
-    ghost use Rattle.kernel_workers.specs.Works.{IsKept};
+    ghost use Rattle.kernel_workers.specs.Works.{LeavesAsPromised};
 
-    ghost kept_by = { IsKept I.meaning S.stamp };
+    ghost kept_by = { LeavesAsPromised I.meaning S.stamp };
 }
 
 /// The promise of the worker of subscriptions: it leaves the closing token of its publisher, whose list is what it

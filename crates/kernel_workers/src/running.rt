@@ -8,7 +8,7 @@ ghost use Rattle.kernel_workers.specs.Running.{did_by};
 ghost use Rattle.kernel_workers.specs.Running.{did_of, leaving_by};
 ghost use Rattle.kernel_workers.specs.Starting.{AreOfOne, IsOpened, IsSetUp, Promises, given_to, promised_by};
 ghost use Rattle.kernel_workers.specs.Starting.{subscribing, subscribing_by};
-ghost use Rattle.kernel_workers.specs.Works.{IsKept};
+ghost use Rattle.kernel_workers.specs.Works.{LeavesAsPromised};
 
 use crate::control::{ControlWorker, ShellEnd};
 use crate::ended::Ended;
@@ -617,8 +617,8 @@ where
     ensures control { IfOk result (λ threads. threads.control ≡ control) }
     ensures subscriptions { IfOk result
         (λ threads. subscribing_by threads.subscriptions.promise ≡ subscribing subscriptions) }
-    ensures joined { IfErr result (λ ended. IsKept I.meaning S.stamp shell.promise ended.0
-        × IsKept I.meaning S.stamp control.promise ended.1) }
+    ensures joined { IfErr result (λ ended. LeavesAsPromised I.meaning S.stamp shell.promise ended.0
+        × LeavesAsPromised I.meaning S.stamp control.promise ended.1) }
 {
     match subscriptions.spawn(rt) {
         Some(subscriptions) => {
@@ -800,9 +800,7 @@ where
         shell: shell_did,
         control: control_did,
     };
-    let ended = end_by(
-        rt, alloc, left, serving, of_control, of_shell, work, &inbox,
-    );
+    let ended = end_by(rt, alloc, left, serving, of_control, of_shell, work, &inbox);
     drop(inbox);
     ended
 }
