@@ -23,6 +23,7 @@ use Rattle.kernel_jobs.specs.declared.job.Job.{Job}
 use Rattle.kernel_workers.specs.declared.outcomes.Answer.{Answer}
 use Rattle.kernel_workers.specs.declared.outcomes.Outcome.{Outcome}
 use Rattle.kernel_workers.specs.declared.outcomes.Outcomes.{Outcomes}
+use Rattle.kernel_workers.specs.declared.promises.LeavesWork.{LeavesWork}
 use Rattle.kernel_workers.specs.declared.work.Work.{Work}
 use Rattle.kernel_workers.specs.Causes.{cause_of, cause_of_fault, cause_of_order}
 use Rattle.kernel_workers.specs.Jobs.{AreAnswered, Doing, LeavesAll, LeavesJobs, TakesOut}
@@ -30,6 +31,7 @@ use Rattle.kernel_workers.specs.Jobs.{TakesTurn, TakesTurns, answered_in, doing_
 use Rattle.kernel_workers.specs.Jobs.{does, nothing, nothing_left, one_left, one_more, told}
 use Rattle.kernel_workers.specs.Outcomes.{Records}
 use Rattle.kernel_engine.specs.World.{World}
+use Rattle.kernel_workers.specs.Starting.{Promises}
 use Rattle.kernel_workers.specs.Works.{WorkerBegins, WorksOff}
 
 -- what became of no jobs
@@ -54,6 +56,14 @@ module _ {I S W R Cell : Type 0} (m : Meaning I Cell) (stamps : Stamping S) wher
         (record { engine = first; inbox = inbox; outcomes = o }) (Some cause) work)
         (none_yet outcomes answers undone) turns;
   }
+
+  -- a worker did what it did of what its promise speaks of
+  pub works_promised : (side : Side) (engine : Parts I (Publisher (Event W)) S W)
+      (inbox : List (Option Job)) (promise : LeavesWork I S W R Cell) (ended : Ended I S W R Cell)
+      → Promises side engine inbox promise → WorksOff m stamps side engine inbox ended
+      → WorksOff m stamps promise.side promise.engine.value promise.inbox.value ended
+  works_promised side engine inbox promise ended speaks works =
+      rw (speaks.side_is) (rw (speaks.engine_is) (rw (speaks.inbox_is) works))
 
 -- the messages of two lists of notes, one after the other
 messages_append : (one other : List (Option Job)) → messages_of_jobs (one ++ other)

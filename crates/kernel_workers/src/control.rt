@@ -55,6 +55,7 @@ where
         ensures works { WorksOff I.meaning S.stamp Control self.engine self.inbox result }
         ensures same { IsSameEngine S.stamp self.engine result.work.engine }
     {
+        let given = self.promise();
         let ControlWorker {
             engine,
             inbox,
@@ -66,12 +67,25 @@ where
             outcomes: Outcomes::new(),
         };
         let cause = work(&rt, alloc, &mut at_hand, &shell);
-        shell.end(&rt);
-        drop(shell);
-        Ended {
+        let ended = Ended {
             work: at_hand,
             cause,
             started: false,
+        };
+        shell.end(&rt, &given, &ended);
+        drop(given);
+        drop(shell);
+        ended
+    }
+
+    /// What it promises, of what it is given.
+    fn promise(&self) -> LeavesWork<I, S, W, R>
+        ensures { Promises Control self.now.engine self.now.inbox result }
+    {
+        LeavesWork {
+            side: Side::Control,
+            engine: Snapshot::of(&self.engine),
+            inbox: Snapshot::of(&self.inbox),
         }
     }
 }
@@ -93,11 +107,7 @@ where
     ) -> Option<PromisedHandle<Ended<I, S, W, R>, LeavesWork<I, S, W, R>>>
         ensures { IfSome result (λ handle. Promises Control self.engine self.inbox handle.promise) }
     {
-        let promise = LeavesWork {
-            side: Side::Control,
-            engine: Snapshot::of(&self.engine),
-            inbox: Snapshot::of(&self.inbox),
-        };
+        let promise = self.promise();
         match thread::spawn_with(&rt, promise, move || self.run(rt, alloc)) {
             Ok(handle) => Some(handle),
             Err(refused) => {
@@ -135,10 +145,16 @@ impl ShellEnd {
         }
     }
 
-    /// Has shell's worker end, unless it has. The flag is raised before the note is put in, so that shell does no job
-    /// that waits before the note.
-    fn end<R: Wait>(&self, rt: &R) {
-        self.flags.end();
+    /// Has shell's worker end, unless it has, as control's has ended that was given this. The flag is raised before the
+    /// note is put in, so that shell does no job that waits before the note.
+    fn end<I, S, W, R>(&self, rt: &R, given: &LeavesWork<I, S, W, R>, ended: &Ended<I, S, W, R>)
+    where
+        I: Interpreter,
+        S: Stamp,
+        R: Wait,
+        requires { WorksOff I.meaning S.stamp given.now.side given.now.engine.value given.now.inbox.value ended.now }
+    {
+        self.flags.end(given, ended);
         tell(rt, &self.inbox, Note::End);
     }
 

@@ -2,11 +2,16 @@
 
 ghost use Rattle.std.specs.Prelude.{◌≡◌, true};
 ghost use Rattle.kernel_engine.specs.Orders.{is_interrupt, order_of_request};
+ghost use Rattle.kernel_workers.specs.Works.{WorksOff};
 
+use crate::ended::Ended;
+use crate::promises::LeavesWork;
+use interp_core::Interpreter;
+use jmsg_envelope::Stamp;
 use kernel_engine::{Asked, Stop};
 use std::alloc::{AllocError, Global};
-use std::sync::Arc;
 use std::sync::atomic::{AtomicBool, Ordering};
+use std::sync::{Arc, Wait};
 
 /// The flags by which control stops what shell does, for both of them, and by which others see that the kernel is to
 /// end. Control raises the one of the end before the one of an interrupt, and shell lowers the latter before it reads
@@ -86,8 +91,16 @@ impl Flags {
         self.interrupt.store(true, Ordering::SeqCst);
     }
 
-    /// Raises the flag of the end, and then that of an interrupt.
-    pub(crate) fn end(&self) {
+    /// Raises the flag of the end, and then that of an interrupt, as a worker has ended that was given this.
+    pub(crate) fn end<I, S, W, R>(&self, given: &LeavesWork<I, S, W, R>, ended: &Ended<I, S, W, R>)
+    where
+        I: Interpreter,
+        S: Stamp,
+        R: Wait,
+        requires { WorksOff I.meaning S.stamp given.now.side given.now.engine.value given.now.inbox.value ended.now }
+    {
+        let _ = given;
+        let _ = ended;
         self.ending.store(true, Ordering::SeqCst);
         self.raise();
     }

@@ -60,6 +60,7 @@ where
         ensures works { WorksOff I.meaning S.stamp Shell self.engine self.inbox result }
         ensures same { IsSameEngine S.stamp self.engine result.work.engine }
     {
+        let given = self.promise();
         let ShellWorker {
             mut engine,
             inbox,
@@ -73,17 +74,30 @@ where
             outcomes: Outcomes::new(),
         };
         let cause = work(&rt, alloc, &mut at_hand, &flags);
+        let ended = Ended {
+            work: at_hand,
+            cause,
+            started,
+        };
         let is_told = flags.is_ending();
-        flags.end();
+        flags.end(&given, &ended);
+        drop(given);
         drop(flags);
         if !is_told {
             tell(&rt, &control, Note::End);
         }
         drop(control);
-        Ended {
-            work: at_hand,
-            cause,
-            started,
+        ended
+    }
+
+    /// What it promises, of what it is given.
+    fn promise(&self) -> LeavesWork<I, S, W, R>
+        ensures { Promises Shell self.now.engine self.now.inbox result }
+    {
+        LeavesWork {
+            side: Side::Shell,
+            engine: Snapshot::of(&self.engine),
+            inbox: Snapshot::of(&self.inbox),
         }
     }
 }
@@ -106,11 +120,7 @@ where
     ) -> Option<PromisedHandle<Ended<I, S, W, R>, LeavesWork<I, S, W, R>>>
         ensures { IfSome result (λ handle. Promises Shell self.engine self.inbox handle.promise) }
     {
-        let promise = LeavesWork {
-            side: Side::Shell,
-            engine: Snapshot::of(&self.engine),
-            inbox: Snapshot::of(&self.inbox),
-        };
+        let promise = self.promise();
         let builder = Builder::new().stack_size(CELL_STACK);
         match builder.spawn_with(&rt, promise, move || self.run(rt, alloc)) {
             Ok(handle) => Some(handle),
