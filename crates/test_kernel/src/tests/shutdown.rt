@@ -301,7 +301,7 @@ where
         relay,
     };
     match shutdown_order(rt, alloc, shutdown) {
-        Ok((end, ())) => Some(end),
+        Ok(end) => Some(end.0),
         Err(unbegun) => {
             drop(unbegun);
             None
