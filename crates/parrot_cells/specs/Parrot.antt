@@ -1,5 +1,5 @@
 -- What the language of a parrot means, and its laws.
-use Rattle.std.proofs.Common.{◌≡◌, ℕ, suc, List, [], Option, Some, None, Result, Ok, refl, sym, ◌∙◌, subst}
+use Rattle.std.proofs.Common.{◌≡◌, ℕ, suc, List, [], Option, Some, None, Ok, refl, sym, ◌∙◌, subst}
 use Rattle.std.specs.Prelude.{codes}
 use Rattle.interp_core.specs.Interpreter.{FailsOwn, HasOneValue, HasOwn, IsEnd, Laws, Meaning}
 use Rattle.interp_core.specs.declared.answer.Completeness.TheVariants.{Complete}
