@@ -15,6 +15,9 @@ use kernel_program::{command_words, start_on};
 use std::io::Write;
 use std::process::ExitCode;
 
+#[cfg(test)]
+mod tests;
+
 /// Ends the program with a status, and tells a person why.
 fn end(rt: &HostRuntime, status: u8, why: &str) -> ExitCode {
     // If even this fails there is nobody left to tell.
