@@ -1,10 +1,21 @@
 //! Shell arithmetic as the language of a program.
 
-ghost use Rattle.jkernel.specs.Arithmetic.{arithmetic, arithmetic_is_started};
+ghost use Rattle.std.specs.Prelude.{◌≡◌};
+ghost use Rattle.jkernel.specs.Arithmetic.{arithmetic, arithmetic_is_started, kernelspec};
 
 use arith_shell::ShellArith;
 use kernel_program::{BeginFault, Language};
 use std::alloc::Global;
+
+/// The text of `kernel.json`, by which a server starts this program. Needs no memory.
+pub fn kernelspec_text() -> &'static str
+    ensures { result.now ≡ kernelspec }
+{
+    concat!(
+        r#"{"argv":["jkernel","serve","-f","{connection_file}"],"display_name":"Shell arithmetic","#,
+        r#""interrupt_mode":"message","language":"sharith"}"#,
+    )
+}
 
 /// The language of the program: shell arithmetic, in which no variable is assigned when a kernel begins.
 #[derive(Clone, Copy, Debug)]
@@ -31,10 +42,7 @@ impl Language for Arithmetic {
     }
 
     fn kernelspec(&self) -> &'static str {
-        concat!(
-            r#"{"argv":["jkernel","serve","-f","{connection_file}"],"display_name":"Shell arithmetic","#,
-            r#""interrupt_mode":"message","language":"sharith"}"#,
-        )
+        kernelspec_text()
     }
 
     fn shell(&self, alloc: Global) -> Result<ShellArith, BeginFault> {
