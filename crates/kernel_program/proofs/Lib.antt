@@ -1,3 +1,4 @@
 pub mod CodeLemmas
 pub mod EndLemmas
 pub mod OrderLemmas
+pub mod ToldLemmas

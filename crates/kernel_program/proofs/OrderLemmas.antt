@@ -4,9 +4,9 @@ use Rattle.std.specs.Prelude.{Vec}
 use Rattle.clap.specs.Words.{Text}
 use Rattle.interp_core.specs.Interpreter.{Meaning}
 use Rattle.kernel_program.specs.declared.status.Status.{Status}
-use Rattle.kernel_program.specs.declared.status.Status.TheVariants.{Done, Failed, WordsRefused, WordsUnreadable}
-use Rattle.kernel_program.specs.declared.status.Status.TheVariants.{FileUnreadable, FileRefused, CannotBind}
-use Rattle.kernel_program.specs.declared.status.Status.TheVariants.{Incomplete, InputRefused, BeginRefused}
+use Rattle.kernel_program.specs.declared.status.Status.TheVariants.{Done, Ended, Failed, OutputFailed, WordsRefused}
+use Rattle.kernel_program.specs.declared.status.Status.TheVariants.{WordsUnreadable, FileUnreadable, FileRefused}
+use Rattle.kernel_program.specs.declared.status.Status.TheVariants.{CannotBind, Incomplete, InputRefused, BeginRefused}
 use Rattle.kernel_words.specs.declared.words.Order.{Order}
 use Rattle.kernel_words.specs.declared.words.Order.TheVariants.{Replay, Serve, KernelSpec, Help}
 use Rattle.kernel_program.specs.Profile.{Profile}
@@ -37,17 +37,20 @@ pub ends_by_order : {State Cell : Type 0} (m : Meaning State Cell) (profile : Pr
     → ProgramEnds m profile (Ok words) input left before after status
 ends_by_order m profile words order input left before after Done ordered obeys =
     record { order = order; ordered = ordered; done = obeys }
+ends_by_order m profile words order input left before after (Ended served) ordered obeys =
+    record { order = order; ordered = ordered; done = obeys }
 ends_by_order m profile words order input left before after Failed ordered obeys = tt
+ends_by_order m profile words order input left before after (OutputFailed why) ordered obeys = tt
 ends_by_order m profile words order input left before after (WordsRefused said) ordered obeys = absurd obeys
 ends_by_order m profile words order input left before after WordsUnreadable ordered obeys = absurd obeys
-ends_by_order m profile words order input left before after FileUnreadable ordered obeys =
+ends_by_order m profile words order input left before after (FileUnreadable why) ordered obeys =
     serve_ordered profile.name _ order ordered obeys
 ends_by_order m profile words order input left before after (FileRefused fault) ordered obeys =
     serve_ordered profile.name _ order ordered obeys
-ends_by_order m profile words order input left before after (CannotBind port) ordered obeys =
+ends_by_order m profile words order input left before after (CannotBind port why) ordered obeys =
     serve_ordered profile.name _ order ordered obeys
 ends_by_order m profile words order input left before after Incomplete ordered obeys = absurd obeys
-ends_by_order m profile words order input left before after InputRefused ordered obeys =
+ends_by_order m profile words order input left before after (InputRefused place) ordered obeys =
     (replay_ordered profile.name _ order ordered obeys.0, obeys.1)
 ends_by_order m profile words order input left before after (BeginRefused said) ordered obeys = record {
   ordered = elim obeys.0 [

@@ -12,10 +12,11 @@ use Rattle.conn_file.specs.Connection.{connection_of}
 use Rattle.interp_core.specs.Interpreter.{Meaning}
 use Rattle.kernel_words.specs.declared.words.Order.{Order}
 use Rattle.kernel_words.specs.declared.words.Order.TheVariants.{Replay, Serve, KernelSpec, Help}
+use Rattle.kernel_serve.specs.declared.serving.Served.{Served}
 use Rattle.kernel_program.specs.declared.status.Status.{Status}
-use Rattle.kernel_program.specs.declared.status.Status.TheVariants.{Done, Failed, WordsRefused, WordsUnreadable}
-use Rattle.kernel_program.specs.declared.status.Status.TheVariants.{FileUnreadable, FileRefused, CannotBind}
-use Rattle.kernel_program.specs.declared.status.Status.TheVariants.{Incomplete, InputRefused, BeginRefused}
+use Rattle.kernel_program.specs.declared.status.Status.TheVariants.{Done, Ended, Failed, OutputFailed, WordsRefused}
+use Rattle.kernel_program.specs.declared.status.Status.TheVariants.{WordsUnreadable, FileUnreadable, FileRefused}
+use Rattle.kernel_program.specs.declared.status.Status.TheVariants.{CannotBind, Incomplete, InputRefused, BeginRefused}
 use Rattle.kernel_program.specs.Profile.{Profile}
 use Rattle.kernel_replay.specs.Replay.{IsNotHex, IsReplayed}
 use Rattle.kernel_words.specs.Words.{AreWrong, IsOrder, IsOrdered, order_of_words}
@@ -37,80 +38,107 @@ IsServe (Help text) = ⊥
 -- Why the octets of a connection file aren't served: they are no text, or the file is refused, or memory was wanting.
 abbrev pub JudgesFile : List ℕ → Status → Type 0
 JudgesFile octets Done = ⊥
+JudgesFile octets (Ended served) = ⊥
 JudgesFile octets Failed = ⊤
+JudgesFile octets (OutputFailed why) = ⊥
 JudgesFile octets (WordsRefused said) = ⊥
 JudgesFile octets WordsUnreadable = ⊥
-JudgesFile octets FileUnreadable = ¬ (IsUtf8 octets)
+JudgesFile octets (FileUnreadable why) = ¬ (IsUtf8 octets)
 JudgesFile octets (FileRefused fault) = connection_of octets ≡ Err fault
-JudgesFile octets (CannotBind port) = ⊥
+JudgesFile octets (CannotBind port why) = ⊥
 JudgesFile octets Incomplete = ⊥
-JudgesFile octets InputRefused = ⊥
+JudgesFile octets (InputRefused place) = ⊥
 JudgesFile octets (BeginRefused said) = ⊥
 
 -- How serving a connection may end. A kernel ended, and all that was published was taken. Or a port can't be bound. Or
 -- memory, a thread or random octets were wanting. Or there was no interpreter to begin with, for one of these reasons.
 abbrev pub EndsServing : (Text → Type 0) → Status → Type 0
-EndsServing Refuses Done = ⊤
+EndsServing Refuses Done = ⊥
+EndsServing Refuses (Ended served) = ⊤
 EndsServing Refuses Failed = ⊤
+EndsServing Refuses (OutputFailed why) = ⊥
 EndsServing Refuses (WordsRefused said) = ⊥
 EndsServing Refuses WordsUnreadable = ⊥
-EndsServing Refuses FileUnreadable = ⊥
+EndsServing Refuses (FileUnreadable why) = ⊥
 EndsServing Refuses (FileRefused fault) = ⊥
-EndsServing Refuses (CannotBind port) = ⊤
+EndsServing Refuses (CannotBind port why) = ⊤
 EndsServing Refuses Incomplete = ⊥
-EndsServing Refuses InputRefused = ⊥
+EndsServing Refuses (InputRefused place) = ⊥
 EndsServing Refuses (BeginRefused said) = Refuses said
+
+-- how a kernel served, if one served and ended
+abbrev pub IfEnded : Status → (Served → Type 0) → Type 0
+IfEnded Done How = ⊤
+IfEnded (Ended served) How = How served
+IfEnded Failed How = ⊤
+IfEnded (OutputFailed why) How = ⊤
+IfEnded (WordsRefused said) How = ⊤
+IfEnded WordsUnreadable How = ⊤
+IfEnded (FileUnreadable why) How = ⊤
+IfEnded (FileRefused fault) How = ⊤
+IfEnded (CannotBind port why) How = ⊤
+IfEnded Incomplete How = ⊤
+IfEnded (InputRefused place) How = ⊤
+IfEnded (BeginRefused said) How = ⊤
 
 -- how it may end if a file is to be served: so as above, or the file can't be read, or it is refused
 abbrev pub EndsServe : (Text → Type 0) → Status → Type 0
-EndsServe Refuses Done = ⊤
+EndsServe Refuses Done = ⊥
+EndsServe Refuses (Ended served) = ⊤
 EndsServe Refuses Failed = ⊤
+EndsServe Refuses (OutputFailed why) = ⊥
 EndsServe Refuses (WordsRefused said) = ⊥
 EndsServe Refuses WordsUnreadable = ⊥
-EndsServe Refuses FileUnreadable = ⊤
+EndsServe Refuses (FileUnreadable why) = ⊤
 EndsServe Refuses (FileRefused fault) = ⊤
-EndsServe Refuses (CannotBind port) = ⊤
+EndsServe Refuses (CannotBind port why) = ⊤
 EndsServe Refuses Incomplete = ⊥
-EndsServe Refuses InputRefused = ⊥
+EndsServe Refuses (InputRefused place) = ⊥
 EndsServe Refuses (BeginRefused said) = Refuses said
 
 -- how it may end if a text is to be printed: that was done, or writing failed
 abbrev pub EndsPrint : Status → Type 0
 EndsPrint Done = ⊤
+EndsPrint (Ended served) = ⊥
 EndsPrint Failed = ⊤
+EndsPrint (OutputFailed why) = ⊤
 EndsPrint (WordsRefused said) = ⊥
 EndsPrint WordsUnreadable = ⊥
-EndsPrint FileUnreadable = ⊥
+EndsPrint (FileUnreadable why) = ⊥
 EndsPrint (FileRefused fault) = ⊥
-EndsPrint (CannotBind port) = ⊥
+EndsPrint (CannotBind port why) = ⊥
 EndsPrint Incomplete = ⊥
-EndsPrint InputRefused = ⊥
+EndsPrint (InputRefused place) = ⊥
 EndsPrint (BeginRefused said) = ⊥
 
 -- with such a status the program ends before anything is printed
 abbrev pub PrintsNothing : Status → Type 0
 PrintsNothing Done = ⊥
+PrintsNothing (Ended served) = ⊤
 PrintsNothing Failed = ⊥
+PrintsNothing (OutputFailed why) = ⊥
 PrintsNothing (WordsRefused said) = ⊤
 PrintsNothing WordsUnreadable = ⊤
-PrintsNothing FileUnreadable = ⊤
+PrintsNothing (FileUnreadable why) = ⊤
 PrintsNothing (FileRefused fault) = ⊤
-PrintsNothing (CannotBind port) = ⊤
+PrintsNothing (CannotBind port why) = ⊤
 PrintsNothing Incomplete = ⊤
-PrintsNothing InputRefused = ⊤
+PrintsNothing (InputRefused place) = ⊤
 PrintsNothing (BeginRefused said) = ⊤
 
 -- with such a status the language refused to begin
 abbrev pub IsUnbegun : Status → Type 0
 IsUnbegun Done = ⊥
+IsUnbegun (Ended served) = ⊥
 IsUnbegun Failed = ⊥
+IsUnbegun (OutputFailed why) = ⊥
 IsUnbegun (WordsRefused said) = ⊥
 IsUnbegun WordsUnreadable = ⊥
-IsUnbegun FileUnreadable = ⊥
+IsUnbegun (FileUnreadable why) = ⊥
 IsUnbegun (FileRefused fault) = ⊥
-IsUnbegun (CannotBind port) = ⊥
+IsUnbegun (CannotBind port why) = ⊥
 IsUnbegun Incomplete = ⊥
-IsUnbegun InputRefused = ⊥
+IsUnbegun (InputRefused place) = ⊥
 IsUnbegun (BeginRefused said) = ⊤
 
 -- command words as the system gives them: texts, or the error of reading them
@@ -174,39 +202,45 @@ module _ {State Cell : Type 0} (m : Meaning State Cell) (profile : Profile State
   abbrev pub EndsReplay : List ℕ → Option (List ℕ) → Option (List ℕ) → Option (List ℕ) → Option (List ℕ) → Status
       → Type 0
   EndsReplay key input left before after Done = IsReplayedFromBegun key input left before after
+  EndsReplay key input left before after (Ended served) = ⊥
   EndsReplay key input left before after Failed = ⊤
+  EndsReplay key input left before after (OutputFailed why) = ⊤
   EndsReplay key input left before after (WordsRefused said) = ⊥
   EndsReplay key input left before after WordsUnreadable = ⊥
-  EndsReplay key input left before after FileUnreadable = ⊥
+  EndsReplay key input left before after (FileUnreadable why) = ⊥
   EndsReplay key input left before after (FileRefused fault) = ⊥
-  EndsReplay key input left before after (CannotBind port) = ⊥
+  EndsReplay key input left before after (CannotBind port why) = ⊥
   EndsReplay key input left before after Incomplete = ⊥
-  EndsReplay key input left before after InputRefused = IsNotHex input
+  EndsReplay key input left before after (InputRefused place) = IsNotHex input
   EndsReplay key input left before after (BeginRefused said) = profile.Refuses said
 
   -- what each status says of an order, with what the reader and the writer hold before and after
   abbrev pub Obeys : Order → Option (List ℕ) → Option (List ℕ) → Option (List ℕ) → Option (List ℕ) → Status → Type 0
   Obeys order input left before after Done = IsCarriedOut order input left before after
+  Obeys order input left before after (Ended served) = IsCarriedOut order input left before after
   Obeys order input left before after Failed = ⊤
+  Obeys order input left before after (OutputFailed why) = ⊤
   Obeys order input left before after (WordsRefused said) = ⊥
   Obeys order input left before after WordsUnreadable = ⊥
-  Obeys order input left before after FileUnreadable = IsServe order
+  Obeys order input left before after (FileUnreadable why) = IsServe order
   Obeys order input left before after (FileRefused fault) = IsServe order
-  Obeys order input left before after (CannotBind port) = IsServe order
+  Obeys order input left before after (CannotBind port why) = IsServe order
   Obeys order input left before after Incomplete = ⊥
-  Obeys order input left before after InputRefused = IsReplay order × IsNotHex input
+  Obeys order input left before after (InputRefused place) = IsReplay order × IsNotHex input
   Obeys order input left before after (BeginRefused said) = (IsServe order ⊎ IsReplay order) × profile.Refuses said
 
   -- what each status says of the command words, with what the reader and the writer hold before and after
   abbrev pub ProgramEnds : GivenWords → Option (List ℕ) → Option (List ℕ) → Option (List ℕ) → Option (List ℕ) → Status
       → Type 0
   ProgramEnds words input left before after Done = DoesOrder words input left before after
+  ProgramEnds words input left before after (Ended served) = DoesOrder words input left before after
   ProgramEnds words input left before after Failed = ⊤
+  ProgramEnds words input left before after (OutputFailed why) = ⊤
   ProgramEnds words input left before after (WordsRefused said) = RefusesWords profile.name words
   ProgramEnds words input left before after WordsUnreadable = RefusesWords profile.name words
-  ProgramEnds words input left before after FileUnreadable = OrdersServe profile.name words
+  ProgramEnds words input left before after (FileUnreadable why) = OrdersServe profile.name words
   ProgramEnds words input left before after (FileRefused fault) = OrdersServe profile.name words
-  ProgramEnds words input left before after (CannotBind port) = OrdersServe profile.name words
+  ProgramEnds words input left before after (CannotBind port why) = OrdersServe profile.name words
   ProgramEnds words input left before after Incomplete = ⊥
-  ProgramEnds words input left before after InputRefused = RefusesInput profile.name words input
+  ProgramEnds words input left before after (InputRefused place) = RefusesInput profile.name words input
   ProgramEnds words input left before after (BeginRefused said) = RefusesToBegin profile words

@@ -5,6 +5,7 @@
 mod language;
 mod laws;
 mod program;
+mod reason;
 mod replay;
 mod serving;
 mod starting;

@@ -4,13 +4,14 @@ ghost use Rattle.std.specs.Prelude.{◌≡◌, ◌++◌, ◌⊎◌, [], ◌∷�
 ghost use Rattle.std.specs.Io.KnownBytes.{Appends};
 ghost use Rattle.std.specs.declared.io.ErrorKind.TheVariants.{InvalidData};
 ghost use Rattle.kernel_program.specs.Program.{DoesOrder, ProgramEnds, EndsPrint, EndsReplay, IsReplay, PrintsNothing};
-ghost use Rattle.kernel_program.specs.Program.{IsUnbegun};
+ghost use Rattle.kernel_program.specs.Program.{IfEnded, IsUnbegun};
 ghost use Rattle.kernel_program.specs.Program.{Obeys, OrdersReplay, OrdersServe, RefusesInput, RefusesToBegin};
 ghost use Rattle.kernel_program.specs.Program.{RefusesWords};
 ghost use Rattle.kernel_program.specs.Status.{begin_status, status_code};
 ghost use Rattle.kernel_words.specs.Words.{IsOrdered, IsRefusedBy};
 
 use crate::language::{BeginFault, Language};
+use crate::reason::Reason;
 use crate::replay::replay;
 use crate::serving::serve;
 use crate::status::{Status, tell_status};
@@ -131,6 +132,7 @@ where
     ensures silent { PrintsNothing result → writer.new ≡ writer.old }
     ensures unread { IsUnbegun result → reader.new ≡ reader.old }
     ensures reader { OrdersReplay (L.profile language.now).name words.now ⊎ (reader.new ≡ reader.old) }
+    ensures until { IfEnded result (λ served. served.until.value ≡ until) }
 {
     match words {
         Ok(words) => run_words(rt, alloc, language, words, until, reader, writer, faults),
@@ -179,6 +181,7 @@ where
     ensures silent { PrintsNothing result → writer.new ≡ writer.old }
     ensures unread { IsUnbegun result → reader.new ≡ reader.old }
     ensures reader { OrdersReplay (L.profile language.now).name (Ok words.now) ⊎ (reader.new ≡ reader.old) }
+    ensures until { IfEnded result (λ served. served.until.value ≡ until) }
 {
     match words_of(alloc, language, words) {
         Ok(order) => obey(rt, alloc, language, order, until, reader, writer, faults),
@@ -234,6 +237,8 @@ where
     ensures silent { PrintsNothing result → writer.new ≡ writer.old }
     ensures unread { IsUnbegun result → reader.new ≡ reader.old }
     ensures reader { IsReplay order ⊎ (reader.new ≡ reader.old) }
+    // A kernel looked after what it was to end with.
+    ensures until { IfEnded result (λ served. served.until.value ≡ until) }
 {
     match order {
         Order::Replay(key) => replay_begun(alloc, language, reader, writer, key),
@@ -312,6 +317,6 @@ fn print<W: Write>(writer: &mut W, text: &str, end: &str) -> Status
     };
     match written {
         Ok(()) => Status::Done,
-        Err(_) => Status::Failed,
+        Err(error) => Status::OutputFailed(Reason::of_write(error)),
     }
 }

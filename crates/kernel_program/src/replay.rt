@@ -3,12 +3,14 @@
 ghost use Rattle.std.specs.Prelude.{◌≡◌, ◌⊎◌, None, IfSome};
 ghost use Rattle.kernel_replay.specs.Lines.{hex_octets};
 ghost use Rattle.kernel_replay.specs.Replay.{IsNotHex, IsReplayed};
+ghost use Rattle.kernel_program.specs.Program.{PrintsNothing};
 ghost use Rattle.kernel_program.specs.Replay.{EndsAnswer, Replays};
 ghost use Rattle.kernel_program.specs.Status.{unread_status};
 
+use crate::reason::Reason;
 use crate::status::Status;
 use interp_core::Interpreter;
-use kernel_replay::{HexFault, answer_octets, read_octets, write_out};
+use kernel_replay::{HexFault, answer_octets, read_hex, write_out};
 use std::alloc::Global;
 use std::io::{Read, Write};
 
@@ -56,24 +58,24 @@ pub(crate) fn replay<I: Interpreter + Drop, R: Read, W: Write>(
 ) -> Status
     ensures replays { Replays I.meaning interp key.items (R.remaining reader.old) (R.remaining reader.new)
         (W.contents writer.old) (W.contents writer.new) result }
-    ensures same { result ≡ Status.InputRefused → writer.new ≡ writer.old }
+    ensures same { PrintsNothing result → writer.new ≡ writer.old }
 {
-    match read_octets(alloc, reader) {
+    match read_hex(alloc, reader) {
         Ok(octets) => print_answer(alloc, interp, &octets, writer, key),
-        Err(fault) => {
+        Err(refusal) => {
             drop(interp);
             drop(key);
-            unread(fault)
+            unread(refusal.fault, refusal.place)
         }
     }
 }
 
-/// How the program ends without the octets of a replay.
-fn unread(fault: HexFault) -> Status
-    ensures { result ≡ unread_status fault }
+/// How the program ends without the octets of a replay, whose text breaks off at this place.
+fn unread(fault: HexFault, place: Option<usize>) -> Status
+    ensures { result ≡ unread_status fault place }
 {
     match fault {
-        HexFault::NotHex => Status::InputRefused,
+        HexFault::NotHex => Status::InputRefused(place),
         HexFault::Failed => Status::Failed,
     }
 }
@@ -91,7 +93,7 @@ fn print_answer<I: Interpreter + Drop, W: Write>(
     match answer_octets(alloc, interp, key, octets) {
         Ok(text) => match write_out(writer, &text) {
             Ok(()) => Status::Done,
-            Err(_) => Status::Failed,
+            Err(error) => Status::OutputFailed(Reason::of_write(error)),
         },
         Err(fault) => {
             drop(fault);

@@ -2,11 +2,13 @@
 
 ghost use Rattle.std.specs.Prelude.{◌≡◌, ◌⊎◌, Ok, IfOk, IfErr};
 ghost use Rattle.conn_file.specs.Connection.{connection_of};
+ghost use Rattle.kernel_program.specs.declared.reason.Reason.{Reason};
 ghost use Rattle.kernel_program.specs.Profile.{IsRefusal};
-ghost use Rattle.kernel_program.specs.Program.{EndsServe, EndsServing, JudgesFile};
+ghost use Rattle.kernel_program.specs.Program.{EndsServe, EndsServing, IfEnded, JudgesFile};
 
 use crate::language::{BeginFault, Language};
 use crate::program::not_begun;
+use crate::reason::Reason;
 use crate::status::{Status, tell_line};
 use conn_file::{ConnFault, Connection, read_connection};
 use interp_core::Interpreter;
@@ -47,7 +49,8 @@ where
         + Sync
         + Drop
         + 'static,
-    ensures { EndsServe (L.profile language.now).Refuses result }
+    ensures ends { EndsServe (L.profile language.now).Refuses result }
+    ensures until { IfEnded result (λ served. served.until.value ≡ until) }
 {
     let status = serve_file(rt, alloc, language, file.as_str(), until, faults);
     drop(file);
@@ -78,7 +81,8 @@ where
         + Sync
         + Drop
         + 'static,
-    ensures { EndsServe (L.profile language.now).Refuses result }
+    ensures ends { EndsServe (L.profile language.now).Refuses result }
+    ensures until { IfEnded result (λ served. served.until.value ≡ until) }
 {
     match read_file(rt, path) {
         Ok(octets) => {
@@ -112,7 +116,13 @@ where
         + Sync
         + Drop
         + 'static,
-    ensures { EndsServing (L.profile language.now).Refuses result ⊎ JudgesFile octets.now result }
+    ensures ends { EndsServing (L.profile language.now).Refuses result ⊎ JudgesFile octets.now result }
+
+    // The ports were those of the file, and so was the key.
+    ensures connection { IfEnded result (λ served. connection_of octets.now ≡ Ok served.connection.value) }
+    ensures key { IfEnded result (λ served. served.key.value.items ≡ served.connection.value.key) }
+
+    ensures until { IfEnded result (λ served. served.until.value ≡ until) }
 {
     match judge(alloc, octets) {
         Ok(connection) => {
@@ -141,11 +151,11 @@ fn read_file<E: Files + Alloc>(rt: &E, path: &str) -> Result<Vec<u8, E::A>, Erro
 
 /// How the program ends if a connection file can't be read.
 fn unread(kind: ErrorKind) -> Status
-    ensures { (result ≡ Status.Failed) ⊎ (result ≡ Status.FileUnreadable) }
+    ensures { (result ≡ Status.Failed) ⊎ ((why : Reason) × (result ≡ Status.FileUnreadable why)) }
 {
     match kind {
         ErrorKind::OutOfMemory => Status::Failed,
-        _ => Status::FileUnreadable,
+        kind => Status::FileUnreadable(Reason::of_kind(kind)),
     }
 }
 
@@ -159,7 +169,7 @@ pub(crate) fn judge(alloc: Global, octets: &[u8]) -> Result<Connection, Status>
     ensures refused { IfErr result (JudgesFile octets.now) }
 {
     let Ok(text) = str::from_utf8(octets) else {
-        return Err(Status::FileUnreadable);
+        return Err(Status::FileUnreadable(Reason::NotUtf8));
     };
     match read_connection(alloc, text) {
         Ok(connection) => Ok(connection),
@@ -189,7 +199,10 @@ where
         + Sync
         + Drop
         + 'static,
-    ensures { EndsServing (L.profile language.now).Refuses result }
+    ensures ends { EndsServing (L.profile language.now).Refuses result }
+    ensures connection { IfEnded result (λ served. served.connection.value ≡ connection) }
+    ensures key { IfEnded result (λ served. served.key.value.items ≡ connection.key) }
+    ensures until { IfEnded result (λ served. served.until.value ≡ until) }
 {
     match begin(alloc, language) {
         Ok(interpreters) => serve_on(rt, alloc, connection, interpreters, until),
@@ -242,11 +255,15 @@ where
         + Sync
         + Drop
         + 'static,
-    ensures { EndsServing (λ _. ⊥) result }
+    ensures ends { EndsServing (λ _. ⊥) result }
+    ensures connection { IfEnded result (λ served. served.connection.value ≡ connection) }
+    ensures key { IfEnded result (λ served. served.key.value.items ≡ connection.key) }
+    ensures until { IfEnded result (λ served. served.until.value ≡ until) }
 {
     match kernel_serve::serve(rt, alloc, connection, interpreters, until) {
-        Ok(served) => Status::of_end(served.complete),
-        Err(ServeFault::CannotBind(port)) => Status::CannotBind(port),
+        Ok(served) => Status::of_end(served),
+        Err(ServeFault::Refused(port, kind)) => Status::CannotBind(port, Reason::of_kind(kind)),
+        Err(ServeFault::CannotBind(port)) => Status::CannotBind(port, Reason::Another),
         Err(ServeFault::NoThread | ServeFault::NoRandomness | ServeFault::OutOfMemory) => {
             Status::Failed
         }

@@ -2,12 +2,13 @@
 
 use crate::language::Language;
 use crate::program::run;
+use crate::status::tell_line;
 use interp_core::Interpreter;
 use kernel_limits::looked_after;
 use kernel_serve::Until;
 use std::env::{Env, VarError};
 use std::fs::Files;
-use std::io::{self, Write};
+use std::io::{self, Input, IsTerminal, Write};
 use std::net::{Net, TcpListener, TcpStream};
 use std::os::unix::process::parent_id;
 use std::process::ExitCode;
@@ -25,6 +26,7 @@ pub fn start<L, E, F: Write>(rt: &E, process: Process, faults: &mut F, language:
 where
     L: Language,
     <L::Interp as Interpreter>::Cell: Drop + Send + 'static,
+    <E as Input>::Reader: IsTerminal,
     E: Env
         + Files
         + AllocGlobal
@@ -55,6 +57,7 @@ pub fn start_on<L, E, F: Write>(
 where
     L: Language,
     <L::Interp as Interpreter>::Cell: Drop + Send + 'static,
+    <E as Input>::Reader: IsTerminal,
     E: Env
         + Files
         + AllocGlobal
@@ -71,17 +74,32 @@ where
         + Drop
         + 'static,
 {
+    let mut reader = rt.reader();
+    if reader.is_terminal() && matches!(words, Ok(words) if words.is_empty()) {
+        tell_of_terminal(language.name(), faults);
+    }
     let code = run(
         rt,
         rt.alloc(),
         language,
         words,
         runs_until(rt, process),
-        &mut rt.reader(),
+        &mut reader,
         &mut io::writer(rt),
         faults,
     );
     ExitCode::from(code)
+}
+
+/// Tells a person who gave the program of this name no words what it waits for.
+fn tell_of_terminal<F: Write>(name: &str, faults: &mut F) {
+    // If even this fails there is nobody left to tell.
+    let _ = tell_line(
+        faults,
+        name,
+        "waits for a replay's hexadecimal digits, and then Ctrl-D; ",
+        "the word --help tells what else there is",
+    );
 }
 
 /// The command words after the program's name.

@@ -1,7 +1,7 @@
 -- The hexadecimal text that is read, and the three lines that are printed.
 use Rattle.std.specs.Prelude.{ℕ, List, [], ◌∷◌, ◌++◌, Bool, not, ◌||◌, ◌==◌, Option, codes, decimal, filter}
 use Rattle.std.specs.Result.{result_ok}
-use Rattle.hex.specs.Hex.{decode_of, encode_lower}
+use Rattle.hex.specs.Hex.{decode_of, encode_lower, is_hex_digit}
 use Rattle.iopub_event.specs.declared.event.Event.{Event}
 use Rattle.iopub_event.specs.declared.event.Event.TheVariants.{Message, Attach, Subscribe, Cancel, Pong, Detach}
 use Rattle.zmtp_wire.specs.Frame.{text}
@@ -17,6 +17,10 @@ use Rattle.zmtp_connection.specs.declared.end.Ending.TheVariants.{Connection, Ho
 -- Whether an octet is ASCII white space: a tab, a line feed, a form feed, a carriage return or a space.
 abbrev pub is_white_space : ℕ → Bool
 is_white_space octet = octet == 9 || octet == 10 || octet == 12 || octet == 13 || octet == 32
+
+-- Whether an octet is neither a hexadecimal digit nor ASCII white space.
+abbrev pub is_stray : ℕ → Bool
+is_stray octet = not (is_white_space octet || is_hex_digit octet)
 
 -- A text with its white space taken out.
 abbrev pub without_white_space : List ℕ → List ℕ

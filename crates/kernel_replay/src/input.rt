@@ -1,9 +1,9 @@
 //! Reading what a peer sends: all of an input, and the octets that its hexadecimal text spells.
 
 ghost use Rattle.std.specs.Prelude.{◌≡◌, ◌↔◌, ◌%◌, ◌++◌, [], length, IsTrue, IfOk, IfSome, IsErrOf, OnOk};
-ghost use Rattle.std.specs.List.{AllPass};
+ghost use Rattle.std.specs.List.{AllPass, position};
 ghost use Rattle.hex.specs.Hex.{is_hex_digit};
-ghost use Rattle.kernel_replay.specs.Lines.{hex_octets, is_white_space, without_white_space};
+ghost use Rattle.kernel_replay.specs.Lines.{hex_octets, is_stray, is_white_space, without_white_space};
 
 use std::alloc::Global;
 use std::io::{self, ErrorKind, Read};
@@ -24,6 +24,16 @@ pub enum HexFault {
     NotHex,
     /// It couldn't be read, or there was no memory for the octets.
     Failed,
+}
+
+/// Why an input gave no octets, and where.
+#[derive(Clone, Copy, Debug, PartialEq, Eq)]
+pub struct HexRefusal {
+    /// Why.
+    pub fault: HexFault,
+    /// If the text is no even number of digits: at which place, from 0 on, the first octet stands that is
+    /// neither a digit nor white space. If there is none, a digit is missing at the end.
+    pub place: Option<usize>,
 }
 
 /// All that the reader has left. A read that is interrupted is made again. It fails if a read fails, or if the end
@@ -70,6 +80,20 @@ fn is_white_space(octet: u8) -> bool
     ensures { result ≡ is_white_space octet }
 {
     matches!(octet, b'\t' | b'\n' | 0x0C | b'\r' | b' ')
+}
+
+/// Whether an octet is neither a hexadecimal digit nor white space.
+fn is_stray(octet: u8) -> bool
+    ensures { result ≡ is_stray octet }
+{
+    !is_white_space(octet) && !octet.is_ascii_hexdigit()
+}
+
+/// The place of the first octet of a text that is neither a hexadecimal digit nor white space.
+pub(crate) fn stray_at(text: &[u8]) -> Option<usize>
+    ensures { result ≡ position is_stray text.now }
+{
+    text.iter().position(|octet| is_stray(*octet))
 }
 
 /// Whether a text is an even number of hexadecimal digits.

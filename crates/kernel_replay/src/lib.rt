@@ -7,7 +7,7 @@ mod lines;
 mod replay;
 mod stamp;
 
-pub use input::HexFault;
+pub use input::{HexFault, HexRefusal};
 pub use laws::law_one_text;
 pub use lines::write_out;
-pub use replay::{ReplayFault, answer_octets, answer_peer, read_octets};
+pub use replay::{ReplayFault, answer_octets, answer_peer, read_hex, read_octets};

@@ -1,15 +1,16 @@
 //! A replay: the octets that a peer sends come as hexadecimal text, and the kernel makes three lines of them.
 
 ghost use Rattle.std.specs.Prelude.{◌≡◌, [], Some, IfOk, IfErr, IfSome, OnOk, ◌++◌, map};
-ghost use Rattle.std.specs.List.{flat_map};
+ghost use Rattle.std.specs.List.{flat_map, position};
 ghost use Rattle.iopub_queue.specs.Sink.{list_sink};
 ghost use Rattle.kernel_session.specs.Laws.{SessionIsSettled};
 ghost use Rattle.kernel_session.specs.Work.{all_items};
-ghost use Rattle.kernel_replay.specs.Lines.{ending_text, ending_words, event_text, hex_octets, printed_lines};
+ghost use Rattle.kernel_replay.specs.Lines.{ending_text, ending_words, event_text, hex_octets, is_stray};
+ghost use Rattle.kernel_replay.specs.Lines.{printed_lines};
 ghost use Rattle.kernel_replay.specs.Session.{begun_engine};
 ghost use Rattle.kernel_replay.specs.Replay.{IsNotHex, PrintsAll, PrintsPeer};
 
-use crate::input::{HexFault, octets_of, read_all};
+use crate::input::{HexFault, HexRefusal, octets_of, read_all, stray_at};
 use crate::lines::{PrintedEnd, lines_text};
 use crate::stamp::ReplayStamp;
 use interp_core::Interpreter;
@@ -60,10 +61,35 @@ pub fn read_octets<R: Read>(alloc: Global, reader: &mut R) -> Result<Vec<u8>, He
         (R.remaining reader.new ≡ Some []) × (hex_octets input ≡ Some octets.items))) }
     ensures err { IfErr result (λ fault. fault ≡ HexFault.NotHex → IsNotHex (R.remaining reader.old)) }
 {
+    match read_hex(alloc, reader) {
+        Ok(octets) => Ok(octets),
+        Err(refusal) => Err(refusal.fault),
+    }
+}
+
+/// As `read_octets`, and says of a text that spells none where it breaks off.
+///
+/// # Errors
+///
+/// `NotHex` with the place, and `Failed`.
+pub fn read_hex<R: Read>(alloc: Global, reader: &mut R) -> Result<Vec<u8>, HexRefusal>
+    ensures ok { IfOk result (λ octets. IfSome (R.remaining reader.old) (λ input.
+        (R.remaining reader.new ≡ Some []) × (hex_octets input ≡ Some octets.items))) }
+    ensures err { IfErr result (λ refusal. refusal.fault ≡ HexFault.NotHex → IsNotHex (R.remaining reader.old)) }
+    ensures place { IfErr result (λ refusal. refusal.fault ≡ HexFault.NotHex
+        → IfSome (R.remaining reader.old) (λ input. refusal.place ≡ position is_stray input)) }
+{
     let Ok(text) = read_all(alloc, reader) else {
-        return Err(HexFault::Failed);
+        return Err(HexRefusal {
+            fault: HexFault::Failed,
+            place: None,
+        });
     };
-    octets_of(alloc, text)
+    let place = stray_at(&text);
+    match octets_of(alloc, text) {
+        Ok(octets) => Ok(octets),
+        Err(fault) => Err(HexRefusal { fault, place }),
+    }
 }
 
 /// The lines of the session with a peer that sends these octets.

@@ -5,6 +5,7 @@ ghost use Rattle.kernel_serve.specs.Serving.{port_name};
 
 use kernel_workers::KernelFault;
 use std::alloc::{AllocError, AllocFailed};
+use std::io::ErrorKind;
 use thiserror::Error;
 
 /// A port of a kernel.
@@ -37,8 +38,12 @@ impl Port {
 /// Why a kernel doesn't serve.
 #[derive(Clone, Copy, Debug, Error, PartialEq, Eq)]
 pub enum ServeFault {
-    /// A port can't be bound: the first one, in the order shell, iopub, control, heartbeat.
+    /// The system refuses to bind a port, for a reason of this kind. It is the first such port, in the order shell,
+    /// iopub, control, heartbeat.
     #[error("a port can't be bound")]
+    Refused(Port, ErrorKind),
+    /// The system doesn't say where a port listens.
+    #[error("it isn't known where a port listens")]
     CannotBind(Port),
     /// No thread can be made.
     #[error("no thread can be made")]

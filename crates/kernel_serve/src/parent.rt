@@ -1,11 +1,14 @@
 //! Until when a kernel runs, and the thread that looks after its parent.
 
+ghost use Rattle.std.specs.Prelude.{◌≡◌, IfOk};
+
 use crate::fault::ServeFault;
 use crossbeam_channel::{Receiver, RecvTimeoutError, Sender, unbounded};
 use kernel_jobs::{Job, Note};
 use std::alloc::Global;
 use std::os::unix::process::parent_id;
 use std::rt::Process;
+use std::snapshot::Snapshot;
 use std::sync::Wait;
 use std::thread;
 use std::thread::{JoinHandle, Threads};
@@ -42,7 +45,8 @@ impl Watch {
     }
 }
 
-/// Starts to look after the parent, if that is asked for. Once it changed, control is told to end.
+/// Starts to look after the parent, if that is asked for. Once it changed, control is told to end. Beside
+/// that stands what is looked after, which contracts alone see.
 ///
 /// # Errors
 ///
@@ -52,20 +56,22 @@ pub(crate) fn start_watch<R>(
     alloc: Global,
     until: Until,
     control: &Sender<Note<Job>>,
-) -> Result<Option<Watch>, ServeFault>
+) -> Result<(Option<Watch>, Snapshot<Until>), ServeFault>
 where
     R: Threads + Wait + Clock + Copy + Send + Sync + Drop + 'static,
+    ensures { IfOk result (λ started. started.1.value ≡ until) }
 {
     let Until::ParentChanges(process, parent) = until else {
-        return Ok(None);
+        return Ok((None, Snapshot::of(&Until::Asked)));
     };
     let control = control.clone()?;
     let Ok((ending, ended)) = unbounded(alloc) else {
         drop(control);
         return Err(ServeFault::OutOfMemory);
     };
+    let until = Snapshot::of(&Until::ParentChanges(process, parent));
     match thread::spawn(&rt, move || look(&rt, process, parent, &control, &ended)) {
-        Ok(thread) => Ok(Some(Watch { ending, thread })),
+        Ok(thread) => Ok((Some(Watch { ending, thread }), until)),
         Err(error) => {
             drop(error);
             drop(ending);

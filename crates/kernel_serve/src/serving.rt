@@ -1,12 +1,12 @@
 //! Serving a connection file: the ports, the kernel that answers on them, and their end.
 
-ghost use Rattle.std.specs.Prelude.{◌≡◌, ◌∷◌, ◌++◌, IfOk, IfSome, true, string_bytes};
+ghost use Rattle.std.specs.Prelude.{◌≡◌, ◌∷◌, ◌++◌, Err, IfErr, IfOk, IfSome, true, string_bytes};
 ghost use Rattle.kernel_serve.specs.Stamps.{AreApart};
 
 use crate::ending::{Acceptor, end_all, start};
 use crate::fault::{Port, ServeFault};
 use crate::parent::{Until, start_watch};
-use crate::ports::{Ports, bind_ports};
+use crate::ports::{Bound, Ports, bind_ports};
 use conn_file::Connection;
 use crossbeam_channel::Sender;
 use interp_core::Interpreter;
@@ -35,8 +35,12 @@ const ID_LENGTH: usize = 36;
 pub struct Served {
     /// Whether all that was published was taken.
     pub complete: bool,
-    /// The key that it ran with, which contracts alone see.
+    /// The key that it ran with, which contracts alone see, as they do what follows.
     pub key: Snapshot<Vec<u8>>,
+    /// The connection whose ports it served.
+    pub connection: Snapshot<Connection>,
+    /// Until when it ran.
+    pub until: Snapshot<Until>,
 }
 
 /// The interpreters that a kernel runs on, each with cells and a state of its own.
@@ -66,8 +70,9 @@ type KernelParts<I, R> = Parts<I, KernelStamp<R>, Writer<R>>;
 ///
 /// # Errors
 ///
-/// `CannotBind` with the first port that can't be bound, in the order shell, iopub, control, heartbeat; `NoThread`,
-/// `NoRandomness` or `OutOfMemory` if the system gives none.
+/// `Refused` with the first port that can't be bound, in the order shell, iopub, control, heartbeat;
+/// `CannotBind` if the system doesn't say where one listens; `NoThread`, `NoRandomness` or `OutOfMemory`
+/// if it gives none.
 pub fn serve<I, R>(
     rt: R,
     alloc: Global,
@@ -93,6 +98,12 @@ where
 
     // It ran with the file's key.
     ensures key { IfOk result (λ served. served.key.value.items ≡ connection.key) }
+
+    // Its ports are the file's.
+    ensures connection { IfOk result (λ served. served.connection.value ≡ connection) }
+
+    // What it was to end with was looked after.
+    ensures until { IfOk result (λ served. served.until.value ≡ until) }
 {
     let bound = bind_ports(&rt, &connection);
     let key = key_of(connection);
@@ -152,6 +163,8 @@ where
         + 'static,
     ensures complete { IfOk result (λ served. served.complete ≡ true) }
     ensures key { IfOk result (λ served. served.key.value.items ≡ core.key.items) }
+    ensures connection { IfOk result (λ served. served.connection.value ≡ ports.connection.value) }
+    ensures until { IfOk result (λ served. served.until.value ≡ until) }
 {
     match stage_of(rt, alloc, core) {
         Ok(stage) => serve_stage(rt, alloc, ports, stage, until),
@@ -188,6 +201,8 @@ where
         + 'static,
     ensures complete { IfOk result (λ served. served.complete ≡ true) }
     ensures key { IfOk result (λ served. served.key.value.items ≡ stage.parts.key.items) }
+    ensures connection { IfOk result (λ served. served.connection.value ≡ ports.connection.value) }
+    ensures until { IfOk result (λ served. served.until.value ≡ until) }
 {
     let mut acceptors = Vec::new(alloc);
     let accepts = stage.round().accept_on(rt, alloc, ports, &mut acceptors);
@@ -203,7 +218,7 @@ where
     served
 }
 
-/// Runs the kernel if its ports accept connections.
+/// Runs the kernel if the ports of a connection accept peers.
 ///
 /// # Errors
 ///
@@ -213,7 +228,7 @@ fn run_accepted<I, R>(
     alloc: Global,
     parts: KernelParts<I, R>,
     until: Until,
-    accepts: Result<(), ServeFault>,
+    accepts: Result<Snapshot<Connection>, ServeFault>,
 ) -> Result<Served, ServeFault>
 where
     I: Interpreter + Drop + Send + 'static,
@@ -221,9 +236,13 @@ where
     R: Threads + Wait + Clock + Copy + Send + Sync + Drop + 'static,
     ensures complete { IfOk result (λ served. served.complete ≡ true) }
     ensures key { IfOk result (λ served. served.key.value.items ≡ parts.key.items) }
+    ensures connection { IfOk result (λ served. IfOk accepts (λ connection.
+        served.connection.value ≡ connection.value)) }
+    ensures until { IfOk result (λ served. served.until.value ≡ until) }
+    ensures refused { IfErr accepts (λ fault. result ≡ Err fault) }
 {
     match accepts {
-        Ok(()) => run_until(rt, alloc, parts, until),
+        Ok(connection) => run_until(rt, alloc, parts, connection, until),
         Err(fault) => {
             drop(parts);
             Err(fault)
@@ -240,6 +259,7 @@ fn run_until<I, R>(
     rt: R,
     alloc: Global,
     parts: KernelParts<I, R>,
+    connection: Snapshot<Connection>,
     until: Until,
 ) -> Result<Served, ServeFault>
 where
@@ -248,33 +268,45 @@ where
     R: Threads + Wait + Clock + Copy + Send + Sync + Drop + 'static,
     ensures complete { IfOk result (λ served. served.complete ≡ true) }
     ensures key { IfOk result (λ served. served.key.value.items ≡ parts.key.items) }
+    ensures connection { IfOk result (λ served. served.connection.value ≡ connection.value) }
+    ensures until { IfOk result (λ served. served.until.value ≡ until) }
 {
-    let watch = match start_watch(rt, alloc, until, &parts.control_in.to) {
-        Ok(watch) => watch,
+    let (watch, until) = match start_watch(rt, alloc, until, &parts.control_in.to) {
+        Ok(started) => started,
         Err(fault) => {
             drop(parts);
             return Err(fault);
         }
     };
-    let served = run(rt, alloc, parts);
+    let ended = run(rt, alloc, parts);
     if let Some(watch) = watch {
         watch.end(&rt);
     }
-    served
+    let (complete, key) = ended?;
+    Ok(Served {
+        complete,
+        key,
+        connection,
+        until,
+    })
 }
 
-/// Runs the kernel itself.
+/// Runs the kernel itself: whether all that was published was taken, and the key that it ran with.
 ///
 /// # Errors
 ///
 /// `NoThread` and `OutOfMemory`.
-fn run<I, R>(rt: R, alloc: Global, parts: KernelParts<I, R>) -> Result<Served, ServeFault>
+fn run<I, R>(
+    rt: R,
+    alloc: Global,
+    parts: KernelParts<I, R>,
+) -> Result<(bool, Snapshot<Vec<u8>>), ServeFault>
 where
     I: Interpreter + Drop + Send + 'static,
     I::Cell: Drop + Send + 'static,
     R: Threads + Wait + Clock + Copy + Send + Sync + Drop + 'static,
-    ensures complete { IfOk result (λ served. served.complete ≡ true) }
-    ensures key { IfOk result (λ served. served.key.value.items ≡ parts.key.items) }
+    ensures complete { IfOk result (λ ended. ended.0 ≡ true) }
+    ensures key { IfOk result (λ ended. ended.1.value.items ≡ parts.key.items) }
 {
     let key = Snapshot::of(&parts.key);
     let KernelEnd {
@@ -290,7 +322,7 @@ where
     drop(relay);
     drop(subscriptions_in);
     drop(work);
-    Ok(Served { complete, key })
+    Ok((complete, key))
 }
 
 /// What a kernel runs on, and what the threads round it share.
@@ -525,7 +557,8 @@ impl<R> Round<'_, R>
 where
     R: Threads + Wait + Clock + Copy + Send + Sync + Drop + 'static,
 {
-    /// Starts to accept on each port. Those that were started before a fault are among the acceptors.
+    /// Starts to accept on each port, and answers of which connection they are. Those that were started
+    /// before a fault are among the acceptors.
     ///
     /// # Errors
     ///
@@ -536,25 +569,30 @@ where
         alloc: Global,
         ports: Ports,
         acceptors: &mut Vec<Acceptor>,
-    ) -> Result<(), ServeFault> {
+    ) -> Result<Snapshot<Connection>, ServeFault>
+        ensures { IfOk result (λ connection. connection.value ≡ ports.connection.value) }
+    {
         let Ok(()) = acceptors.reserve(4) else {
             drop(ports);
             return Err(ServeFault::OutOfMemory);
         };
+        let Ports {
+            shell,
+            iopub,
+            control,
+            heartbeat,
+            connection,
+        } = ports;
         let mut begun = Ok(());
-        for (port, listener) in [
-            (Port::Shell, ports.shell),
-            (Port::Iopub, ports.iopub),
-            (Port::Control, ports.control),
-            (Port::Heartbeat, ports.heartbeat),
-        ] {
+        for bound in [shell, iopub, control, heartbeat] {
             if begun.is_ok() {
-                begun = self.accept(rt, alloc, port, listener, acceptors);
+                begun = self.accept(rt, alloc, bound, acceptors);
             } else {
-                drop(listener);
+                drop(bound);
             }
         }
-        begun
+        begun?;
+        Ok(connection)
     }
 
     /// Starts to accept on a port.
@@ -566,15 +604,14 @@ where
         &self,
         rt: R,
         alloc: Global,
-        port: Port,
-        listener: TcpListener,
+        bound: Bound,
         acceptors: &mut Vec<Acceptor>,
     ) -> Result<(), ServeFault> {
-        let Some((service, server)) = self.shares(alloc, port) else {
-            drop(listener);
+        let Some((service, server)) = self.shares(alloc, bound.0) else {
+            drop(bound);
             return Err(ServeFault::OutOfMemory);
         };
-        let acceptor = start(rt, alloc, (port, listener), service, server)?;
+        let acceptor = start(rt, alloc, bound, service, server)?;
         acceptors.push(acceptor)?;
         Ok(())
     }

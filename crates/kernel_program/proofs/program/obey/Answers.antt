@@ -1,7 +1,8 @@
-use Rattle.std.proofs.Common.{subst, sym}
+use Rattle.std.proofs.Common.{◌≡◌, subst, sym}
 use Rattle.kernel_words.specs.declared.words.Order.TheVariants.{Help, KernelSpec}
 use Rattle.kernel_program.specs.Program.{Obeys}
 use Rattle.kernel_program.proofs.EndLemmas.{obeys_print, obeys_replay, obeys_serve, print_is_not_silent}
+use Rattle.kernel_program.proofs.EndLemmas.{print_serves_none, replay_serves_none}
 use Rattle.kernel_program.proofs.program.obey.Goals as goal
 
 pub returns-in-Replay-clause-obeys : goal.returns-in-Replay-clause-obeys
@@ -20,7 +21,7 @@ returns-in-Serve-clause-obeys g c =
     (g.W.Write.contents c.args.writer.now) (g.W.Write.contents c.args.writer.now) c.serve.result) (sym c.in-Serve.is)
     (obeys_serve g.L.Interp.Interpreter.meaning (g.L.Language.profile c.args.language.now) c.in-Serve.file
     (g.R.Read.remaining c.args.reader.now) (g.R.Read.remaining c.args.reader.now)
-    (g.W.Write.contents c.args.writer.now) c.serve.result c.serve.ensures)
+    (g.W.Write.contents c.args.writer.now) c.serve.result c.serve.ensures.ends)
 
 pub returns-in-KernelSpec-clause-obeys : goal.returns-in-KernelSpec-clause-obeys
 returns-in-KernelSpec-clause-obeys g c =
@@ -49,3 +50,20 @@ returns-in-Help-clause-obeys g c =
 pub returns-in-Help-clause-silent : goal.returns-in-Help-clause-silent
 returns-in-Help-clause-silent g c silent =
     absurd (print_is_not_silent c.print_text.result c.print_text.ensures.ends silent)
+
+pub returns-in-Replay-clause-until : goal.returns-in-Replay-clause-until
+returns-in-Replay-clause-until g c =
+    replay_serves_none g.L.Interp.Interpreter.meaning (g.L.Language.profile c.args.language.now)
+    (λ served. served.until.value ≡ c.args.until) c.in-Replay.key
+    (g.R.Read.remaining c.args.reader.now) (g.R.Read.remaining c.replay_begun.new.reader)
+    (g.W.Write.contents c.args.writer.now) (g.W.Write.contents c.replay_begun.new.writer) c.replay_begun.result
+    c.replay_begun.ensures.replays
+
+pub returns-in-KernelSpec-clause-until : goal.returns-in-KernelSpec-clause-until
+returns-in-KernelSpec-clause-until g c =
+    print_serves_none (λ served. served.until.value ≡ c.args.until) c.print_kernelspec.result
+    c.print_kernelspec.ensures.ends
+
+pub returns-in-Help-clause-until : goal.returns-in-Help-clause-until
+returns-in-Help-clause-until g c =
+    print_serves_none (λ served. served.until.value ≡ c.args.until) c.print_text.result c.print_text.ensures.ends

@@ -1,6 +1,6 @@
 use Rattle.std.proofs.Common.{◌≡◌, rules, subst}
 use Rattle.kernel_program.specs.Replay.{Replays}
-use Rattle.kernel_program.proofs.EndLemmas.{begun_replay, ends_replay, ends_unbegun, silent_replay}
+use Rattle.kernel_program.proofs.EndLemmas.{begun_replay, ends_replay, ends_unbegun}
 use Rattle.kernel_program.proofs.program.replay_begun.Goals as goal
 
 pub returns-in-Ok-clause-replays : goal.returns-in-Ok-clause-replays
@@ -12,12 +12,6 @@ returns-in-Ok-clause-replays g c =
     (subst (λ key. Replays g.L.Interp.Interpreter.meaning c.in-Ok.interp key
     (g.R.Read.remaining c.args.reader.now) (g.R.Read.remaining c.replay.new.reader)
     (g.W.Write.contents c.args.writer.now) (g.W.Write.contents c.replay.new.writer) c.replay.result) same c.replay.ensures.replays)
-
-pub returns-in-Ok-clause-silent : goal.returns-in-Ok-clause-silent
-returns-in-Ok-clause-silent g c silent =
-    c.replay.ensures.same (silent_replay g.L.Interp.Interpreter.meaning c.in-Ok.interp c.into_bytes.result.items
-    (g.R.Read.remaining c.args.reader.now) (g.R.Read.remaining c.replay.new.reader)
-    (g.W.Write.contents c.args.writer.now) (g.W.Write.contents c.replay.new.writer) c.replay.result c.replay.ensures.replays silent)
 
 pub returns-in-Ok-clause-unread : goal.returns-in-Ok-clause-unread
 returns-in-Ok-clause-unread g c never =

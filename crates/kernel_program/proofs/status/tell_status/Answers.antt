@@ -9,9 +9,3 @@ returns-in-Incomplete g c =
     subst (λ status. OnOk c.tell_line-in-Incomplete.result (IfSome (told_of_status c.args.name.now status)
     (Appends (g.F.Write.contents c.args.faults.now) (g.F.Write.contents c.tell_line-in-Incomplete.new.faults))))
     (sym c.in-Incomplete.is) (c.tell_line-in-Incomplete.ensures)
-
-pub returns-in-InputRefused : goal.returns-in-InputRefused
-returns-in-InputRefused g c =
-    subst (λ status. OnOk c.tell_line-in-InputRefused.result (IfSome (told_of_status c.args.name.now status)
-    (Appends (g.F.Write.contents c.args.faults.now) (g.F.Write.contents c.tell_line-in-InputRefused.new.faults))))
-    (sym c.in-InputRefused.is) (c.tell_line-in-InputRefused.ensures)
