@@ -1,9 +1,9 @@
 //! SQL over the database in a file, as the language of a program.
 
-ghost use Rattle.std.specs.Prelude.{◌≡◌, IfOk, IsTrue};
+ghost use Rattle.std.specs.Prelude.{◌≡◌, ◌⊎◌, IfOk, IfErr, IsTrue};
 ghost use Rattle.kernel_program.specs.Profile.{IsRefusal};
 ghost use Rattle.sqlite.specs.Opening.{is_open_error};
-ghost use Rattle.jkernel_sql.specs.SqlProgram.{in_file, refusal, sql_is_started};
+ghost use Rattle.jkernel_sql.specs.SqlProgram.{BeginsInFile, in_file, refusal, sql_is_started};
 
 use crate::texts::{ABOUT, EXAMPLE, KERNELSPEC, NAME};
 use kernel_program::{BeginFault, Language};
