@@ -14,9 +14,10 @@
 //! - `last=N`, and `worn`, `memory`, `restart` or `shutdown`: the message at which the server leaves, and how;
 //! - `turns=N`: how many reads an exchange may make;
 //! - `shake=TYPE`, `echo`, `serve`, `hear`: has the exchange, and tells how it ended;
-//! - `written`, `put`, `met`, `identity`, `why`, `asked=N`, `answered=N`, `reads=N`: tells what was written, what was
-//!   put into the intake, what socket the peer is and of what identity, in words why a connection couldn't go on, and
-//!   whether the intake was asked, the server answered and the peer was read so often;
+//! - `written`, `put`, `met`, `identity`, `why`, `asked=N`, `answered=N`, `reads=N`, `unfinished=N`: tells what was
+//!   written, what was put into the intake, what socket the peer is and of what identity, in words why a connection
+//!   couldn't go on, whether the intake was asked, the server answered and the peer was read so often, and whether so
+//!   many octets came after the last whole traffic;
 //! - `peer`: a fresh peer that sends nothing yet; `anew`: such a peer and a fresh intake.
 //!
 //! A case may begin with `@` and places, as `@0..90,95`. Then it is done with each in turn, which `$` stands for, as

@@ -25,6 +25,10 @@ pub trait Intake {
     /// The ghost names of the references that the intake holds, which no step changes.
     ghost names: { Self → List ℕ };
 
+    /// Takes note of how many octets came after the last whole traffic, which itself is put after that. It changes
+    /// nothing that contracts see.
+    fn note_unfinished(&self, _octets: usize) {}
+
     /// Puts traffic, and answers whether it was put.
     ///
     /// # Errors
@@ -52,6 +56,10 @@ impl<I: Intake> Listener for Filling<'_, I> {
     ghost hears = { λ old traffic new result. FillsOne I.takes I.told old.intake.now traffic new.intake.now result };
 
     ghost names = { λ filling. filling.intake.ghost_name ∷ I.names filling.intake.now };
+
+    fn note_unfinished(&self, octets: usize) {
+        self.intake.note_unfinished(octets);
+    }
 
     fn hear(&mut self, _alloc: Global, traffic: Traffic) -> Result<(), ConnectionEnd> {
         match self.intake.put(traffic) {

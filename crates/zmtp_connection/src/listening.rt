@@ -30,6 +30,10 @@ pub trait Listener {
     /// The ghost names of the references that the listener holds, which no step changes.
     ghost names: { Self → List ℕ };
 
+    /// Takes note of how many octets came after the last whole traffic, which itself is heard after that. It changes
+    /// nothing that contracts see.
+    fn note_unfinished(&self, _octets: usize) {}
+
     /// Hears traffic of the peer, which is never the command ERROR.
     ///
     /// # Errors
@@ -81,6 +85,7 @@ fn listen_on<R: Inlet, L: Listener>(
         (source_at (R.inflow reader.old) turns) (source_at (R.inflow reader.new) left) listener.new result }
 {
     let Unheard { fed, mut decoder } = unheard;
+    listener.note_unfinished(decoder.held());
     if let Err(ending) = hand_fed(alloc, listener, fed) {
         drop(decoder);
         return ending;
@@ -117,7 +122,9 @@ fn hear_piece<R: Inlet, L: Listener>(
     match read_turn(reader, piece, turns) {
         Ok(count) => {
             let (octets, _) = piece.split_at(count);
-            hand_fed(alloc, listener, decoder.feed(octets))
+            let fed = decoder.feed(octets);
+            listener.note_unfinished(decoder.held());
+            hand_fed(alloc, listener, fed)
         }
         Err(end) => Err(Ending::Connection(end)),
     }

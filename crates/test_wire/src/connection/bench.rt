@@ -116,6 +116,7 @@ impl<'n> Bench<'n> {
         let count = match key {
             "reads" => self.peer.reads,
             "asked" => self.shelf.asked,
+            "unfinished" => self.shelf.unfinished.get(),
             "answered" => u64::from(self.clerk.answered),
             _ => return Err(io::Error::other("no key")),
         };

@@ -1,6 +1,7 @@
 //! What traffic is put into.
 
 use std::alloc::{AllocError, Global};
+use std::cell::Cell;
 use zmtp_connection::Intake;
 use zmtp_wire::Traffic;
 
@@ -15,6 +16,8 @@ pub(crate) struct Shelf {
     pub(crate) is_wanting: bool,
     /// How often it was asked.
     pub(crate) asked: u64,
+    /// How many octets came after the last whole traffic, as it was told last.
+    pub(crate) unfinished: Cell<u64>,
 }
 
 impl Shelf {
@@ -25,6 +28,7 @@ impl Shelf {
             places: 100,
             is_wanting: false,
             asked: 0,
+            unfinished: Cell::new(0),
         }
     }
 }
@@ -37,6 +41,10 @@ impl Intake for Shelf {
     ghost told = { λ _. None };
 
     ghost names = { λ _. [] };
+
+    fn note_unfinished(&self, octets: usize) {
+        self.unfinished.set(octets as u64);
+    }
 
     fn put(&mut self, traffic: Traffic) -> Result<bool, AllocError> {
         self.asked = self.asked.saturating_add(1);

@@ -1,6 +1,7 @@
 //! Reading a stream in pieces.
 
 ghost use Rattle.std.specs.Prelude.{◌≡◌, [], ◌++◌, true, false, Some, ℕ, List, OnOk, IfErr};
+ghost use Rattle.std.specs.Prelude.{length, min};
 ghost use Rattle.zmtp_wire.specs.Grammar.{ReadsUpTo};
 ghost use Rattle.zmtp_wire.specs.Pending.{pending_octets, IsPending};
 ghost use Rattle.zmtp_wire.specs.Decoding.{Feeds, IsFaultOf};
@@ -66,6 +67,13 @@ impl Decoder {
             is_spent: false,
             alloc,
         }
+    }
+
+    /// How many octets it keeps, which aren't whole traffic, or as many as can be counted.
+    pub fn held(&self) -> usize
+        ensures { result ≡ min (length self.now.kept) usize.MAX }
+    {
+        self.pending.held()
     }
 
     /// Reads the next piece of the stream. After a fault every later piece gives no traffic and

@@ -1,17 +1,18 @@
 //! What has come of traffic that isn't whole, and the steps by which it grows.
 
 ghost use Rattle.std.specs.Prelude.{◌≡◌, ◌+◌, ◌-◌, ◌<◌, ◌≤◌, ◌∷◌, ◌++◌, ℕ, List, length, take, drop, IfOk, IfErr};
-ghost use Rattle.std.specs.Prelude.{OnOk, [], Ok};
+ghost use Rattle.std.specs.Prelude.{OnOk, [], Ok, min};
 ghost use Rattle.zmtp_wire.specs.Frame.{flags_octet, front_octets, size_bound, bodies_of};
 ghost use Rattle.zmtp_wire.specs.Grammar.{AcceptsFlags, IsRefused};
-ghost use Rattle.zmtp_wire.specs.Pending.{size_len, head_of, pending_octets, bodies_before, AcceptsSize, IsFront};
+ghost use Rattle.zmtp_wire.specs.Pending.{size_len, head_of, pending_octets, stage_octets, bodies_before};
+ghost use Rattle.zmtp_wire.specs.Pending.{AcceptsSize, IsFront};
 ghost use Rattle.zmtp_wire.specs.Pending.{IsPending, Keeps, Refuses};
 
 use crate::fault::WireFault;
 use crate::traffic::Traffic;
 use crate::traffic::command::command_of;
 use crate::traffic::flags::Flags;
-use crate::traffic::frame::Frame;
+use crate::traffic::frame::{Frame, head_len};
 use crate::traffic::limits::Limits;
 use crate::traffic::message::Message;
 use crate::traffic::size::{SizeOctets, size_behind};
@@ -52,7 +53,31 @@ pub(crate) struct Step {
     pub(crate) traffic: Option<Traffic>,
 }
 
+impl Stage {
+    /// How many octets of the frame have come, or as many as can be counted.
+    fn octets(&self) -> usize
+        ensures { result ≡ min (length (stage_octets self.now)) usize.MAX }
+    {
+        match self {
+            Stage::Flags => 0,
+            Stage::Size(_, size) => 1 + size.count(),
+            Stage::Body(flags, _, body) => head_len(flags.long).saturating_add(body.len()),
+        }
+    }
+}
+
 impl Pending {
+    /// How many octets have come, or as many as can be counted.
+    pub(crate) fn held(&self) -> usize
+        ensures { result ≡ min (length (pending_octets self.now)) usize.MAX }
+    {
+        let mut held = self.stage.octets();
+        for frame in self.frames.as_slice() {
+            held = held.saturating_add(frame.octets());
+        }
+        held
+    }
+
     /// Nothing has come yet.
     pub(crate) fn new(alloc: Global, limits: Limits) -> Pending
         ensures { result.limits ≡ limits × (pending_octets result ≡ []) × IsPending result }

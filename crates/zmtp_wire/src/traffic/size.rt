@@ -36,6 +36,14 @@ impl SizeOctets {
         }
     }
 
+    /// How many have come.
+    pub(crate) fn count(&self) -> usize
+        ensures value { result ≡ length self.now }
+        ensures bound { result ≤ 8 }
+    {
+        self.count
+    }
+
     /// Takes the next octets, up to eight in all, and answers how many.
     pub(crate) fn extend(&mut self, octets: &[u8]) -> usize
         ensures taken { result ≡ min (8 - length self.old) (length octets.now) }
