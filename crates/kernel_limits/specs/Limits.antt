@@ -107,11 +107,11 @@ may_ask waiting = nat_lt waiting 64
 
 -- the meter of a handshake that begins now, which may have 64 KiB
 abbrev pub shaking : ℕ → Meter
-shaking now = record { most = 65536; held = 0; since = Some now }
+shaking now = record { most = 65536; held = 0; rest = 0; since = Some now }
 
 -- the meter of a connection whose messages may have so many octets; nothing of it is unfinished
 abbrev pub opened_meter : ℕ → Meter
-opened_meter most = record { most = most; held = 0; since = None }
+opened_meter most = record { most = most; held = 0; rest = 0; since = None }
 
 -- when something began: at that time, or now if nothing had begun
 abbrev pub since_or : Option ℕ → ℕ → ℕ
@@ -125,10 +125,17 @@ left_for_unfinished None now = None
 
 -- the meter after so many octets more were read
 abbrev pub reading : Meter → ℕ → ℕ → Meter
-reading meter count now = record {
-  most = meter.most;
+reading meter count now = record meter {
   held = capped (meter.held + count);
   since = Some (since_or meter.since now);
+}
+
+-- The meter once it is known how many of the octets came after the last whole message. All that were read count still.
+abbrev pub noted : Meter → ℕ → ℕ → Meter
+noted meter rest now = record meter {
+  held = max meter.held rest;
+  rest = rest;
+  since = if nat_lt 0 rest then Some (since_or meter.since now) else meter.since;
 }
 
 -- the time since when something is unfinished, if anything is, set to now
@@ -141,13 +148,13 @@ since_now None now = None
 abbrev pub resumed : Meter → ℕ → Meter
 resumed meter now = record meter { since = since_now meter.since now }
 
--- The meter after a message became whole whose shortest text has so many octets. If at most 448 octets more were read
--- nothing is unfinished, since the message's sizes may be spelled longer: by seven octets in each of 64 frames. If more
--- were read, they are what is unfinished, from now on.
-abbrev pub finished : Meter → ℕ → ℕ → Meter
-finished meter octets now =
-    if nat_le (meter.held - octets) 448 then opened_meter meter.most
-    else record { most = meter.most; held = meter.held - octets; since = Some now }
+-- The meter after the last whole message was looked at. What came after it is unfinished, from now on; if nothing did,
+-- nothing is.
+abbrev pub finished : Meter → ℕ → Meter
+finished meter now = record meter {
+  held = meter.rest;
+  since = if nat_lt 0 meter.rest then Some now else None;
+}
 
 -- how much is unfinished beyond 64 KiB
 abbrev pub excess_of : Meter → ℕ

@@ -1,7 +1,7 @@
 //! What is kept for a subscriber: octets that come in pieces and are taken in chunks.
 
 ghost use Rattle.std.specs.Prelude.{◌≡◌, ◌++◌, ◌-◌, ◌<◌, ◌≤◌, ◌↔◌, [], length, take, IfNone, IfOk, IfErr, IfSome};
-ghost use Rattle.std.specs.Prelude.{IsTrue, OnOk};
+ghost use Rattle.std.specs.Prelude.{IsTrue, OnOk, ◌+◌, vec_capacity, vec_len};
 ghost use Rattle.kernel_limits.specs.Kept.{chunk_octets, joined_chunks, kept_octets, AreSome};
 
 use crate::chunk::{Chunk, SHORT};
@@ -101,6 +101,7 @@ impl Kept {
         turn_over(self.alloc, &mut self.full, &mut self.last)?;
         let room = (CHUNK - self.last.len()).min(share.saturating_sub(self.len));
         let (front, _) = piece.split_at(room.min(piece.len()));
+        make_room(&mut self.last, front.len())?;
         self.last.extend_from_slice(front)?;
         self.len += front.len();
         Ok(front.len())
@@ -139,6 +140,26 @@ impl Kept {
         self.len = 0;
         Some(Chunk::Long(mem::replace(&mut self.last, Vec::new(self.alloc))))
     }
+}
+
+/// Makes room in a chunk for so many octets more. It takes memory for twice its octets at a time, as a `Vec` does, and
+/// never for more than a whole chunk.
+///
+/// # Errors
+///
+/// If memory is refused. The chunk stays as it is.
+fn make_room(chunk: &mut Vec<u8>, more: usize) -> Result<(), AllocError>
+    requires { vec_len chunk.old + more ≤ CHUNK }
+    ensures same { chunk.new.items ≡ chunk.old.items }
+    ensures room { OnOk result (vec_len chunk.new + more ≤ vec_capacity chunk.new) }
+    ensures bound { vec_capacity chunk.old ≤ CHUNK → vec_capacity chunk.new ≤ CHUNK }
+{
+    let needed = chunk.len() + more;
+    if needed <= chunk.capacity() {
+        return Ok(());
+    }
+    let wanted = chunk.len().saturating_mul(2).max(needed).min(CHUNK);
+    chunk.reserve_exact(wanted - chunk.len())
 }
 
 /// Puts the chunk that is being filled among the full ones if it is full, and begins another: there is room then.

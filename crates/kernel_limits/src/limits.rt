@@ -36,10 +36,6 @@ pub const UNFINISHED_OCTETS: usize = 64 << 20;
 /// a small one and to do what that asks. It takes them only if as many are left.
 pub const SPARE_OCTETS: usize = 32 << 10;
 
-/// Octets by which a message may be longer than its shortest text, and count as finished all the same. It has 64 frames
-/// at most, and each may spell its size in eight octets, seven more than it needs.
-pub const SPELLING_OCTETS: usize = 64 * 7;
-
 /// Topics of one subscriber. Jupyter's clients have one.
 pub const TOPICS: usize = 10_000;
 
@@ -93,8 +89,18 @@ pub const LEAST_PACE_MILLIS: u64 = 250;
 /// Octets of a socket's send buffer, so that what was written to it was taken by its peer but for these.
 pub const SEND_BUFFER: i32 = 64 << 10;
 
-/// Milliseconds for which a peer of shell, control or the heartbeat may take nothing of what is written to it.
-pub const REPLY_MILLIS: u64 = 5_000;
+/// Milliseconds for which a peer of shell, control or the heartbeat may take nothing of what is written to it. The system
+/// tells that a peer took something only after a part of its buffer, of up to 64 KiB: so a peer may take 1.1 KB a second.
+pub const REPLY_MILLIS: u64 = 60_000;
+
+/// Milliseconds for which a subscriber that left may take nothing of what is kept for it, which others may want.
+pub const LEFT_MILLIS: u64 = 5_000;
+
+/// Milliseconds for which a connection that ends waits for its peer to close its side, so that nothing is left unread.
+pub const CLOSE_MILLIS: u64 = 1_000;
+
+/// Reads of a connection that ends, of 4 KiB each: who sends more meanwhile is closed.
+pub const CLOSE_READS: u32 = 256;
 
 /// Milliseconds for which replies wait for a peer that left to connect again. Clients connect again within seconds, and
 /// a person who reloads a page within a minute.
@@ -110,9 +116,6 @@ pub const END_WRITE_MILLIS: u64 = 500;
 /// Milliseconds for which a connection waits, at most, until those that were closed let go of what they held. It takes
 /// so long to look at the signature of a large message on a busy machine.
 pub const FREED_MILLIS: u64 = 10_000;
-
-/// Milliseconds for a connection of the program to a port of its own, by which it wakes who accepts there.
-pub const WAKE_MILLIS: u64 = 500;
 
 /// Reads of one connection, and of its handshake: more than it comes to.
 pub const READS: u64 = 1_000_000_000;

@@ -1,18 +1,20 @@
 //! What a connection may still read of a handshake or a message, and until when.
 
 ghost use Rattle.std.specs.Prelude.{◌≡◌, ◌-◌};
-ghost use Rattle.kernel_limits.specs.Limits.{excess_of, finished, left_for_unfinished, opened_meter, reading, resumed};
-ghost use Rattle.kernel_limits.specs.Limits.{shaking};
+ghost use Rattle.kernel_limits.specs.Limits.{excess_of, finished, left_for_unfinished, noted, opened_meter, reading};
+ghost use Rattle.kernel_limits.specs.Limits.{resumed, shaking};
 
-use crate::limits::{HANDSHAKE_OCTETS, SMALL_OCTETS, SPELLING_OCTETS, UNFINISHED_MILLIS};
+use crate::limits::{HANDSHAKE_OCTETS, SMALL_OCTETS, UNFINISHED_MILLIS};
 
-/// What a connection has read of a handshake or a message that isn't whole yet.
+/// What a connection has read of a handshake, or of messages that aren't whole yet or weren't looked at.
 #[derive(Clone, Copy, Debug, PartialEq, Eq)]
 pub struct Meter {
     /// How many octets it may have at most.
     pub most: usize,
     /// How many octets were read of it.
     pub held: usize,
+    /// How many of these came after the last whole message.
+    pub rest: usize,
     /// When it began, in milliseconds, if something is unfinished.
     pub since: Option<u64>,
 }
@@ -25,6 +27,7 @@ impl Meter {
         Meter {
             most: HANDSHAKE_OCTETS,
             held: 0,
+            rest: 0,
             since: Some(now),
         }
     }
@@ -36,6 +39,7 @@ impl Meter {
         *self = Meter {
             most,
             held: 0,
+            rest: 0,
             since: None,
         };
     }
@@ -61,14 +65,19 @@ impl Meter {
     pub fn read(&mut self, count: usize, now: u64)
         ensures { self.new ≡ reading self.old count now }
     {
-        *self = Meter {
-            most: self.most,
-            held: self.held.saturating_add(count),
-            since: match self.since {
-                Some(since) => Some(since),
-                None => Some(now),
-            },
-        };
+        self.held = self.held.saturating_add(count);
+        self.since = Some(self.since.unwrap_or(now));
+    }
+
+    /// So many octets came after the last whole message. Before it is looked at, it counts, too.
+    pub fn note(&mut self, rest: usize, now: u64)
+        ensures { self.new ≡ noted self.old rest now }
+    {
+        self.held = self.held.max(rest);
+        self.rest = rest;
+        if rest > 0 {
+            self.since = self.since.or(Some(now));
+        }
     }
 
     /// Nothing was read for a while, and not for want of octets: what is unfinished begins anew.
@@ -80,25 +89,12 @@ impl Meter {
         }
     }
 
-    /// A message became whole whose shortest text has so many octets. What was read beyond it is the next one's, unless
-    /// it is no more than another spelling of this one explains.
-    pub fn finish(&mut self, octets: usize, now: u64)
-        ensures { self.new ≡ finished self.old octets now }
+    /// The last whole message was looked at. What came after it is unfinished from now on.
+    pub fn finish(&mut self, now: u64)
+        ensures { self.new ≡ finished self.old now }
     {
-        let beyond = self.held.saturating_sub(octets);
-        *self = if beyond <= SPELLING_OCTETS {
-            Meter {
-                most: self.most,
-                held: 0,
-                since: None,
-            }
-        } else {
-            Meter {
-                most: self.most,
-                held: beyond,
-                since: Some(now),
-            }
-        };
+        self.held = self.rest;
+        self.since = if self.rest > 0 { Some(now) } else { None };
     }
 
     /// How many octets are unfinished beyond what every connection may hold.

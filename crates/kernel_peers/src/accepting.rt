@@ -45,7 +45,6 @@ where
         gate,
         server,
     } = port;
-    gate.close();
     service.close(&rt);
     // Nobody may hold an inbox while it is waited for those who reply.
     drop(service);
@@ -71,21 +70,41 @@ where
 {
     let mut id = 0u64;
     for _ in rt.forever() {
-        let accepted = accept(listener);
+        let is_new = port.gate.has_newcomer(&rt, listener);
         if port.gate.is_ending() {
-            drop(accepted);
             return;
         }
         join_ended(&rt, &port.gate, threads);
-        match next_of(accepted, id) {
-            Some((stream, next)) => {
-                id = next;
-                admit(rt, alloc, port, id, stream, threads);
-            }
-            None => thread::sleep(&rt, Duration::from_millis(PAUSE)),
+        if is_new {
+            id = admit_next(rt, alloc, listener, port, id, threads);
         }
     }
     unreachable!()
+}
+
+/// Serves the connection that comes after the one of this number, if it can be accepted; else it waits for a moment.
+/// Answers the number of the last one.
+fn admit_next<R>(
+    rt: R,
+    alloc: Global,
+    listener: &TcpListener,
+    port: &ServedPort<R>,
+    id: u64,
+    threads: &mut Vec<Serving>,
+) -> u64
+where
+    R: Threads + Wait + Clock + Copy + Send + Sync + Drop + 'static,
+{
+    match next_of(accept(listener), id) {
+        Some((stream, next)) => {
+            admit(rt, alloc, port, next, stream, threads);
+            next
+        }
+        None => {
+            thread::sleep(&rt, Duration::from_millis(PAUSE));
+            id
+        }
+    }
 }
 
 /// The next connection of a port. None if it can't be accepted.
@@ -159,12 +178,13 @@ fn enter<R: Wait + Clock + Drop>(
     }
 }
 
-/// Serves the peer of a connection until that ends, and takes it out of those that are open.
+/// Serves the peer of a connection until that ends, closes it, and takes it out of those that are open.
 fn serve<R>(rt: R, alloc: Global, guest: Guest, service: Service<R>)
 where
     R: Threads + Wait + Clock + Copy + Send + Sync + Drop + 'static,
 {
     service.serve(rt, alloc, &guest);
+    guest.close(&rt);
     guest.gate.leave(&rt, guest.id);
     drop(guest);
 }

@@ -13,7 +13,7 @@ use kernel_jobs::{Credit, Job, Note, ReplyMessage};
 use kernel_limits::limits::READS;
 use kernel_limits::{Claim, may_read};
 use kernel_sockets::{
-    Gauge, Guest, Reader, SharedWriter, Socket, hear_out, is_named_well, octets_of, pong_to,
+    Gauge, Guest, Reader, SharedWriter, Socket, hear_out, is_named_well, pong_to,
 };
 use listed::Frames;
 use std::alloc::{AllocError, Global};
@@ -22,7 +22,7 @@ use std::thread;
 use std::thread::Threads;
 use std::time::{Clock, Duration};
 use zmtp_connection::{Intake, OpenPeer, shake};
-use zmtp_wire::{Counted, SocketType, Traffic};
+use zmtp_wire::{Counted, SocketType, Traffic, text_len};
 
 /// For how many milliseconds a reader waits for credit, before it looks whether the connection was closed.
 const CREDIT_LOOK: u64 = 100;
@@ -125,12 +125,15 @@ impl<R: Wait + Clock> Intake for Requests<R> {
 
     ghost names = { λ _. [] };
 
+    fn note_unfinished(&self, octets: usize) {
+        self.gauge.note(&self.rt, octets);
+    }
+
     fn put(&mut self, traffic: Traffic) -> Result<bool, AllocError> {
-        let octets = octets_of(&traffic);
         match traffic {
-            Traffic::Message(message) => self.receive(Frames::new(message.into_vec()), octets),
+            Traffic::Message(message) => self.receive(Frames::new(message.into_vec())),
             Traffic::Command(name, rest) => {
-                self.gauge.finish(&self.rt, octets);
+                self.gauge.finish(&self.rt);
                 Ok(self.heed(Traffic::Command(name, rest)))
             }
         }
@@ -160,12 +163,12 @@ impl<R: Wait + Clock> Requests<R> {
     /// # Errors
     ///
     /// If memory is refused.
-    fn receive(&mut self, frames: Frames, octets: usize) -> Result<bool, AllocError> {
+    fn receive(&mut self, frames: Frames) -> Result<bool, AllocError> {
         match self.is_of_client(frames.as_slice()) {
-            Ok(true) => self.gauge.finish(&self.rt, octets),
+            Ok(true) => self.gauge.finish(&self.rt),
             Ok(false) => {
                 drop(frames);
-                self.gauge.finish(&self.rt, octets);
+                self.gauge.finish(&self.rt);
                 return Ok(true);
             }
             Err(AllocError) => {
@@ -173,7 +176,7 @@ impl<R: Wait + Clock> Requests<R> {
                 return Err(AllocError);
             }
         }
-        if self.tell(frames, octets)? {
+        if self.tell(frames)? {
             self.wait_for_credit();
         } else {
             self.is_over = true;
@@ -238,15 +241,14 @@ impl<R: Wait + Clock> Requests<R> {
     /// connection: what is due to it waits for another one.
     fn leave(&self) {
         let is_end = self.is_over || (self.socket.is_ended() && !self.socket.is_shut());
-        if is_end || self.member.identity.is_empty() {
-            return;
+        if !is_end && !self.member.identity.is_empty() {
+            self.socket.end_writes();
+            let now = self.gauge.now(&self.rt);
+            self.channel
+                .mailboxes
+                .leave(&self.rt, &self.member.mailbox, self.member.number, now);
+            wake(&self.rt, self.alloc, &self.replies);
         }
-        self.socket.shut();
-        let now = self.gauge.now(&self.rt);
-        self.channel
-            .mailboxes
-            .leave(&self.rt, &self.member.mailbox, self.member.number, now);
-        wake(&self.rt, self.alloc, &self.replies);
         self.member.writer.unpark();
     }
 
@@ -255,7 +257,8 @@ impl<R: Wait + Clock> Requests<R> {
     /// # Errors
     ///
     /// If memory is refused.
-    fn tell(&self, frames: Frames, octets: usize) -> Result<bool, AllocError> {
+    fn tell(&self, frames: Frames) -> Result<bool, AllocError> {
+        let octets = text_len(frames.as_slice()).unwrap_or(usize::MAX);
         let Ok(replies) = self.replies.clone() else {
             drop(frames);
             return Err(AllocError);

@@ -1,7 +1,7 @@
 //! Connections of the heartbeat.
 
 use kernel_limits::limits::{HEARTBEAT_OCTETS, READS};
-use kernel_sockets::{Gauge, Guest, Reader, Socket, hear_out, octets_of, pong_to, write_whole};
+use kernel_sockets::{Gauge, Guest, Reader, Socket, hear_out, pong_to, write_whole};
 use std::alloc::{AllocError, Global};
 use std::sync::{Arc, Wait};
 use std::time::Clock;
@@ -30,8 +30,12 @@ impl<R: Wait + Clock + Drop> Intake for Echo<R> {
 
     ghost names = { λ _. [] };
 
+    fn note_unfinished(&self, octets: usize) {
+        self.gauge.note(&self.rt, octets);
+    }
+
     fn put(&mut self, traffic: Traffic) -> Result<bool, AllocError> {
-        self.gauge.finish(&self.rt, octets_of(&traffic));
+        self.gauge.finish(&self.rt);
         let is_written = self.write_back(&traffic);
         drop(traffic);
         Ok(is_written)

@@ -1,6 +1,7 @@
 //! The connection that has a mailbox: how it gets it, how it loses it, and whether a reply is being written on it.
 
 ghost use Rattle.std.specs.Prelude.{◌≡◌, ◌≢◌, ◌<◌, ◌+◌, ◌-◌, ◌⊎◌, ◌↔◌, IfSome, None, Some, length, true, false};
+ghost use Rattle.std.specs.Prelude.{IfNone, OnSome};
 ghost use Rattle.kernel_limits.specs.declared.handover.Claim.TheVariants.{Signs};
 ghost use Rattle.kernel_limits.specs.declared.handover.Holder.TheVariants.{Gone, Signed, Unsigned};
 ghost use Rattle.kernel_limits.specs.Limits.{is_awaited, takes_over};
@@ -8,6 +9,24 @@ ghost use Rattle.kernel_limits.specs.Limits.{is_awaited, takes_over};
 use kernel_jobs::ReplyMessage;
 use kernel_limits::{Claim, Holder, is_awaited, takes_over};
 use kernel_sockets::Socket;
+
+/// The connection that had a mailbox, which another one has now.
+#[derive(Drop)]
+struct Before {
+    /// Its socket, if there was one.
+    socket: Option<Socket>,
+    /// Whether it is to be closed.
+    is_closed: bool,
+}
+
+impl Before {
+    /// Closes it, if it is to be closed.
+    fn close(self) {
+        if let (Some(socket), true) = (&self.socket, self.is_closed) {
+            socket.shut();
+        }
+    }
+}
 
 /// The connection that has a mailbox, and what is known of its peer.
 #[derive(Drop)]
@@ -100,8 +119,12 @@ impl Holding {
         ensures awaited { result ≡ true → self.old.number ≢ number → self.new.since ≡ None }
         ensures refused { result ≡ false → self.new ≡ self.old }
     {
-        if self.number != number && !self.pass(number, socket, claim) {
-            return false;
+        let is_another = self.number != number;
+        if is_another {
+            match self.pass(number, socket, claim) {
+                Some(before) => before.close(),
+                None => return false,
+            }
         }
         if claim == Claim::Signs {
             self.holder = Holder::Signed;
@@ -110,33 +133,34 @@ impl Holding {
         true
     }
 
-    /// Gives the mailbox to another connection that isn't closed, if it may have it. The connection before is closed if
-    /// a reply is just being written on it, for which others would wait, or if the other's peer has signed something.
-    /// Else it stays: what was asked on it may not have been read yet.
-    fn pass(&mut self, number: u64, socket: &Socket, claim: Claim) -> bool
-        ensures given { result ≡ true → self.new.number ≡ number }
-        ensures ruled { result ≡ true → takes_over self.old.holder claim ≡ true }
-        ensures unsigned { result ≡ true → self.new.holder ≡ Unsigned }
+    /// Gives the mailbox to another connection that isn't closed, if it may have it, and answers the connection before.
+    /// That is to be closed if a reply is just being written on it, for which others would wait, or if the other's peer
+    /// has signed something. Else it stays: what was asked on it may not have been read yet.
+    fn pass(&mut self, number: u64, socket: &Socket, claim: Claim) -> Option<Before>
+        ensures given { OnSome result (self.new.number ≡ number) }
+        ensures ruled { OnSome result (takes_over self.old.holder claim ≡ true) }
+        ensures unsigned { OnSome result (self.new.holder ≡ Unsigned) }
         ensures known { (self.new.is_signed ≡ self.old.is_signed) × (self.new.heard ≡ self.old.heard) }
-        ensures written { result ≡ true → self.new.is_writing ≡ false }
-        ensures awaited { result ≡ true → self.new.since ≡ None }
-        ensures refused { result ≡ false → self.new ≡ self.old }
+        ensures written { OnSome result (self.new.is_writing ≡ false) }
+        ensures awaited { OnSome result (self.new.since ≡ None) }
+        ensures before { IfSome result (λ before. before.socket ≡ self.old.socket) }
+        ensures closed { IfSome result (λ before. (before.is_closed ≡ true)
+            ↔ ((self.old.is_writing ≡ true) ⊎ (claim ≡ Signs))) }
+        ensures refused { IfNone result (self.new ≡ self.old) }
     {
         if socket.is_shut() || !takes_over(self.holder, claim) {
-            return false;
+            return None;
         }
-        let Ok(kept) = socket.try_clone() else {
-            return false;
+        let kept = socket.try_clone().ok()?;
+        let before = Before {
+            socket: self.socket.replace(kept),
+            is_closed: self.is_writing || claim == Claim::Signs,
         };
-        match self.socket.replace(kept) {
-            Some(before) if self.is_writing || claim == Claim::Signs => before.shut(),
-            Some(_) | None => {}
-        }
         self.is_writing = false;
         self.number = number;
         self.holder = Holder::Unsigned;
         self.since = None;
-        true
+        Some(before)
     }
 
     /// The peer of the connection of this number has left. If it had the mailbox, the replies wait from now on.

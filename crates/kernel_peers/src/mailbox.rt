@@ -19,6 +19,9 @@ const REPLY_LOOK: u64 = 1_000;
 /// For how many milliseconds a connection waits that doesn't have its peer's mailbox, before it asks for it again.
 const CLAIM_LOOK: u64 = 500;
 
+/// For how many milliseconds it waits so once nothing is read any more.
+const LAST_LOOK: u64 = 10;
+
 /// What is due to a peer.
 #[derive(Drop)]
 struct Due {
@@ -224,7 +227,7 @@ impl Replies {
                 Look::Nothing => {}
                 Look::Last => return,
                 Look::Failed => {
-                    self.socket.shut();
+                    self.socket.fail();
                     return;
                 }
             }
@@ -241,32 +244,38 @@ impl Replies {
     /// or waits for a while.
     fn look<R: Wait + Clock>(&self, rt: &R, alloc: Global) -> Look {
         if self.socket.is_shut() {
-            return Look::Failed;
+            return Look::Last;
         }
         if self.has_left() {
             // Its reader ends the connection, once it has read what came before that.
             self.mailbox.leave(rt, self.number);
+            if self.socket.is_ended() {
+                return Look::Last;
+            }
             self.pause(rt);
             return Look::Nothing;
         }
         if self.mailbox.is_of(rt, self.number) {
             return self.mailbox.write_next(rt, alloc, self);
         }
-        if self.socket.is_ended() {
-            return Look::Last;
-        }
-        if !self
+        if self
             .mailbox
             .claim(rt, self.number, &self.socket, Claim::Waits)
         {
-            self.pause(rt);
+            return Look::Nothing;
         }
+        self.pause(rt);
         Look::Nothing
     }
 
-    /// Waits for a while, or until the connection's reader has something to say.
+    /// Waits for a while, or until the connection's reader has something to say. Once nothing is read any more the
+    /// connection before may be gone in a moment, and else this one is closed.
     fn pause<R: Wait + Clock>(&self, rt: &R) {
-        self.parker
-            .park_timeout(rt, Duration::from_millis(CLAIM_LOOK));
+        let millis = if self.socket.is_ended() {
+            LAST_LOOK
+        } else {
+            CLAIM_LOOK
+        };
+        self.parker.park_timeout(rt, Duration::from_millis(millis));
     }
 }

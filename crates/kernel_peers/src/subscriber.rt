@@ -6,10 +6,10 @@ use iopub_relay::{Topics, door_event};
 use kernel_jobs::Note;
 use kernel_limits::limits::READS;
 use kernel_limits::{TopicCount, is_told, may_ask};
-use kernel_sockets::{Backlog, Feed, Gauge, Guest, Reader, Server, Socket, hear_out, octets_of};
+use kernel_sockets::{Backlog, Feed, Gauge, Guest, Reader, Server, Socket, hear_out};
 use listed::Octets;
 use std::alloc::{AllocError, Global};
-use std::sync::{Arc, Wait};
+use std::sync::{Arc, MutexGuard, Wait};
 use std::thread;
 use std::thread::{JoinHandle, Threads};
 use std::time::{Clock, Duration};
@@ -148,38 +148,34 @@ impl<R: Wait + Clock + Drop> Intake for Subscriptions<R> {
 
     ghost names = { λ _. [] };
 
+    fn note_unfinished(&self, octets: usize) {
+        self.gauge.note(&self.rt, octets);
+    }
+
     fn put(&mut self, traffic: Traffic) -> Result<bool, AllocError> {
-        let octets = octets_of(&traffic);
         let event = door_event(self.alloc, self.id, &traffic);
         drop(traffic);
+        self.gauge.finish(&self.rt);
         match event {
-            Ok(Some(event)) => self.ask(event, octets),
-            Ok(None) => {
-                self.gauge.finish(&self.rt, octets);
-                Ok(true)
-            }
+            Ok(Some(event)) => self.ask(event),
+            Ok(None) => Ok(true),
             Err(AllocError) => Err(AllocError),
         }
     }
 }
 
 impl<R: Wait + Clock + Drop> Subscriptions<R> {
-    /// Tells the worker of subscriptions what the subscriber asks for by traffic of so many octets, if it may, and
-    /// answers whether that went well.
+    /// Tells the worker of subscriptions what the subscriber asks for, if it may, and answers whether that went well.
     ///
     /// # Errors
     ///
     /// If memory is refused.
-    fn ask(&mut self, event: Event<Writer<R>>, octets: usize) -> Result<bool, AllocError> {
+    fn ask(&mut self, event: Event<Writer<R>>) -> Result<bool, AllocError> {
         let noted = self.asked.note(&self.rt, &event);
         match noted {
-            Ok(Asks::Something) => {
-                self.gauge.finish(&self.rt, octets);
-                self.tell_in_turn(event)
-            }
+            Ok(Asks::Something) => self.tell_in_turn(event),
             Ok(Asks::Nothing) => {
                 drop(event);
-                self.gauge.finish(&self.rt, octets);
                 Ok(true)
             }
             Ok(Asks::TooMuch) => {
@@ -200,30 +196,54 @@ impl<R: Wait + Clock + Drop> Subscriptions<R> {
     ///
     /// If memory is refused.
     fn tell_in_turn(&self, event: Event<Writer<R>>) -> Result<bool, AllocError> {
-        if self.waits_its_turn() {
-            self.tell(event)
-        } else {
-            drop(event);
-            Ok(false)
+        match self.wait_its_turn() {
+            Some(turn) => {
+                let told = self.tell(event);
+                drop(turn);
+                told
+            }
+            None => {
+                drop(event);
+                Ok(false)
+            }
         }
     }
 
-    /// Waits until few events wait for the worker of subscriptions, and answers whether the peer is still there.
-    fn waits_its_turn(&self) -> bool {
-        if may_ask(self.inbox.len()) {
-            return true;
+    /// Waits until few events wait for the worker of subscriptions. As long as the turn is held that is so but for the
+    /// holder's. None if the peer isn't there any more.
+    fn wait_its_turn(&self) -> Option<MutexGuard<'_, ()>> {
+        match self.turn() {
+            Some(turn) => Some(turn),
+            None => self.wait_for_turn(),
         }
+    }
+
+    /// Waits until few events wait for the worker of subscriptions, of which there were many. None if the peer isn't
+    /// there any more.
+    fn wait_for_turn(&self) -> Option<MutexGuard<'_, ()>> {
         for _ in self.rt.forever() {
             thread::sleep(&self.rt, Duration::from_millis(TURN_LOOK));
             if self.socket.is_ended() || self.socket.has_hung_up() {
-                return false;
+                return None;
             }
-            if may_ask(self.inbox.len()) {
-                break;
+            let turn = self.turn();
+            if turn.is_some() {
+                self.gauge.resume(&self.rt);
+                return turn;
             }
+            drop(turn);
         }
-        self.gauge.resume(&self.rt);
-        true
+        unreachable!()
+    }
+
+    /// The turn, if few events wait for the worker of subscriptions.
+    fn turn(&self) -> Option<MutexGuard<'_, ()>> {
+        let turn = self.asked.server.turn().lock(&self.rt);
+        if may_ask(self.inbox.len()) {
+            return Some(turn);
+        }
+        drop(turn);
+        None
     }
 
     /// Tells the worker of subscriptions an event, and answers whether it is still there.
@@ -245,10 +265,10 @@ impl<R: Wait + Clock + Drop> Subscriptions<R> {
         }
     }
 
-    /// Tells the worker of subscriptions that the subscriber came, and answers whether it is still there.
+    /// Tells the worker of subscriptions that the subscriber came, and answers whether both are still there.
     fn attach(&self, feed: Feed<R>) -> bool {
         let event = Event::Attach(self.id, Counted::new(feed));
-        matches!(self.tell(event), Ok(true))
+        matches!(self.tell_in_turn(event), Ok(true))
     }
 
     /// Tells the worker of subscriptions that the subscriber left. If memory is refused it is
@@ -307,7 +327,7 @@ where
         return;
     };
     // Until it has its turn a newcomer may have its place: who comes again and again fills nothing.
-    if !subscriptions.waits_its_turn() {
+    if subscriptions.wait_its_turn().is_none() {
         drop(reader);
         drop(peer);
         drop(subscriptions);

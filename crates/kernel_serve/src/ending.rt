@@ -2,11 +2,11 @@
 
 use crate::fault::{Port, ServeFault};
 use kernel_limits::grace_left;
-use kernel_limits::limits::{END_WRITE_MILLIS, WAKE_MILLIS};
+use kernel_limits::limits::END_WRITE_MILLIS;
 use kernel_peers::{ServedPort, Service, accept_all};
 use kernel_sockets::{Gate, Server};
 use std::alloc::{AllocError, Global};
-use std::net::{Net, SocketAddr, TcpListener, TcpStream};
+use std::net::TcpListener;
 use std::sync::{Arc, Wait};
 use std::thread;
 use std::thread::{JoinHandle, Threads};
@@ -18,8 +18,6 @@ const PAUSE: u64 = 1;
 /// A port that is served.
 #[derive(Drop)]
 pub(crate) struct Acceptor {
-    /// Where it listens.
-    address: SocketAddr,
     /// What its threads share.
     gate: Arc<Gate, Global>,
     /// The thread that accepts.
@@ -30,7 +28,7 @@ pub(crate) struct Acceptor {
 ///
 /// # Errors
 ///
-/// `CannotBind` if the system doesn't say where it listens, `OutOfMemory` and `NoThread`.
+/// `CannotBind` if the system refuses what is set or has no file descriptor left, `OutOfMemory` and `NoThread`.
 pub(crate) fn start<R>(
     rt: R,
     alloc: Global,
@@ -42,7 +40,7 @@ where
     R: Threads + Wait + Clock + Copy + Send + Sync + Drop + 'static,
 {
     let (port, listener) = bound;
-    let (address, gate, shared) = match begin(alloc, port, &listener) {
+    let (gate, shared) = match begin(alloc, port, &listener) {
         Ok(begun) => begun,
         Err(fault) => {
             drop(listener);
@@ -57,11 +55,7 @@ where
         server,
     };
     match thread::spawn(&rt, move || accept_all(rt, alloc, listener, port)) {
-        Ok(thread) => Ok(Acceptor {
-            address,
-            gate,
-            thread,
-        }),
+        Ok(thread) => Ok(Acceptor { gate, thread }),
         Err(error) => {
             drop(error);
             drop(gate);
@@ -70,24 +64,22 @@ where
     }
 }
 
-/// Where a port listens, and its gate, for the thread that accepts too.
+/// The gate of a port, for the thread that accepts too, which never waits for a connection that has gone again.
 ///
 /// # Errors
 ///
-/// `CannotBind` if the system doesn't say where it listens, and `OutOfMemory`.
+/// `CannotBind` if the system refuses that or has no file descriptor left, and `OutOfMemory`.
 fn begin(
     alloc: Global,
     port: Port,
     listener: &TcpListener,
-) -> Result<(SocketAddr, Arc<Gate, Global>, Arc<Gate, Global>), ServeFault> {
-    let Ok(address) = listener.local_addr() else {
+) -> Result<(Arc<Gate, Global>, Arc<Gate, Global>), ServeFault> {
+    let (Ok(()), Some(gate)) = (listener.set_nonblocking(true), Gate::new(alloc)) else {
         return Err(ServeFault::CannotBind(port));
     };
-    let Ok(gate) = Arc::new(alloc, Gate::new(alloc)) else {
-        return Err(ServeFault::OutOfMemory);
-    };
+    let gate = Arc::new(alloc, gate)?;
     match Arc::try_clone(&gate) {
-        Ok(shared) => Ok((address, gate, shared)),
+        Ok(shared) => Ok((gate, shared)),
         Err(AllocError) => {
             drop(gate);
             Err(ServeFault::OutOfMemory)
@@ -97,10 +89,11 @@ fn begin(
 
 /// Ends all that serves ports, and waits until it ended. What is left for peers is written as long as that takes no
 /// more than a moment; who takes longer is closed.
-pub(crate) fn end_all<R>(rt: &R, acceptors: Vec<Acceptor>, server: &Server)
-where
-    R: Net<Stream = TcpStream> + Threads + Wait + Clock,
-{
+pub(crate) fn end_all<R: Threads + Wait + Clock>(
+    rt: &R,
+    acceptors: Vec<Acceptor>,
+    server: &Server,
+) {
     end_ports(rt, &acceptors);
     linger(rt, &acceptors, server);
     for acceptor in acceptors.iter() {
@@ -111,18 +104,12 @@ where
     }
 }
 
-/// Says that ports end, ends what their connections read, and wakes the threads that accept.
-fn end_ports<R>(rt: &R, acceptors: &[Acceptor])
-where
-    R: Net<Stream = TcpStream> + Wait + Clock,
-{
+/// Says that ports end, and ends what their connections read.
+fn end_ports<R: Wait>(rt: &R, acceptors: &[Acceptor]) {
     for acceptor in acceptors {
         acceptor.gate.end();
         // Those that are open are ended at once, and not only when the thread that accepts has seen it.
         acceptor.gate.end_reads(rt);
-    }
-    for acceptor in acceptors {
-        wake(rt, acceptor);
     }
 }
 
@@ -136,19 +123,4 @@ fn linger<R: Wait + Clock>(rt: &R, acceptors: &[Acceptor], server: &Server) {
         }
         thread::sleep(rt, Duration::from_millis(PAUSE));
     }
-}
-
-/// Wakes a thread that waits for a connection, by one of the program to its own port, until no further one is accepted.
-fn wake<R>(rt: &R, acceptor: &Acceptor)
-where
-    R: Net<Stream = TcpStream> + Wait + Clock,
-{
-    for _ in rt.forever() {
-        if acceptor.gate.is_closed() {
-            return;
-        }
-        drop(TcpStream::connect_timeout(rt, &acceptor.address, Duration::from_millis(WAKE_MILLIS)));
-        thread::sleep(rt, Duration::from_millis(PAUSE));
-    }
-    unreachable!()
 }

@@ -1,19 +1,11 @@
 -- What a connection looks at as it hears its peer.
-use Rattle.std.specs.Prelude.{ℕ, ◌+◌, List, Bool, length, nat_le, Option, option_map}
+use Rattle.std.specs.Prelude.{ℕ, List, Bool, length, nat_le, Option, option_map}
 use Rattle.zmtp_wire.specs.declared.traffic.Traffic.{Traffic}
-use Rattle.zmtp_wire.specs.declared.traffic.Traffic.TheVariants.{Message, Command}
-use Rattle.zmtp_wire.specs.Frame.{text}
 use Rattle.zmtp_wire.specs.Ping.{ping_context, pong_octets}
 
 -- a peer with such an identity is heard: it has at most 255 octets
 abbrev pub is_named_well : List ℕ → Bool
 is_named_well identity = nat_le (length identity) 255
-
--- How many octets traffic counts for, as it is read: a message for its shortest text, a command for its name and what
--- follows that.
-abbrev pub octets_of : Traffic → ℕ
-octets_of (Message bodies) = length (text bodies)
-octets_of (Command name rest) = length name + length rest
 
 -- the PONG that answers traffic, if it is a PING that has one (ZeroMQ RFC 37, rule `pong`)
 abbrev pub pong_of : Traffic → Option (List ℕ)

@@ -7,7 +7,7 @@ ghost use Rattle.kernel_sockets.specs.Backlog.{IsTried};
 
 use crate::server::Server;
 use crate::socket::Socket;
-use kernel_limits::limits::REPLY_MILLIS;
+use kernel_limits::limits::LEFT_MILLIS;
 use kernel_limits::{Chunk, Kept, Pace, share_of, waits_on};
 use std::alloc::{AllocError, Global};
 use std::io::{self, ErrorKind};
@@ -191,8 +191,8 @@ impl Backlog {
         self.changed.notify_all();
     }
 
-    /// Writes what comes, until nothing comes any more and all is written, or a write failed, or the subscriber was too
-    /// slow. Then it shuts the socket down.
+    /// Writes what comes, until nothing comes any more and all is written. Or a write failed, or the subscriber was too
+    /// slow: then it shuts the socket down.
     pub fn write_all<R: Wait + Clock>(&self, rt: &R, socket: &Socket) {
         for _ in rt.forever() {
             let Some(chunk) = self.take(rt) else {
@@ -203,7 +203,11 @@ impl Backlog {
                 break;
             }
         }
-        socket.shut();
+        if self.state.lock(rt).has_failed {
+            socket.shut();
+        } else {
+            socket.end_writes();
+        }
         self.changed.notify_all();
     }
 
@@ -269,7 +273,7 @@ impl Backlog {
     fn is_given_up<R: Wait + Clock>(&self, rt: &R, since: u64) -> bool {
         let passed = self.server.millis(rt).saturating_sub(since);
         let state = self.state.lock(rt);
-        state.has_failed || (state.has_ended && passed >= REPLY_MILLIS)
+        state.has_failed || (state.has_ended && passed >= LEFT_MILLIS)
     }
 
     /// Gives the subscriber up. What is kept is dropped.

@@ -1,8 +1,10 @@
 //! What the threads round a port share: whether it ends, and the connections that are open.
 
+use crate::bell::{Bell, Woken};
 use crate::socket::Socket;
 use kernel_limits::{Place, place_of};
 use std::alloc::{AllocError, Global};
+use std::net::TcpListener;
 use std::sync::atomic::{AtomicBool, Ordering};
 use std::sync::{Mutex, Wait};
 
@@ -35,25 +37,29 @@ struct Open {
 pub struct Gate {
     /// Whether the port is to end.
     ending: AtomicBool,
-    /// Whether no further connection is accepted.
-    closed: AtomicBool,
+    /// Wakes the thread that accepts: the port is to end, or a connection's thread ends.
+    acceptor: Bell,
+    /// Ends what connections read, once it rang.
+    readers: Bell,
     /// The connections whose threads haven't ended, by rising numbers.
     open: Mutex<Vec<Open>>,
 }
 
 impl Gate {
-    /// The gate of a port that has no connection yet.
-    pub fn new(alloc: Global) -> Gate {
-        Gate {
+    /// The gate of a port that has no connection yet. None if the system has no file descriptor left.
+    pub fn new(alloc: Global) -> Option<Gate> {
+        Some(Gate {
             ending: AtomicBool::new(false),
-            closed: AtomicBool::new(false),
+            acceptor: Bell::new()?,
+            readers: Bell::new()?,
             open: Mutex::new(Vec::new(alloc)),
-        }
+        })
     }
 
-    /// Says that the port is to end.
+    /// Says that the port is to end, and wakes the thread that accepts.
     pub fn end(&self) {
         self.ending.store(true, Ordering::SeqCst);
+        self.acceptor.ring();
     }
 
     /// Whether the port is to end.
@@ -61,14 +67,12 @@ impl Gate {
         self.ending.load(Ordering::SeqCst)
     }
 
-    /// Says that no further connection is accepted.
-    pub fn close(&self) {
-        self.closed.store(true, Ordering::SeqCst);
-    }
-
-    /// Whether no further connection is accepted.
-    pub fn is_closed(&self) -> bool {
-        self.closed.load(Ordering::SeqCst)
+    /// Waits for a connection, until the port is to end or a connection's thread ends, and answers whether there is
+    /// one.
+    pub fn has_newcomer<R: Wait>(&self, rt: &R, listener: &TcpListener) -> bool {
+        let woken = self.acceptor.wait(rt, listener, None);
+        self.acceptor.silence();
+        woken == Woken::Socket
     }
 
     /// Counts a connection among those that are open, and answers whether there was a place for it. It may be that of
@@ -105,9 +109,10 @@ impl Gate {
         }
     }
 
-    /// Takes a connection out, whose thread ends.
+    /// Takes a connection out, whose thread ends, and wakes the thread that accepts, which joins it.
     pub fn leave<R: Wait>(&self, rt: &R, id: u64) {
         self.open.lock(rt).retain(|connection| connection.id != id);
+        self.acceptor.ring();
     }
 
     /// Whether a connection's thread hasn't ended.
@@ -123,11 +128,17 @@ impl Gate {
         self.open.lock(rt).is_empty()
     }
 
-    /// Ends what the connections that are open read: each read that waits finds no octet any more.
+    /// Ends what connections read: each read that waits, and each one after it, finds no octet any more.
     pub fn end_reads<R: Wait>(&self, rt: &R) {
         for connection in self.open.lock(rt).iter() {
             connection.socket.end_reads();
         }
+        self.readers.ring();
+    }
+
+    /// Waits until something is to be read of a socket, for so many milliseconds.
+    pub(crate) fn wait<R: Wait>(&self, rt: &R, socket: &Socket, millis: u64) -> Woken {
+        self.readers.wait(rt, socket, Some(millis))
     }
 
     /// Closes the connections that are open: what is due to their peers is lost.

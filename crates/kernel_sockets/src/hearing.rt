@@ -1,7 +1,7 @@
 //! What connections of every port have in common as they hear a peer.
 
-ghost use Rattle.std.specs.Prelude.{◌≡◌, min};
-ghost use Rattle.kernel_sockets.specs.Hearing.{is_named_well, octets_of};
+ghost use Rattle.std.specs.Prelude.{◌≡◌};
+ghost use Rattle.kernel_sockets.specs.Hearing.{is_named_well};
 
 use crate::reader::Reader;
 use kernel_limits::limits::{IDENTITY_OCTETS, READS};
@@ -9,18 +9,7 @@ use std::alloc::Global;
 use std::sync::Wait;
 use std::time::Clock;
 use zmtp_connection::{Intake, OpenPeer, hear};
-use zmtp_wire::{Counted, Traffic, text_len};
-
-/// How many octets some traffic counts for, or as many as can be counted: a message for its shortest text, a command
-/// for its name and what follows that.
-pub fn octets_of(traffic: &Traffic) -> usize
-    ensures { result ≡ min (octets_of traffic.now) usize.MAX }
-{
-    match traffic {
-        Traffic::Message(message) => text_len(message.as_slice()).unwrap_or(usize::MAX),
-        Traffic::Command(name, rest) => name.as_slice().len().saturating_add(rest.as_slice().len()),
-    }
-}
+use zmtp_wire::Counted;
 
 /// Hears a peer with whom hands were shaken, until its octets end or are refused, or the intake gives it up. A peer
 /// whose identity is too long isn't heard.

@@ -2,6 +2,7 @@
 #![tactic(auto)]
 
 mod backlog;
+mod bell;
 mod feed;
 mod gate;
 mod guest;
@@ -15,7 +16,7 @@ pub use backlog::Backlog;
 pub use feed::Feed;
 pub use gate::{Gate, Standing};
 pub use guest::Guest;
-pub use hearing::{hear_out, is_named_well, octets_of};
+pub use hearing::{hear_out, is_named_well};
 pub use reader::{Gauge, Reader};
 pub use server::Server;
 pub use shared_writer::{SharedWriter, pong_to, write_whole};

@@ -2,6 +2,8 @@
 
 ghost use Rattle.std.specs.Io.{ReadsAtMost};
 
+use crate::bell::Woken;
+use crate::gate::Gate;
 use crate::server::Server;
 use crate::socket::Socket;
 use kernel_limits::limits::SPARE_OCTETS;
@@ -11,6 +13,9 @@ use std::io::{self, ErrorKind, Read};
 use std::sync::{Arc, Mutex, Wait};
 use std::thread;
 use std::time::{Clock, Duration};
+
+/// After how many milliseconds a reader looks whether another thread has ended the connection.
+const END_LOOK: u64 = 1_000;
 
 /// After how many milliseconds a reader that found no memory looks again.
 const MEMORY_LOOK: u64 = 50;
@@ -47,12 +52,18 @@ impl Gauge {
         self.meter.lock(rt).open(most);
     }
 
-    /// A message became whole, whose shortest text has so many octets.
-    pub fn finish<R: Wait + Clock>(&self, rt: &R, octets: usize) {
+    /// So many octets came after the last whole message, which wasn't looked at yet.
+    pub fn note<R: Wait + Clock>(&self, rt: &R, rest: usize) {
+        let now = self.server.millis(rt);
+        self.meter.lock(rt).note(rest, now);
+    }
+
+    /// The last whole message was looked at.
+    pub fn finish<R: Wait + Clock>(&self, rt: &R) {
         let now = self.server.millis(rt);
         let mut meter = self.meter.lock(rt);
         let was_much = meter.excess() > 0;
-        meter.finish(octets, now);
+        meter.finish(now);
         let is_much = meter.excess() > 0;
         drop(meter);
         if was_much && !is_much {
@@ -95,6 +106,15 @@ impl Gauge {
     }
 }
 
+/// What watches over what is read of a connection.
+#[derive(Drop)]
+pub(crate) struct Watched {
+    /// What counts.
+    pub(crate) gauge: Arc<Gauge, Global>,
+    /// What ends waits.
+    pub(crate) gate: Arc<Gate, Global>,
+}
+
 /// What is read of a connection. If a handshake or a message has more octets than it may, or takes longer, the
 /// connection is closed. Without memory no message is begun, so that what a peer sends waits and isn't lost.
 pub struct Reader<R: Wait + Clock + Drop> {
@@ -104,45 +124,49 @@ pub struct Reader<R: Wait + Clock + Drop> {
     alloc: Global,
     /// What counts.
     gauge: Arc<Gauge, Global>,
+    /// What ends its waits.
+    gate: Arc<Gate, Global>,
     /// The socket.
     socket: Socket,
-    /// Whether a read of the socket waits for some time alone.
-    is_timed: bool,
 }
 
 impl<R: Wait + Clock + Drop> Reader<R> {
     /// What is read of this socket.
-    pub fn new(rt: R, alloc: Global, gauge: Arc<Gauge, Global>, socket: Socket) -> Reader<R> {
+    pub(crate) fn new(rt: R, alloc: Global, guest: Watched, socket: Socket) -> Reader<R> {
+        let Watched { gauge, gate } = guest;
         Reader {
             rt,
             alloc,
             gauge,
+            gate,
             socket,
-            is_timed: false,
         }
     }
 
-    /// Lets reads of the socket wait for so many milliseconds, or for any time.
+    /// Waits until something is to be read, for so many milliseconds or any time.
     ///
     /// # Errors
     ///
-    /// If no time is left, or the system refuses it.
-    fn wait_at_most(&mut self, millis: Option<u64>) -> io::Result<()> {
-        match millis {
-            Some(0) => Err(ErrorKind::TimedOut.into()),
-            Some(left) => {
-                self.is_timed = true;
-                self.socket.wait_at_most(Some(left))
-            }
-            None => {
-                if self.is_timed {
-                    self.is_timed = false;
-                    self.socket.wait_at_most(None)
-                } else {
-                    Ok(())
-                }
-            }
+    /// If the time passed, or none is left.
+    fn wait(&self, millis: Option<u64>) -> io::Result<()> {
+        if millis == Some(0) {
+            return Err(ErrorKind::TimedOut.into());
         }
+        for _ in self.rt.forever() {
+            match self
+                .gate
+                .wait(&self.rt, &self.socket, millis.unwrap_or(END_LOOK))
+            {
+                Woken::Bell => self.socket.end_reads(),
+                Woken::Socket => {}
+                Woken::Time if millis.is_some() => return Err(ErrorKind::TimedOut.into()),
+                // Another thread may have ended the connection.
+                Woken::Time if self.socket.is_ended() => {}
+                Woken::Time => continue,
+            }
+            return Ok(());
+        }
+        unreachable!()
     }
 
     /// Reads within the limits.
@@ -159,17 +183,17 @@ impl<R: Wait + Clock + Drop> Reader<R> {
             return Err(ErrorKind::InvalidData.into());
         }
         let left = meter.left(self.gauge.now(&self.rt));
-        if let Err(error) = self.wait_at_most(left) {
-            return Err(error);
-        }
         let spare = match left {
             None => self.spare(),
             Some(_) => None,
         };
-        let (front, _) = buf.split_at_mut(room);
-        let result = self.read_counted(front);
+        let waited = self.wait(left);
         drop(spare);
-        result
+        if let Err(error) = waited {
+            return Err(error);
+        }
+        let (front, _) = buf.split_at_mut(room);
+        self.read_counted(front)
     }
 
     /// Memory to be held until a message begins. It is waited for, unless nothing is read any more, or the peer has
@@ -240,11 +264,12 @@ impl<R: Wait + Clock + Drop> Drop for Reader<R> {
             rt,
             alloc: _,
             gauge,
+            gate,
             socket,
-            is_timed: _,
         } = self;
         gauge.end(&rt);
         drop(gauge);
+        drop(gate);
         drop(socket);
         drop(rt);
     }

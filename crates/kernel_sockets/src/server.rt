@@ -3,7 +3,7 @@
 
 use crate::socket::Socket;
 use kernel_limits::limits::FREED_MILLIS;
-use kernel_limits::{Part, Waste, is_overfull, may_hold, share_excess};
+use kernel_limits::{Part, Waste, grace_left, is_overfull, may_hold, share_excess};
 use std::alloc::Global;
 use std::sync::atomic::{AtomicBool, AtomicU64, AtomicUsize, Ordering};
 use std::sync::{Arc, Condvar, Mutex, Wait};
@@ -11,9 +11,6 @@ use std::time::{Clock, Duration, Instant};
 
 /// For how many milliseconds it is waited at a time until closed connections let go of what they hold.
 const LOOK: u64 = 10;
-
-/// How often it is waited so.
-const LOOKS: u64 = FREED_MILLIS / LOOK;
 
 /// A connection that holds much of an unfinished message.
 #[derive(Drop)]
@@ -44,12 +41,17 @@ impl Unfinished {
             .split_at(self.closed.min(self.parts.len()))
     }
 
-    /// Whether a connection has a part, which is of so many octets then, unless it was closed.
+    /// Whether a connection has a part, which is of so many octets then, or of no fewer than before if it was closed.
     fn has_set(&mut self, part: Part) -> bool {
+        let (closed, _) = self.split();
+        let least = match closed.iter().find(|it| it.number == part.number) {
+            Some(closed) => closed.octets,
+            None => 0,
+        };
         let Some(counted) = self.parts.iter_mut().find(|it| it.number == part.number) else {
             return false;
         };
-        counted.octets = part.octets.max(counted.octets);
+        counted.octets = part.octets.max(least);
         true
     }
 
@@ -110,6 +112,8 @@ pub struct Server {
     topics: Mutex<usize>,
     /// How long the relay waited for subscribers in vain.
     waste: Mutex<Waste>,
+    /// Held by the subscriber that tells the relay something, while it looks how much of others waits.
+    turn: Mutex<()>,
     /// What is unfinished.
     unfinished: Mutex<Unfinished>,
     /// Tells that a connection let go of what it held.
@@ -127,6 +131,7 @@ impl Server {
             beyond: AtomicUsize::new(0),
             topics: Mutex::new(0),
             waste: Mutex::new(Waste::new()),
+            turn: Mutex::new(()),
             unfinished: Mutex::new(Unfinished {
                 parts: Vec::new(alloc),
                 closed: 0,
@@ -189,6 +194,11 @@ impl Server {
         }
     }
 
+    /// What a subscriber holds while it looks how much of others waits for the relay, and tells the relay something.
+    pub fn turn(&self) -> &Mutex<()> {
+        &self.turn
+    }
+
     /// Counts topics that take so many octets more, and answers whether there is room for them. They aren't counted
     /// otherwise.
     pub fn hold_topics<R: Wait>(&self, rt: &R, more: usize) -> bool {
@@ -219,8 +229,8 @@ impl Server {
 
     /// Counts what a connection holds of an unfinished message, beyond what every connection may hold. If all are too
     /// much then, the connection that has held its part longest is closed, and so on. Who holds more waits until those
-    /// have let go of so much that there is room. If there is no memory to count it, this connection is closed. Answers
-    /// whether it was waited.
+    /// have let go of so much that there is room. If that takes too long, or there is no memory to count it, this
+    /// connection is closed. Answers whether it was waited.
     pub(crate) fn hold<R: Wait + Clock>(&self, rt: &R, part: Part, socket: &Socket) -> bool {
         let mut unfinished = self.unfinished.lock(rt);
         if !is_counted(&mut unfinished, part, socket) {
@@ -228,12 +238,19 @@ impl Server {
         }
         unfinished.close_some();
         drop(unfinished);
-        for look in 0..LOOKS {
+        let began = self.millis(rt);
+        let mut has_waited = false;
+        for _ in rt.forever() {
             if socket.is_shut() || !self.waits(rt) {
-                return look > 0;
+                return has_waited;
+            }
+            has_waited = true;
+            if grace_left(began, FREED_MILLIS, self.millis(rt)) == 0 {
+                socket.shut();
+                return true;
             }
         }
-        true
+        unreachable!()
     }
 
     /// Whether closed connections still held too much, a moment ago.

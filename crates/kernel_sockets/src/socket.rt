@@ -11,7 +11,7 @@ use libc::types::pollfd;
 use std::alloc::{AllocError, Global};
 use std::io::{self, ErrorKind, Read, Write};
 use std::net::{Shutdown, TcpStream};
-use std::os::fd::AsRawFd;
+use std::os::fd::{AsRawFd, RawFd};
 use std::sync::Arc;
 use std::sync::atomic::{AtomicBool, Ordering};
 use std::time::Duration;
@@ -21,6 +21,9 @@ const PAUSE: u64 = 500;
 
 /// How many tries to write, one after the other, may find no room. Then the write has failed.
 const TRIES: u64 = REPLY_MILLIS / PAUSE;
+
+/// How many octets are dropped at once of a peer that isn't heard any more.
+const DROPPED: usize = 4_096;
 
 /// What all share that are cloned of one socket.
 #[derive(Drop)]
@@ -71,19 +74,6 @@ impl Socket {
         })
     }
 
-    /// Lets a read wait for so many milliseconds, or for any time.
-    ///
-    /// # Errors
-    ///
-    /// If the system refuses it.
-    pub(crate) fn wait_at_most(&self, millis: Option<u64>) -> io::Result<()> {
-        let wait = match millis {
-            Some(millis) => Some(Duration::from_millis(millis.max(1))),
-            None => None,
-        };
-        self.shared.stream.set_read_timeout(wait)
-    }
-
     /// Writes the first octets of a piece, if there is room for some within half a second, and answers how many.
     ///
     /// # Errors
@@ -103,7 +93,7 @@ impl Socket {
     ///
     /// # Errors
     ///
-    /// `TimedOut` if there was no room for five seconds, and if the write itself fails. The socket stays as it is.
+    /// `TimedOut` if there was no room for a minute, and if the write itself fails. The socket stays as it is.
     fn put(&self, piece: &[u8]) -> io::Result<usize>
         ensures { WritesAtMost result piece.now }
     {
@@ -129,28 +119,64 @@ impl Socket {
     /// Whether the peer has closed its side, or the connection broke, though something may still be to be read.
     pub fn has_hung_up(&self) -> bool {
         let mut looked = [pollfd {
-            fd: self.shared.stream.as_raw_fd(),
+            fd: self.as_raw_fd(),
             events: net::POLLRDHUP,
             revents: 0,
         }];
         let has_hung_up = net::poll(&mut looked, 0) > 0;
-        // The system tells the same once reads were ended here, which is noted before.
-        has_hung_up && !self.is_ended()
+        // The system tells the same once the socket was shut down here, which is noted before.
+        has_hung_up && !self.is_shut()
     }
 
-    /// Ends what is read: a read that waits, and each one after it, finds no octet any more.
+    /// Ends what is read: each further read finds no octet any more.
     pub fn end_reads(&self) {
-        // The system still hands out what comes once it has shut a socket down for reads.
         self.shared.is_ended.store(true, Ordering::SeqCst);
-        // One that its peer has shut down already is fine, here and below.
-        let _ = self.shared.stream.shutdown(Shutdown::Read);
     }
 
-    /// Shuts the socket down, for reads too.
+    /// Shuts the socket down, for reads too: one that waits ends.
     pub fn shut(&self) {
-        self.shared.is_ended.store(true, Ordering::SeqCst);
+        self.finish(Shutdown::Both);
+    }
+
+    /// Says that nothing is written or heard any more. What was written is still sent, and a read that waits ends soon.
+    pub fn end_writes(&self) {
+        self.finish(Shutdown::Write);
+    }
+
+    /// A write failed: shuts the socket down, unless nothing was to be written any more.
+    pub fn fail(&self) {
+        if !self.is_shut() {
+            self.shut();
+        }
+    }
+
+    /// Says that nothing is read or written any more, and shuts the socket down so far.
+    fn finish(&self, how: Shutdown) {
+        self.end_reads();
         self.shared.is_shut.store(true, Ordering::SeqCst);
-        let _ = self.shared.stream.shutdown(Shutdown::Both);
+        // One that its peer has shut down already is fine.
+        let _ = self.shared.stream.shutdown(how);
+    }
+
+    /// Drops octets that the peer has sent, once some come within so many milliseconds, and answers whether more may
+    /// come.
+    pub(crate) fn drops_some(&self, millis: u64) -> bool {
+        let mut looked = [pollfd {
+            fd: self.as_raw_fd(),
+            events: net::POLLIN,
+            revents: 0,
+        }];
+        if net::poll(&mut looked, i32::try_from(millis).unwrap_or(i32::MAX)) <= 0 {
+            return false;
+        }
+        let mut stream: &TcpStream = &self.shared.stream;
+        matches!(stream.read(&mut [0; DROPPED]), Ok(count) if count > 0)
+    }
+}
+
+impl AsRawFd for Socket {
+    fn as_raw_fd(&self) -> RawFd {
+        self.shared.stream.as_raw_fd()
     }
 }
 
@@ -169,7 +195,7 @@ impl Write for Socket {
     fn write(&mut self, buf: &[u8]) -> io::Result<usize> {
         let written = self.put(buf);
         if written.is_err() {
-            self.shut();
+            self.fail();
         }
         written
     }
