@@ -75,9 +75,7 @@ where
         + 'static,
 {
     let mut reader = rt.reader();
-    if reader.is_terminal() && matches!(words, Ok(words) if words.is_empty()) {
-        tell_of_terminal(language.name(), faults);
-    }
+    tell_of_terminal(&reader, words, language.name(), faults);
     let code = run(
         rt,
         rt.alloc(),
@@ -88,11 +86,20 @@ where
         &mut io::writer(rt),
         faults,
     );
+    drop(reader);
     ExitCode::from(code)
 }
 
-/// Tells a person who gave the program of this name no words what it waits for.
-fn tell_of_terminal<F: Write>(name: &str, faults: &mut F) {
+/// Tells a person at a terminal who gave the program of this name no words what it waits for.
+fn tell_of_terminal<R: IsTerminal, F: Write>(
+    reader: &R,
+    words: &io::Result<Vec<String>>,
+    name: &str,
+    faults: &mut F,
+) {
+    if !reader.is_terminal() || !matches!(words, Ok(words) if words.is_empty()) {
+        return;
+    }
     // If even this fails there is nobody left to tell.
     let _ = tell_line(
         faults,

@@ -90,19 +90,41 @@ pub(crate) fn tell_status<F: Write>(faults: &mut F, name: &str, status: &Status)
 {
     match status {
         Status::Done | Status::Ended(_) => Ok(()),
-        Status::Failed => tell_line(faults, name, "failed", ""),
+        Status::Failed => tell_failed(faults, name),
         Status::OutputFailed(why) => tell_output(faults, name, *why),
         Status::WordsRefused(said) => tell_text(faults, said),
-        Status::WordsUnreadable => {
-            write_out(faults, b"error: the command words are not UTF-8\n")
-        }
+        Status::WordsUnreadable => tell_unreadable_words(faults),
         Status::FileUnreadable(why) => tell_unreadable(faults, name, *why),
         Status::FileRefused(fault) => tell_fault(faults, name, *fault),
         Status::CannotBind(port, why) => tell_port(faults, name, *port, *why),
-        Status::Incomplete => tell_line(faults, name, "ended without complete", ""),
+        Status::Incomplete => tell_incomplete(faults, name),
         Status::InputRefused(place) => tell_input(faults, name, *place),
         Status::BeginRefused(said) => tell_refusal(faults, name, said),
     }
+}
+
+/// Tells that what was ordered failed.
+fn tell_failed<F: Write>(faults: &mut F, name: &str) -> io::Result<()>
+    ensures { OnOk result (Appends (F.contents faults.old) (F.contents faults.new)
+        (line name.now (codes "failed") [])) }
+{
+    tell_line(faults, name, "failed", "")
+}
+
+/// Tells that a kernel ended, and not all that was published was taken.
+fn tell_incomplete<F: Write>(faults: &mut F, name: &str) -> io::Result<()>
+    ensures { OnOk result (Appends (F.contents faults.old) (F.contents faults.new)
+        (line name.now (codes "ended without complete") [])) }
+{
+    tell_line(faults, name, "ended without complete", "")
+}
+
+/// Tells that the command words are no texts.
+fn tell_unreadable_words<F: Write>(faults: &mut F) -> io::Result<()>
+    ensures { OnOk result (Appends (F.contents faults.old) (F.contents faults.new)
+        (codes "error: the command words are not UTF-8\n")) }
+{
+    write_out(faults, b"error: the command words are not UTF-8\n")
 }
 
 /// Tells a line of the program of this name, in two parts.

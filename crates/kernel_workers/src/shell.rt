@@ -79,14 +79,7 @@ where
             cause,
             started,
         };
-        let is_told = flags.is_ending();
-        flags.end(&given, &ended);
-        drop(given);
-        drop(flags);
-        if !is_told {
-            tell(&rt, &control, Note::End);
-        }
-        drop(control);
+        depart(&rt, flags, control, given, &ended);
         ended
     }
 
@@ -130,6 +123,31 @@ where
             }
         }
     }
+}
+
+/// Lets others see that the kernel is to end, as the worker has ended that was given this, and tells control to end,
+/// unless it was control that asked for that.
+fn depart<I, S, W, R>(
+    rt: &R,
+    flags: Flags,
+    control: Sender<Note<Job>>,
+    given: LeavesWork<I, S, W, R>,
+    ended: &Ended<I, S, W, R>,
+)
+where
+    I: Interpreter,
+    S: Stamp,
+    R: Wait,
+    requires { WorksOff I.meaning S.stamp given.side given.engine.value given.inbox.value ended.now }
+{
+    let is_told = flags.is_ending();
+    flags.end(&given, ended);
+    drop(given);
+    drop(flags);
+    if !is_told {
+        tell(rt, &control, Note::End);
+    }
+    drop(control);
 }
 
 /// Publishes that the kernel starts, and says whether it did. If memory is refused it isn't published, and shell goes

@@ -6,6 +6,6 @@ use Rattle.kernel_program.proofs.status.tell_status.Goals as goal
 
 pub returns-in-Incomplete : goal.returns-in-Incomplete
 returns-in-Incomplete g c =
-    subst (λ status. OnOk c.tell_line-in-Incomplete.result (IfSome (told_of_status c.args.name.now status)
-    (Appends (g.F.Write.contents c.args.faults.now) (g.F.Write.contents c.tell_line-in-Incomplete.new.faults))))
-    (sym c.in-Incomplete.is) (c.tell_line-in-Incomplete.ensures)
+    subst (λ status. OnOk c.tell_incomplete.result (IfSome (told_of_status c.args.name.now status)
+    (Appends (g.F.Write.contents c.args.faults.now) (g.F.Write.contents c.tell_incomplete.new.faults))))
+    (sym c.in-Incomplete.is) (c.tell_incomplete.ensures)

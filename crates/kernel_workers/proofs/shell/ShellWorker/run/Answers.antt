@@ -2,8 +2,8 @@ use Rattle.kernel_engine.specs.declared.side.Side.TheVariants.{Shell}
 use Rattle.kernel_workers.proofs.WorksLemmas.{works_off, works_promised}
 use Rattle.kernel_workers.proofs.shell.ShellWorker.run.Goals as goal
 
-pub end-requires : goal.end-requires
-end-requires g c =
+pub depart-requires : goal.depart-requires
+depart-requires g c =
     works_promised g.I.Interpreter.meaning g.S.Stamp.stamp Shell c.args.self.engine c.args.self.inbox
     c.promise-given.result _ c.promise-given.ensures
     (works_off g.I.Interpreter.meaning g.S.Stamp.stamp Shell c.args.self.engine _ c.start-started.result
