@@ -7,7 +7,7 @@ use std::test::Fail;
 #[test]
 fn statement_over_memory_reads_the_clock(rt: HostRuntime) -> Result<(), Fail> {
     let mut sql = Sql::in_memory(&rt)?;
-    let answer = sql.evaluate(rt.alloc(), "datetime('now') > '2026-01-01'")?;
+    let answer = sql.evaluate(rt.alloc(), "datetime('now') > '2000-01-01'")?;
     drop(sql);
     assert_eq!(rt; answer.as_str(), "1");
     Ok(())
