@@ -452,7 +452,7 @@ fn control_ends_a_kernel_that_begins_anew(rt: HostRuntime) -> Result<(), Fail> {
     let opened = open(&rt, alloc)?;
     let shutdown = (SHUTDOWN, r#"{"restart":true}"#);
     let asked = ask_numbered(&rt, alloc, &opened.client.control, 0, shutdown);
-    let (ended, client) = run_asked(rt, alloc, asked, opened, 1, two_ariths(alloc))?;
+    let (ended, client) = run_asked(rt, alloc, asked, opened, 1_024, two_ariths(alloc))?;
     let due = ("shutdown_reply", 3, r#"{"restart":true,"status":"ok"}"#);
     let replied = expect_numbered(&rt, alloc, &client.control, (0, SHUTDOWN), due);
     expect_no_reply(&rt, &client.control);
@@ -570,7 +570,7 @@ where
         drop(opened);
         return Err(AllocError);
     };
-    let (parts, client) = kernel_of(alloc, opened, 16, (Long, Long));
+    let (parts, client) = kernel_of(alloc, opened, 1_024, (Long, Long));
     match thread::spawn(&rt, move || end_of(rt, alloc, parts)) {
         Ok(kernel) => Ok((kernel, client)),
         Err(refused) => {
