@@ -159,13 +159,16 @@ class Dist:
     def __init__(self):
         named = octets_of(os.path.join(DIST, SUMS)).decode().split()
         kit, *lines = octets_of(os.path.join(DIST, MADE_OF)).decode().splitlines() or [""]
-        self.kit, self.made_of = kit, {crate: digest for digest, crate in (it.split() for it in lines)}
         if len(named) != 2:
             raise Refused(f"dist/{SUMS} names no wheel")
         self.name, octets = named[1], octets_of(os.path.join(DIST, named[1]))
         if sum_of(octets) != named[0]:
             raise Refused(f"dist/{self.name} isn't the one whose sum dist/{SUMS} has")
-        self.members = unpacked(octets)
+        try:
+            self.kit, self.made_of = kit, {crate: digest for digest, crate in map(str.split, lines)}
+            self.members = unpacked(octets)
+        except (ValueError, zipfile.BadZipFile) as why:
+            raise Refused(f"dist/{self.name} and dist/{MADE_OF} can't be read: {why}") from why
 
     def program(self, crate):
         """The octets of a crate's program; none if it isn't among these."""
@@ -202,10 +205,10 @@ def taken(crate):
     return dist.program(crate)
 
 
-def renew(programs, kit):
-    """Writes dist/ anew, of built programs, and answers the wheel's path."""
+def renew(programs, kit, known):
+    """Writes dist/ anew, of programs that were built of crates with these sums, and answers the wheel's path."""
     name, members = wheel_of(programs)
-    octets, known = packed(members), Sums()
+    octets = packed(members)
     names = {it for crate in programs for it in Program(crate).names}
     os.makedirs(DIST, exist_ok=True)
     for it in os.listdir(DIST):
@@ -227,6 +230,8 @@ def differs(programs, kit):
     except Refused as why:
         return [str(why)]
     found = [f"another file in dist: {it}" for it in set(os.listdir(DIST)) - {dist.name, SUMS, MADE_OF}]
+    if f"`{dist.kit}`".encode() not in octets_of(os.path.join(TOP, "README.md")):
+        found.append(f"README.md doesn't name the toolchain that made it: {dist.kit}")
     names = sorted({it for crate in KERNELS.values() for it in Program(crate).names})
     found += [f"the sources of {it} are newer than dist" for it in dist.newer(names, Sums())]
     with tempfile.TemporaryDirectory(prefix="jkernel-dist-") as room:

@@ -24,6 +24,10 @@ def some(text):
     return text
 
 
+# What is said where the toolchain is wanted and isn't there.
+NO_TOOLCHAIN = "rt, Rattle's command, is not on PATH: README, 'The toolchain', tells of it"
+
+
 class Refused(Exception):
     """Why something can't be done, in one line for a person."""
 

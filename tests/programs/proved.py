@@ -4,11 +4,19 @@ import os
 import shutil
 import subprocess
 import sys
+from argparse import ArgumentTypeError
 
 TOP = os.path.dirname(os.path.dirname(os.path.dirname(os.path.abspath(__file__))))
 sys.path.insert(0, TOP)
 
 from scripts.words import Parser  # pylint: disable=wrong-import-position
+
+
+def runnable(path):
+    """The whole path of a program that is there."""
+    if not os.access(path, os.X_OK):
+        raise ArgumentTypeError(f"there is no program {path}")
+    return os.path.abspath(path)
 
 
 def built(crate):
@@ -22,7 +30,7 @@ def built(crate):
 def program_of(text, crate):
     """The program that the words of a script with this text at its head name; without them that of a crate."""
     parser = Parser(text)
-    parser.add_argument("program", nargs="?", type=os.path.abspath)
+    parser.add_argument("program", nargs="?", type=runnable)
     return parser.parse_args().program or built(crate)
 
 
@@ -30,7 +38,7 @@ def programs_of(text, crates):
     """The programs that the words of a script with this text at its head name, by their crates; without them all of
     these crates."""
     parser = Parser(text)
-    parser.add_argument("programs", nargs="*", type=os.path.abspath)
+    parser.add_argument("programs", nargs="*", type=runnable)
     given = {os.path.basename(it): it for it in parser.parse_args().programs}
     if set(given) - set(crates):
         parser.error(f"a PROGRAM is one of {', '.join(crates)}")
