@@ -35,4 +35,11 @@ impl<T> Log<T> {
     {
         Log { of: PhantomData }
     }
+
+    /// The list with these values after all others.
+    pub fn and_all(&self, items: &[T]) -> Log<T>
+        ensures { result.items ≡ self.now.items ++ items.now }
+    {
+        Log { of: PhantomData }
+    }
 }

@@ -5,6 +5,7 @@ pub mod CountLemmas
 pub mod DrainLemmas
 pub mod EditLemmas
 pub mod FeedLemmas
+pub mod FlushLemmas
 pub mod ReceiveLemmas
 pub mod LastLemmas
 pub mod LawLemmas

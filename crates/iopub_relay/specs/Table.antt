@@ -146,3 +146,18 @@ ServesEvent outflow old new event (NoTopic id) = ((topic : List ℕ) × (event �
     × (TableGrows outflow (λ other. other ≡ id) old new event × IsStarved (subscriber_at id new))
 ServesEvent {Writer} outflow old new event (NoRoom id) =
     ((writer : Writer) × (event ≡ Attach id writer)) × ((subscriber_at id old ≡ None) × (new ≡ old))
+
+-- A subscriber whose writer passed on what it kept: all else is the same, and so is what was written to it.
+pub record IsAlike {Writer : Type 0} (outflow : Writer → Outflow) (old new : Subscriber Writer) : Type 0 where
+  pub same : new.id ≡ old.id
+  pub topics : new.topics ≡ old.topics
+  pub standing : new.standing ≡ old.standing
+  pub written : outflow new.writer ≡ outflow old.writer
+
+-- each subscriber of a table is as it was, but for what its writer kept
+abbrev pub AreAlike : {Writer : Type 0} → (Writer → Outflow) → List (Subscriber Writer) → List (Subscriber Writer)
+    → Type 0
+AreAlike outflow [] [] = ⊤
+AreAlike outflow [] (new ∷ news) = ⊥
+AreAlike outflow (old ∷ olds) [] = ⊥
+AreAlike outflow (old ∷ olds) (new ∷ news) = IsAlike outflow old new × AreAlike outflow olds news

@@ -1,6 +1,7 @@
 //! What a relay takes: messages, and what its subscribers come, ask for and leave by; and what each subscriber gets.
 #![tactic(auto)]
 
+mod buffered;
 mod concluding;
 mod door;
 mod feed;
@@ -10,6 +11,7 @@ mod subscriber;
 mod table;
 mod topics;
 
+pub use buffered::{Buffered, Rest};
 pub use door::door_event;
 pub use feed::feed_core;
 pub use iopub_event::Event;

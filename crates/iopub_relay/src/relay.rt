@@ -7,7 +7,9 @@ ghost use Rattle.iopub_queue.specs.Entries.{part_of, Agree, CloseIsLast};
 ghost use Rattle.iopub_relay.specs.Rows.{subscriber_at};
 ghost use Rattle.iopub_relay.specs.Relay.{ServesTaken, Pumps, Drains, Meets, AreWhole, is_failed};
 ghost use Rattle.iopub_relay.specs.Relay.{RelayIsLeft, left_by};
+ghost use Rattle.iopub_relay.specs.Table.{AreAlike};
 
+use crate::buffered::{Buffered, Rest};
 use crate::subscriber::Subscriber;
 use crate::table::{EventOutcome, Table};
 use iopub_event::Event;
@@ -114,6 +116,26 @@ impl<W: Outlet, R> Relay<W, R> {
         ensures { result ≡ is_failed (subscriber_at id self.now.rows) }
     {
         self.table.failed(id)
+    }
+}
+
+impl<W: Buffered, R> Relay<W, R> {
+    /// Has each subscriber's writer pass on what it keeps, as far as nobody has to be waited for,
+    /// and answers what is kept still. What was written to each stays the same, and so does all
+    /// else.
+    pub fn flush(&mut self) -> Rest
+        ensures rest { self.new ≡ record self.old { rows = self.new.rows } }
+        ensures alike { AreAlike W.outflow self.old.rows self.new.rows }
+    {
+        let keeps = self.table.flush();
+        self.table.is_rising();
+        keeps
+    }
+
+    /// Whether so much is kept for a subscriber that hasn't failed that no entry is to be taken
+    /// until some of it was passed on.
+    pub fn is_crowded(&self) -> bool {
+        self.table.is_crowded()
     }
 }
 

@@ -6,8 +6,9 @@ ghost use Rattle.zmtp_wire.specs.Frame.{text};
 ghost use Rattle.zmtp_wire.specs.Device.{AddsAll};
 ghost use Rattle.zmtp_wire.specs.Ping.{pong_if_short};
 ghost use Rattle.iopub_relay.specs.Relay.{has_failed};
-ghost use Rattle.iopub_relay.specs.Table.{Receives, PongsBy};
+ghost use Rattle.iopub_relay.specs.Table.{IsAlike, Receives, PongsBy};
 
+use crate::buffered::{Buffered, Rest};
 use crate::topics::Topics;
 use zmtp_wire::{CONTEXT_LIMIT, Outlet, WriteFailed, pong_text, write_all, write_frames};
 
@@ -79,6 +80,20 @@ impl<W: Outlet> Subscriber<W> {
             Ok(()) => {}
             Err(WriteFailed) => self.standing = Standing::Broken,
         }
+    }
+}
+
+impl<W: Buffered> Subscriber<W> {
+    /// Has its writer pass on what that keeps, and answers what is kept still.
+    pub(crate) fn flush(&mut self) -> Rest
+        ensures { IsAlike W.outflow self.old self.new }
+    {
+        self.writer.flush()
+    }
+
+    /// Whether it hasn't failed, and so much is kept for it that it is waited for.
+    pub(crate) fn is_crowded(&self) -> bool {
+        !self.has_failed() && self.writer.is_crowded()
     }
 }
 

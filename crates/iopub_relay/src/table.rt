@@ -5,8 +5,9 @@ ghost use Rattle.listed.specs.Bodies.{bodies};
 ghost use Rattle.zmtp_wire.specs.Frame.{text};
 ghost use Rattle.iopub_relay.specs.Relay.{is_failed};
 ghost use Rattle.iopub_relay.specs.Rows.{AreRising, IsAt, IsFree, subscriber_at};
-ghost use Rattle.iopub_relay.specs.Table.{ServesEvent, AllReceive};
+ghost use Rattle.iopub_relay.specs.Table.{ServesEvent, AllReceive, AreAlike};
 
+use crate::buffered::{Buffered, Rest};
 use crate::subscriber::{Standing, Subscriber};
 use crate::topics::Topics;
 use iopub_event::Event;
@@ -201,6 +202,33 @@ impl<W> Table<W> {
             Err(_) => false,
         }
     }
+}
+
+impl<W: Buffered> Table<W> {
+    /// Has each writer pass on what it keeps, and answers what is kept still.
+    pub(crate) fn flush(&mut self) -> Rest
+        ensures { AreAlike W.outflow self.old self.new }
+    {
+        flush_all(&mut self.rows)
+    }
+
+    /// Whether so much is kept for a subscriber that hasn't failed that it is waited for.
+    pub(crate) fn is_crowded(&self) -> bool {
+        self.rows.iter().any(|row| row.is_crowded())
+    }
+}
+
+/// Has each subscriber's writer pass on what it keeps, and answers what is kept still.
+fn flush_all<W: Buffered>(subscribers: &mut Vec<Subscriber<W>>) -> Rest
+    ensures { AreAlike W.outflow subscribers.old.items subscribers.new.items }
+{
+    let mut keeps = Rest::Nothing;
+    for place in 0..subscribers.len() {
+        let row = &mut subscribers[place];
+        let its = row.flush();
+        keeps = keeps.and(its);
+    }
+    keeps
 }
 
 /// The text of a message, if it has a frame and there is memory for it.

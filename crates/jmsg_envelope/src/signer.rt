@@ -4,7 +4,7 @@ ghost use Rattle.std.specs.Prelude.{◌≡◌, ◌++◌, ◌↔◌, [], IsTrue};
 ghost use Rattle.hex.specs.Hex.{encode_lower};
 ghost use Rattle.jmsg_envelope.specs.Hmac.{hmac};
 
-use crate::hmac::hmac_sha256;
+use crate::hmac::Keyed;
 use std::marker::Model;
 
 /// What messages are signed with and signatures are tested with: a contract sees the octets of its key.
@@ -14,14 +14,19 @@ use std::marker::Model;
 pub struct Signer {
     /// The key; empty if nothing is signed.
     key: Vec<u8>,
+    /// Its hashes.
+    keyed: Keyed,
 }
 
 impl Model for Signer {
     ghost use Rattle.std.specs.Prelude.{ℕ, List};
+    ghost use Rattle.jmsg_envelope.specs.Hmac.{IsKeyed};
 
     ghost Value = { List ℕ };
 
     ghost view = { λ signer. signer.key.items };
+
+    ghost invariant = { λ signer. IsKeyed signer.key.items signer.keyed };
 }
 
 impl Signer {
@@ -29,7 +34,8 @@ impl Signer {
     pub fn new(key: Vec<u8>) -> Signer
         ensures { result ≡ key.items }
     {
-        Signer { key }
+        let keyed = Keyed::new(&key);
+        Signer { key, keyed }
     }
 
     /// Whether the key is empty, so that nothing is signed.
@@ -49,7 +55,7 @@ impl Signer {
     ) -> [u8; 64]
         ensures { result ≡ encode_lower (hmac self.now (header.now ++ parent.now ++ metadata.now ++ content.now)) }
     {
-        let code = hmac_sha256(&self.key, &[header, parent, metadata, content]);
+        let code = self.keyed.code_of(&[header, parent, metadata, content]);
         let mut digits = [0; 64];
         hex::encode_to_slice(code, &mut digits).unwrap();
         digits

@@ -49,6 +49,11 @@ place_of many shaking left = if nat_lt many 240 then Free else place_of_either s
 abbrev pub share_of : ℕ → ℕ → ℕ
 share_of kept beyond = min 16777216 (max kept 65536 + (50331648 - beyond))
 
+-- How much may be kept for one subscriber once a message is being written that began while its share
+-- wasn't full: as a share, with 32 MiB more for that message, for one and for all.
+abbrev pub most_of : ℕ → ℕ → ℕ
+most_of kept beyond = min 50331648 (max 65536 kept + (83886080 - beyond))
+
 -- what one subscriber has of the 48 MiB: what is kept for it beyond 64 KiB
 abbrev pub share_excess : ℕ → ℕ
 share_excess kept = kept - 65536

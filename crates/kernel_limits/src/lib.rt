@@ -27,6 +27,6 @@ pub use meter::Meter;
 pub use pace::{Pace, Waste};
 pub use parent::looked_after;
 pub use place::{Place, place_of};
-pub use share::{share_excess, share_of};
+pub use share::{most_of, share_excess, share_of};
 pub use topic_count::{TopicCount, is_told, may_ask, may_hold};
 pub use unfinished::{Part, is_overfull};

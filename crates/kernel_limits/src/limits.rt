@@ -4,6 +4,10 @@
 /// that systems commonly give a program.
 pub const CONNECTIONS: usize = 240;
 
+/// Writers of subscribers that there are at a time: those of connections, and of some that left, as long as the relay
+/// hasn't let go of them.
+pub const WRITERS: usize = 304;
+
 /// Publications that may wait for the relay: so many that a cell seldom waits, and so few that they take little.
 pub const QUEUE: usize = 1_024;
 
@@ -69,6 +73,10 @@ pub const SMALL_SHARE_OCTETS: usize = 64 << 10;
 /// nothing don't fill the memory.
 pub const SHARES_OCTETS: usize = 48 << 20;
 
+/// Octets of messages that are being written, which are kept for all subscribers together beyond
+/// shares: a message of the greatest size, so that a write waits for nobody.
+pub const OVERSHOOT_OCTETS: usize = 32 << 20;
+
 /// Octets that a subscriber takes in `PACE_MILLIS`, at least, while somebody waits for it.
 pub const PACE_OCTETS: u64 = 64 << 10;
 
@@ -92,9 +100,6 @@ pub const SEND_BUFFER: i32 = 64 << 10;
 /// Milliseconds for which a peer of shell, control or the heartbeat may take nothing of what is written to it. The system
 /// tells that a peer took something only after a part of its buffer, of up to 64 KiB: so a peer may take 1.1 KB a second.
 pub const REPLY_MILLIS: u64 = 60_000;
-
-/// Milliseconds for which a subscriber that left may take nothing of what is kept for it, which others may want.
-pub const LEFT_MILLIS: u64 = 5_000;
 
 /// Milliseconds for which a connection that ends waits for its peer to close its side, so that nothing is left unread.
 pub const CLOSE_MILLIS: u64 = 1_000;

@@ -6,21 +6,21 @@ use iopub_relay::{Topics, door_event};
 use kernel_jobs::Note;
 use kernel_limits::limits::READS;
 use kernel_limits::{TopicCount, is_told, may_ask};
-use kernel_sockets::{Backlog, Feed, Gauge, Guest, Reader, Server, Socket, hear_out};
+use kernel_sockets::{Gauge, Guest, Reader, Server, Socket, SocketWriter, hear_out};
 use listed::Octets;
 use std::alloc::{AllocError, Global};
 use std::sync::{Arc, MutexGuard, Wait};
 use std::thread;
-use std::thread::{JoinHandle, Threads};
 use std::time::{Clock, Duration};
 use zmtp_connection::{Intake, OpenPeer, shake};
 use zmtp_wire::{Counted, SocketType, Traffic};
 
-/// For how many milliseconds a reader waits, before it looks again whether few events wait for the relay.
+/// For how many milliseconds a reader waits, before it looks again whether few events wait for the
+/// relay; and at most, before it looks whether the relay has let go of a subscriber that left.
 const TURN_LOOK: u64 = 20;
 
 /// What a subscriber's messages are written to.
-pub type Writer<R> = Counted<Feed<R>>;
+pub type Writer<R> = SocketWriter<R>;
 
 /// The inbox of subscriptions.
 pub type SubscriptionsInbox<R> = Sender<Note<Event<Writer<R>>>>;
@@ -236,10 +236,23 @@ impl<R: Wait + Clock + Drop> Subscriptions<R> {
         unreachable!()
     }
 
-    /// The turn, if few events wait for the worker of subscriptions.
+    /// What the relay writes to for a newcomer, made once it has its turn, under which writers are
+    /// counted; or nothing, if something is wanting. None if the peer isn't there any more.
+    fn open(&self, alloc: Global, guest: &Guest) -> Option<Option<Writer<R>>>
+    where
+        R: Copy,
+    {
+        let turn = self.wait_its_turn()?;
+        guest.open(&self.rt, usize::MAX);
+        let writer = writer_of(self.rt, alloc, guest);
+        drop(turn);
+        Some(writer)
+    }
+
+    /// The turn, if few events wait for the worker of subscriptions, and few writers for the relay.
     fn turn(&self) -> Option<MutexGuard<'_, ()>> {
         let turn = self.asked.server.turn().lock(&self.rt);
-        if may_ask(self.inbox.len()) {
+        if may_ask(self.inbox.len()) && self.asked.server.has_room() {
             return Some(turn);
         }
         drop(turn);
@@ -266,8 +279,8 @@ impl<R: Wait + Clock + Drop> Subscriptions<R> {
     }
 
     /// Tells the worker of subscriptions that the subscriber came, and answers whether both are still there.
-    fn attach(&self, feed: Feed<R>) -> bool {
-        let event = Event::Attach(self.id, Counted::new(feed));
+    fn attach(&self, writer: Writer<R>) -> bool {
+        let event = Event::Attach(self.id, writer);
         matches!(self.tell_in_turn(event), Ok(true))
     }
 
@@ -284,12 +297,13 @@ impl<R: Wait + Clock + Drop> Subscriptions<R> {
     }
 }
 
-/// Serves a subscriber as a PUB. It shakes hands with it, and tells the worker of subscriptions that it came, what it
-/// asks for and that it left. A second thread writes meanwhile what the relay has for it. Returns after the
-/// subscriber's octets ended or were refused, and all that the relay had for it was written or a write failed.
+/// Serves a subscriber as a PUB. It shakes hands with it, and tells the worker of subscriptions that it
+/// came, what it asks for and that it left. The relay writes to it meanwhile. Returns after the
+/// subscriber's octets ended or were refused, and the relay has let go of it, or its socket was shut
+/// down.
 pub(crate) fn serve_subscriber<R>(rt: R, alloc: Global, guest: &Guest, inbox: SubscriptionsInbox<R>)
 where
-    R: Threads + Wait + Clock + Copy + Send + Sync + Drop + 'static,
+    R: Wait + Clock + Copy + Drop,
 {
     let Ok((mut reader, mut writer)) = guest.halves(rt, alloc) else {
         drop(inbox);
@@ -319,7 +333,7 @@ fn serve_open<R>(
     peer: OpenPeer,
 )
 where
-    R: Threads + Wait + Clock + Copy + Send + Sync + Drop + 'static,
+    R: Wait + Clock + Copy + Drop,
 {
     let Some(subscriptions) = subscriptions_of(rt, alloc, guest, inbox) else {
         drop(reader);
@@ -327,15 +341,18 @@ where
         return;
     };
     // Until it has its turn a newcomer may have its place: who comes again and again fills nothing.
-    if subscriptions.wait_its_turn().is_none() {
+    let Some(writer) = subscriptions.open(alloc, guest) else {
         drop(reader);
         drop(peer);
         drop(subscriptions);
         return;
-    }
-    guest.open(&rt, usize::MAX);
-    match start_feed(rt, alloc, guest) {
-        Some(feeding) => serve_fed(&rt, guest, feeding, subscriptions, Shaken { reader, peer }),
+    };
+    match writer {
+        Some(writer) => {
+            hear_subscriber(subscriptions, writer, reader, peer);
+            guest.peer_left(&rt);
+            wait_until_shut(&rt, &guest.socket);
+        }
         None => {
             drop(reader);
             drop(peer);
@@ -344,49 +361,32 @@ where
     }
 }
 
-/// A subscriber with whom hands were shaken.
-#[derive(Drop)]
-struct Shaken<R: Wait + Clock + Drop> {
-    /// What is read of it.
-    reader: Counted<Reader<R>>,
-    /// What is left to hear of it.
-    peer: OpenPeer,
+/// Waits until the socket is shut down: the relay has let go of its writer, or the last owner of the
+/// inbox has, or a newcomer has its place.
+fn wait_until_shut<R: Wait + Clock>(rt: &R, socket: &Socket) {
+    let mut nap = 1;
+    for _ in rt.forever() {
+        if socket.is_shut() {
+            break;
+        }
+        thread::sleep(rt, Duration::from_millis(nap));
+        nap = nap.saturating_mul(2).min(TURN_LOOK);
+    }
 }
 
-/// What is written to a subscriber.
-#[derive(Drop)]
-struct Feeding<R: Wait + Clock + Drop> {
-    /// What the relay writes to.
-    feed: Feed<R>,
-    /// What is kept there.
-    backlog: Arc<Backlog, Global>,
-    /// The thread that writes it.
-    writing: JoinHandle<()>,
-}
-
-/// Serves a subscriber that is written to.
-fn serve_fed<R>(
-    rt: &R,
-    guest: &Guest,
-    feeding: Feeding<R>,
-    subscriptions: Subscriptions<R>,
-    shaken: Shaken<R>,
-)
-where
-    R: Threads + Wait + Clock + Drop,
-{
-    let Feeding {
-        feed,
-        backlog,
-        writing,
-    } = feeding;
-    let Shaken { reader, peer } = shaken;
-    hear_subscriber(subscriptions, feed, reader, peer);
-    guest.peer_left(rt);
-    // The feed is dropped once the relay has taken that the subscriber left, or with the last owner of the inbox.
-    backlog.wait_until_shut(rt, &guest.socket);
-    writing.join(rt);
-    drop(backlog);
+/// What the relay writes to for a subscriber. None if no memory is left, or something has too many
+/// owners.
+fn writer_of<R: Wait + Clock + Drop>(rt: R, alloc: Global, guest: &Guest) -> Option<Writer<R>> {
+    let Ok(socket) = guest.socket.try_clone() else {
+        return None;
+    };
+    match Arc::try_clone(&guest.server) {
+        Ok(server) => SocketWriter::new(rt, alloc, server, socket).ok(),
+        Err(AllocError) => {
+            drop(socket);
+            None
+        }
+    }
 }
 
 /// Where the subscriptions of a subscriber go. None if something has too many owners.
@@ -420,15 +420,16 @@ fn subscriptions_of<R: Wait + Clock + Drop>(
     })
 }
 
-/// Says that a subscriber came, hears it, and says that it left.
+/// Says that a subscriber came, hears it, and says that it left. Nobody waits for it from then on.
 fn hear_subscriber<R: Wait + Clock + Drop>(
     mut subscriptions: Subscriptions<R>,
-    feed: Feed<R>,
+    writer: Writer<R>,
     mut reader: Counted<Reader<R>>,
     peer: OpenPeer,
 ) {
-    if subscriptions.attach(feed) {
+    if subscriptions.attach(writer) {
         hear_out(subscriptions.alloc, &mut reader, peer, &mut subscriptions);
+        subscriptions.socket.end_reads();
         subscriptions.detach();
     } else {
         drop(peer);
@@ -436,45 +437,4 @@ fn hear_subscriber<R: Wait + Clock + Drop>(
     subscriptions.asked.give_back(&subscriptions.rt);
     drop(reader);
     drop(subscriptions);
-}
-
-/// The feed of a subscriber, and the thread that writes it. None if no memory or no thread is left.
-fn start_feed<R>(rt: R, alloc: Global, guest: &Guest) -> Option<Feeding<R>>
-where
-    R: Threads + Wait + Clock + Copy + Send + Sync + Drop + 'static,
-{
-    let Ok(socket) = guest.socket.try_clone() else {
-        return None;
-    };
-    let Some([fed, backlog, written]) = backlog_thrice(alloc, &guest.server) else {
-        drop(socket);
-        return None;
-    };
-    match thread::spawn(&rt, move || written.write_all(&rt, &socket)) {
-        Ok(writing) => Some(Feeding {
-            feed: Feed::new(rt, fed),
-            backlog,
-            writing,
-        }),
-        Err(error) => {
-            drop(error);
-            drop(fed);
-            drop(backlog);
-            None
-        }
-    }
-}
-
-/// A backlog, for the relay, the thread that reads, and the thread that writes it. None if no memory is left.
-fn backlog_thrice(
-    alloc: Global,
-    server: &Arc<Server, Global>,
-) -> Option<[Arc<Backlog, Global>; 3]> {
-    let server = Arc::try_clone(server).ok()?;
-    let backlog = Arc::new(alloc, Backlog::new(alloc, server)).ok()?;
-    let (Ok(fed), Ok(written)) = (Arc::try_clone(&backlog), Arc::try_clone(&backlog)) else {
-        drop(backlog);
-        return None;
-    };
-    Some([fed, backlog, written])
 }

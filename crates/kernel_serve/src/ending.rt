@@ -1,6 +1,8 @@
 //! The thread that accepts a port's connections: starting it, and ending it.
 
 use crate::fault::{Port, ServeFault};
+use crate::serving::Subscribers;
+use iopub_relay::{Buffered, Rest};
 use kernel_limits::grace_left;
 use kernel_limits::limits::END_WRITE_MILLIS;
 use kernel_peers::{ServedPort, Service, accept_all};
@@ -89,13 +91,14 @@ fn begin(
 
 /// Ends all that serves ports, and waits until it ended. What is left for peers is written as long as that takes no
 /// more than a moment; who takes longer is closed.
-pub(crate) fn end_all<R: Threads + Wait + Clock>(
+pub(crate) fn end_all<R: Threads + Wait + Clock + Drop>(
     rt: &R,
     acceptors: Vec<Acceptor>,
     server: &Server,
+    subscribers: Subscribers<R>,
 ) {
     end_ports(rt, &acceptors);
-    linger(rt, &acceptors, server);
+    linger(rt, &acceptors, server, subscribers);
     for acceptor in acceptors.iter() {
         acceptor.gate.shut_all(rt);
     }
@@ -113,14 +116,23 @@ fn end_ports<R: Wait>(rt: &R, acceptors: &[Acceptor]) {
     }
 }
 
-/// Waits until the threads of all connections ended, or for a moment.
-fn linger<R: Wait + Clock>(rt: &R, acceptors: &[Acceptor], server: &Server) {
+/// Writes what is kept for subscribers still, and waits until the threads of all connections ended, or
+/// for a moment.
+fn linger<R: Wait + Clock + Drop>(
+    rt: &R,
+    acceptors: &[Acceptor],
+    server: &Server,
+    mut subscribers: Subscribers<R>,
+) {
     let began = server.millis(rt);
     for _ in 0..END_WRITE_MILLIS {
+        // Who has got everything is let go of, so that its connection ends.
+        subscribers.retain_mut(|left| left.1.flush() != Rest::Nothing);
         let is_over = grace_left(began, END_WRITE_MILLIS, server.millis(rt)) == 0;
         if is_over || acceptors.iter().all(|acceptor| acceptor.gate.is_empty(rt)) {
-            return;
+            break;
         }
         thread::sleep(rt, Duration::from_millis(PAUSE));
     }
+    drop(subscribers);
 }

@@ -61,6 +61,12 @@ struct Core<I> {
     interpreters: Interpreters<I>,
 }
 
+/// The subscribers of a kernel that ended: each with what it is written by, and whether it has failed.
+pub(crate) type Subscribers<R> = Vec<(u64, Writer<R>, bool)>;
+
+/// How a kernel ended, and the subscribers that were there then.
+type Ended<R> = (Served, Subscribers<R>);
+
 /// What a kernel of a language runs on.
 type KernelParts<I, R> = Parts<I, KernelStamp<R>, Writer<R>>;
 
@@ -212,10 +218,46 @@ where
         server,
     } = stage;
     drop(signer);
-    let served = run_accepted(rt, alloc, parts, until, accepts);
-    end_all(&rt, acceptors, &server);
-    drop(server);
-    served
+    run_to_end(rt, alloc, parts, until, accepts, acceptors, server)
+}
+
+/// Runs the kernel if the ports of a connection accept peers, and ends all that serves them.
+///
+/// # Errors
+///
+/// Why they don't; `NoThread` and `OutOfMemory`.
+fn run_to_end<I, R>(
+    rt: R,
+    alloc: Global,
+    parts: KernelParts<I, R>,
+    until: Until,
+    accepts: Result<Snapshot<Connection>, ServeFault>,
+    acceptors: Vec<Acceptor>,
+    server: Arc<Server, Global>,
+) -> Result<Served, ServeFault>
+where
+    I: Interpreter + Drop + Send + 'static,
+    I::Cell: Drop + Send + 'static,
+    R: Threads + Wait + Clock + Copy + Send + Sync + Drop + 'static,
+    ensures complete { IfOk result (λ served. served.complete ≡ true) }
+    ensures key { IfOk result (λ served. served.key.value.items ≡ parts.key.items) }
+    ensures connection { IfOk result (λ served. IfOk accepts (λ connection.
+        served.connection.value ≡ connection.value)) }
+    ensures until { IfOk result (λ served. served.until.value ≡ until) }
+    ensures refused { IfErr accepts (λ fault. result ≡ Err fault) }
+{
+    match run_accepted(rt, alloc, parts, until, accepts) {
+        Ok((served, subscribers)) => {
+            end_all(&rt, acceptors, &server, subscribers);
+            drop(server);
+            Ok(served)
+        }
+        Err(fault) => {
+            end_all(&rt, acceptors, &server, Subscribers::new(alloc));
+            drop(server);
+            Err(fault)
+        }
+    }
 }
 
 /// Runs the kernel if the ports of a connection accept peers.
@@ -229,16 +271,16 @@ fn run_accepted<I, R>(
     parts: KernelParts<I, R>,
     until: Until,
     accepts: Result<Snapshot<Connection>, ServeFault>,
-) -> Result<Served, ServeFault>
+) -> Result<Ended<R>, ServeFault>
 where
     I: Interpreter + Drop + Send + 'static,
     I::Cell: Drop + Send + 'static,
     R: Threads + Wait + Clock + Copy + Send + Sync + Drop + 'static,
-    ensures complete { IfOk result (λ served. served.complete ≡ true) }
-    ensures key { IfOk result (λ served. served.key.value.items ≡ parts.key.items) }
-    ensures connection { IfOk result (λ served. IfOk accepts (λ connection.
-        served.connection.value ≡ connection.value)) }
-    ensures until { IfOk result (λ served. served.until.value ≡ until) }
+    ensures complete { IfOk result (λ ended. ended.0.complete ≡ true) }
+    ensures key { IfOk result (λ ended. ended.0.key.value.items ≡ parts.key.items) }
+    ensures connection { IfOk result (λ ended. IfOk accepts (λ connection.
+        ended.0.connection.value ≡ connection.value)) }
+    ensures until { IfOk result (λ ended. ended.0.until.value ≡ until) }
     ensures refused { IfErr accepts (λ fault. result ≡ Err fault) }
 {
     match accepts {
@@ -261,15 +303,15 @@ fn run_until<I, R>(
     parts: KernelParts<I, R>,
     connection: Snapshot<Connection>,
     until: Until,
-) -> Result<Served, ServeFault>
+) -> Result<Ended<R>, ServeFault>
 where
     I: Interpreter + Drop + Send + 'static,
     I::Cell: Drop + Send + 'static,
     R: Threads + Wait + Clock + Copy + Send + Sync + Drop + 'static,
-    ensures complete { IfOk result (λ served. served.complete ≡ true) }
-    ensures key { IfOk result (λ served. served.key.value.items ≡ parts.key.items) }
-    ensures connection { IfOk result (λ served. served.connection.value ≡ connection.value) }
-    ensures until { IfOk result (λ served. served.until.value ≡ until) }
+    ensures complete { IfOk result (λ ended. ended.0.complete ≡ true) }
+    ensures key { IfOk result (λ ended. ended.0.key.value.items ≡ parts.key.items) }
+    ensures connection { IfOk result (λ ended. ended.0.connection.value ≡ connection.value) }
+    ensures until { IfOk result (λ ended. ended.0.until.value ≡ until) }
 {
     let (watch, until) = match start_watch(rt, alloc, until, &parts.control_in.to) {
         Ok(started) => started,
@@ -282,16 +324,18 @@ where
     if let Some(watch) = watch {
         watch.end(&rt);
     }
-    let (complete, key) = ended?;
-    Ok(Served {
+    let (complete, key, subscribers) = ended?;
+    let served = Served {
         complete,
         key,
         connection,
         until,
-    })
+    };
+    Ok((served, subscribers))
 }
 
-/// Runs the kernel itself: whether all that was published was taken, and the key that it ran with.
+/// Runs the kernel itself: whether all that was published was taken, the key that it ran with, and the
+/// subscribers that were there in the end.
 ///
 /// # Errors
 ///
@@ -300,7 +344,7 @@ fn run<I, R>(
     rt: R,
     alloc: Global,
     parts: KernelParts<I, R>,
-) -> Result<(bool, Snapshot<Vec<u8>>), ServeFault>
+) -> Result<(bool, Snapshot<Vec<u8>>, Subscribers<R>), ServeFault>
 where
     I: Interpreter + Drop + Send + 'static,
     I::Cell: Drop + Send + 'static,
@@ -318,11 +362,10 @@ where
         subscriptions_in,
         work,
     } = run_kernel(rt, alloc, parts)?;
-    drop(subscribers);
     drop(relay);
     drop(subscriptions_in);
     drop(work);
-    Ok((complete, key))
+    Ok((complete, key, subscribers))
 }
 
 /// What a kernel runs on, and what the threads round it share.

@@ -1,2 +1,2 @@
-pub mod Backlog
+pub mod Outgoing
 pub mod Hearing

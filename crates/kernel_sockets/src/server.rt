@@ -2,7 +2,7 @@
 //! subscribers have beyond what each may have.
 
 use crate::socket::Socket;
-use kernel_limits::limits::FREED_MILLIS;
+use kernel_limits::limits::{FREED_MILLIS, PACE_MILLIS, WRITERS};
 use kernel_limits::{Part, Waste, grace_left, is_overfull, may_hold, share_excess};
 use std::alloc::Global;
 use std::sync::atomic::{AtomicBool, AtomicU64, AtomicUsize, Ordering};
@@ -108,10 +108,15 @@ pub struct Server {
     numbers: AtomicU64,
     /// Octets that are kept for subscribers, beyond a small part of each.
     beyond: AtomicUsize,
+    /// How many writers of subscribers there are.
+    writers: AtomicUsize,
     /// Octets that the topics of subscribers take, beyond a small part of each.
     topics: Mutex<usize>,
-    /// How long the relay waited for subscribers in vain.
-    waste: Mutex<Waste>,
+    /// For how many milliseconds the relay waited for subscribers in vain. Its thread alone has this
+    /// and the next.
+    wasted: AtomicU64,
+    /// When that ended last.
+    wasted_last: AtomicU64,
     /// Held by the subscriber that tells the relay something, while it looks how much of others waits.
     turn: Mutex<()>,
     /// What is unfinished.
@@ -123,14 +128,17 @@ pub struct Server {
 impl Server {
     /// A server that begins now, of a kernel with a flag that is raised once it is to end.
     pub fn new<R: Clock>(rt: &R, alloc: Global, is_ending: Arc<AtomicBool, Global>) -> Server {
+        let waste = Waste::new();
         Server {
             began: Instant::now(rt).ok(),
             is_ending,
             ending: AtomicU64::new(0),
             numbers: AtomicU64::new(0),
             beyond: AtomicUsize::new(0),
+            writers: AtomicUsize::new(0),
             topics: Mutex::new(0),
-            waste: Mutex::new(Waste::new()),
+            wasted: AtomicU64::new(waste.millis),
+            wasted_last: AtomicU64::new(waste.last),
             turn: Mutex::new(()),
             unfinished: Mutex::new(Unfinished {
                 parts: Vec::new(alloc),
@@ -194,6 +202,22 @@ impl Server {
         }
     }
 
+    /// Counts a writer of a subscriber, which has a descriptor of its own.
+    pub(crate) fn opens_writer(&self) {
+        self.writers.fetch_add(1, Ordering::SeqCst);
+    }
+
+    /// Counts that a writer of a subscriber is there no longer.
+    pub(crate) fn closes_writer(&self) {
+        self.writers.fetch_sub(1, Ordering::SeqCst);
+    }
+
+    /// Whether there may be one more writer: those of subscribers that left count until the relay has
+    /// let go of them.
+    pub fn has_room(&self) -> bool {
+        self.writers.load(Ordering::SeqCst) < WRITERS
+    }
+
     /// What a subscriber holds while it looks how much of others waits for the relay, and tells the relay something.
     pub fn turn(&self) -> &Mutex<()> {
         &self.turn
@@ -217,14 +241,27 @@ impl Server {
     }
 
     /// In how many milliseconds a subscriber has to take the octets of the least pace that didn't keep it before.
-    pub(crate) fn grace<R: Wait>(&self, rt: &R, now: u64) -> u64 {
-        self.waste.lock(rt).grace(now)
+    pub(crate) fn grace(&self, now: u64) -> u64 {
+        self.waste().grace(now)
     }
 
-    /// Counts that the relay waited from then on for a subscriber that is given up now.
-    pub(crate) fn wastes<R: Wait + Clock>(&self, rt: &R, since: u64) {
+    /// How long the relay waited for subscribers in vain.
+    fn waste(&self) -> Waste {
+        Waste {
+            millis: self.wasted.load(Ordering::SeqCst),
+            last: self.wasted_last.load(Ordering::SeqCst),
+        }
+    }
+
+    /// Counts that the relay waited from then on for a subscriber that is given up now: no longer than
+    /// a subscriber may take for the least pace, after which nobody waits for it.
+    pub(crate) fn wastes<R: Clock>(&self, rt: &R, since: u64) {
         let now = self.millis(rt);
-        self.waste.lock(rt).add(now.saturating_sub(since), now);
+        let waited = now.saturating_sub(since).min(PACE_MILLIS);
+        let mut waste = self.waste();
+        waste.add(waited, now);
+        self.wasted.store(waste.millis, Ordering::SeqCst);
+        self.wasted_last.store(waste.last, Ordering::SeqCst);
     }
 
     /// Counts what a connection holds of an unfinished message, beyond what every connection may hold. If all are too

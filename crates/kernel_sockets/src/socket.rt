@@ -79,7 +79,7 @@ impl Socket {
     /// # Errors
     ///
     /// `TimedOut` if there was no room, and if the write itself fails. The socket stays as it is.
-    pub(crate) fn try_put(&self, piece: &[u8]) -> io::Result<usize>
+    fn try_put(&self, piece: &[u8]) -> io::Result<usize>
         ensures { WritesAtMost result piece.now }
     {
         let mut stream: &TcpStream = &self.shared.stream;
@@ -104,6 +104,17 @@ impl Socket {
             }
         }
         Err(ErrorKind::TimedOut.into())
+    }
+
+    /// Waits until there is room for octets, or the connection broke, for so many milliseconds at
+    /// most.
+    pub(crate) fn wait_for_room(&self, millis: i32) {
+        let mut looked = [pollfd {
+            fd: self.as_raw_fd(),
+            events: net::POLLOUT,
+            revents: 0,
+        }];
+        let _ = net::poll(&mut looked, millis);
     }
 
     /// Whether nothing is read any more.

@@ -28,7 +28,7 @@ use crossbeam_utils::sync::Unparker;
 use interp_core::Interpreter;
 use iopub_event::Event;
 use iopub_queue::{Closed, OpenFault, Publisher, Taker, open_queue};
-use iopub_relay::Relay;
+use iopub_relay::{Buffered, Relay};
 use jmsg_envelope::{Signer, Stamp};
 use kernel_engine::{Engine, Side};
 use kernel_jobs::{Arrivals, Job, Note, tell};
@@ -36,6 +36,7 @@ use std::alloc::{AllocError, Global};
 use std::snapshot::Snapshot;
 use std::sync::Wait;
 use std::thread::{Promise, PromisedHandle, Threads};
+use std::time::Clock;
 use zmtp_wire::Outlet;
 
 /// Runs a kernel, until a request asks for a shutdown, all ids of a channel were given, or an end note comes into the
@@ -60,8 +61,8 @@ where
     I: Interpreter + Drop + Send + 'static,
     I::Cell: Drop + Send + 'static,
     S: Stamp + Drop + Send + 'static,
-    W: Outlet + Drop + Send + 'static,
-    R: Threads + Wait + Copy + Send + Sync + Drop + 'static,
+    W: Buffered + Drop + Send + 'static,
+    R: Threads + Wait + Clock + Copy + Send + Sync + Drop + 'static,
     ensures ends { IfOk result (EndsWell R I.meaning S.stamp W.outflow parts) }
     ensures refused { IfErr result (FailsBy parts.capacity) }
 {
@@ -85,8 +86,8 @@ where
     I: Interpreter + Drop + Send + 'static,
     I::Cell: Drop + Send + 'static,
     S: Stamp + Drop + Send + 'static,
-    W: Outlet + Drop + Send + 'static,
-    R: Threads + Wait + Copy + Send + Sync + Drop + 'static,
+    W: Buffered + Drop + Send + 'static,
+    R: Threads + Wait + Clock + Copy + Send + Sync + Drop + 'static,
     ensures set { IfOk result (λ begun. IsSetUp parts (promised_by begun.0.publishers.shell.promise
         begun.0.publishers.control.promise begun.0.publishers.subscriptions.promise)
         begun.0.serving.relay.promise.relay.value.taker) }
@@ -481,8 +482,8 @@ where
     I: Interpreter + Drop + Send + 'static,
     I::Cell: Drop + Send + 'static,
     S: Stamp + Drop + Send + 'static,
-    W: Outlet + Drop + Send + 'static,
-    R: Threads + Wait + Copy + Send + Sync + Drop + 'static,
+    W: Buffered + Drop + Send + 'static,
+    R: Threads + Wait + Clock + Copy + Send + Sync + Drop + 'static,
     requires { workers.publishers.subscriptions.sink.published ≡ [] }
     ensures shell { IfSome result (λ running. Promises Shell workers.publishers.shell.engine
         workers.publishers.shell.inbox running.publishers.shell.promise) }

@@ -1,5 +1,6 @@
 //! What writes to a subscriber here.
 
+use iopub_relay::{Buffered, Rest};
 use std::alloc::Global;
 use std::sync::Arc;
 use std::sync::atomic::{AtomicBool, Ordering};
@@ -47,5 +48,15 @@ impl Outlet for Keeper {
             Ok(()) => Ok(piece.len()),
             Err(_) => Err(WriteFailed),
         }
+    }
+}
+
+impl Buffered for Keeper {
+    fn flush(&mut self) -> Rest {
+        Rest::Nothing
+    }
+
+    fn is_crowded(&self) -> bool {
+        false
     }
 }

@@ -17,6 +17,7 @@ use std::sync::{Arc, Wait};
 use std::test::Fail;
 use std::thread;
 use std::thread::{JoinHandle, Threads};
+use std::time::Clock;
 use test_requests::{
     ASKED, INFO, INTERRUPTED, OneDate, SHUTDOWN, both, due_message, frames_of, frames_text, put,
     send,
@@ -340,7 +341,7 @@ fn end_of<I, R>(rt: R, alloc: Global, parts: Parts<I, OneDate, Keeper>) -> Resul
 where
     I: Interpreter + Drop + Send + 'static,
     I::Cell: Drop + Send + 'static,
-    R: Threads + Wait + Copy + Send + Sync + Drop + 'static,
+    R: Threads + Wait + Clock + Copy + Send + Sync + Drop + 'static,
 {
     match run_kernel(rt, alloc, parts) {
         Ok(ended) => Ok(look_at(ended)),
@@ -360,7 +361,7 @@ fn run_asked<I, R>(
 where
     I: Interpreter + Drop + Send + 'static,
     I::Cell: Drop + Send + 'static,
-    R: Threads + Wait + Copy + Send + Sync + Drop + 'static,
+    R: Threads + Wait + Clock + Copy + Send + Sync + Drop + 'static,
 {
     let Ok(()) = asked else {
         drop(opened);
@@ -424,7 +425,7 @@ fn expect_109<R: Wait + Abort>(rt: &R, alloc: Global, client: &Client) -> Result
 /// Has a kernel of so many places do them, and looks at all that comes of it.
 fn look_at_109<R>(rt: R, alloc: Global, capacity: usize) -> Result<(), AllocError>
 where
-    R: Threads + Wait + Abort + Copy + Send + Sync + Drop + 'static,
+    R: Threads + Wait + Clock + Abort + Copy + Send + Sync + Drop + 'static,
 {
     let opened = open(&rt, alloc)?;
     let asked = ask_109(&rt, alloc, &opened.client);
@@ -513,7 +514,7 @@ fn receiving<R>(
     line: &Line,
 ) -> Result<(JoinHandle<Option<ReplyMessage>>, Arc<AtomicBool, Global>), AllocError>
 where
-    R: Threads + Wait + Copy + Send + Sync + Drop + 'static,
+    R: Threads + Wait + Clock + Copy + Send + Sync + Drop + 'static,
 {
     let (from, (of_thread, came)) = both(line.from.clone(), flag_twice(alloc))?;
     match thread::spawn(&rt, move || receive(rt, from, of_thread)) {
@@ -529,7 +530,7 @@ where
 /// That the next reply, for which it waits, ends in this.
 fn expect_in_time<R>(rt: R, alloc: Global, line: &Line, due: &str) -> Result<(), AllocError>
 where
-    R: Threads + Wait + Abort + Copy + Send + Sync + Drop + 'static,
+    R: Threads + Wait + Clock + Abort + Copy + Send + Sync + Drop + 'static,
 {
     let (thread, came) = receiving(rt, alloc, line)?;
     await_flag(&rt, &came);
@@ -546,7 +547,7 @@ where
 /// Interrupts the cell that runs, and then asks for a shutdown.
 fn interrupt<R>(rt: R, alloc: Global, client: &Client) -> Result<(), AllocError>
 where
-    R: Threads + Wait + Abort + Copy + Send + Sync + Drop + 'static,
+    R: Threads + Wait + Clock + Abort + Copy + Send + Sync + Drop + 'static,
 {
     await_flag(&rt, &client.has_output);
     let control = &client.control;
@@ -564,7 +565,7 @@ fn start_long<R>(
     opened: Opened,
 ) -> Result<(JoinHandle<Result<End, KernelFault>>, Client), AllocError>
 where
-    R: Threads + Wait + Copy + Send + Sync + Drop + 'static,
+    R: Threads + Wait + Clock + Copy + Send + Sync + Drop + 'static,
 {
     let Ok(()) = asked else {
         drop(opened);
@@ -602,7 +603,7 @@ fn a_cell_that_runs_is_interrupted(rt: HostRuntime) -> Result<(), Fail> {
 /// The number of the fault for which no kernel runs on a queue of so many places.
 fn refused_with<R>(rt: R, alloc: Global, capacity: usize) -> Result<Option<u8>, AllocError>
 where
-    R: Threads + Wait + Copy + Send + Sync + Drop + 'static,
+    R: Threads + Wait + Clock + Copy + Send + Sync + Drop + 'static,
 {
     let opened = open(&rt, alloc)?;
     let (parts, client) = kernel_of(alloc, opened, capacity, two_ariths(alloc));

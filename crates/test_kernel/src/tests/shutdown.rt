@@ -22,6 +22,7 @@ use std::sync::atomic::AtomicBool;
 use std::sync::{Arc, Wait};
 use std::test::Fail;
 use std::thread::Threads;
+use std::time::Clock;
 use test_requests::{DATE, SHUTDOWN, both, due_text, frames_text, open_three, request_frames};
 
 /// What handles the requests of a channel.
@@ -165,7 +166,7 @@ fn serve_cell<R>(
     dates: u64,
 ) -> Option<Served<R>>
 where
-    R: Threads + Wait + Copy + Send + Sync + Drop + 'static,
+    R: Threads + Wait + Clock + Copy + Send + Sync + Drop + 'static,
     requires { IsOpened ready.shell ready.control ready.door ready.relay.relay.taker }
     ensures { IfSome result (λ served. AreOfOne served.shell.publishing.sink served.control.publishing.sink served.door
         served.relay.taker) }
@@ -277,7 +278,7 @@ fn shut_down<R>(
     tokens: Vec<Closed<Event<Keeper>>>,
 ) -> Option<ShutdownEnd<Keeper, R>>
 where
-    R: Threads + Wait + Copy + Send + Sync + Drop + 'static,
+    R: Threads + Wait + Clock + Copy + Send + Sync + Drop + 'static,
     requires ready { AreOfOne served.shell.publishing.sink served.control.publishing.sink served.door
         served.relay.taker }
     requires none { tokens.items ≡ [] }
@@ -391,7 +392,7 @@ fn cell(alloc: Global) -> Result<(Frames, Keeper), AllocError> {
 /// or no thread.
 fn end_of<R>(rt: R, alloc: Global, dates: u64) -> Option<ShutdownEnd<Keeper, R>>
 where
-    R: Threads + Wait + Copy + Send + Sync + Drop + 'static,
+    R: Threads + Wait + Clock + Copy + Send + Sync + Drop + 'static,
 {
     let Ok(tokens) = room_for_three(alloc) else {
         return None;
